@@ -1,0 +1,17 @@
+pub mod Bytes
+pub mod Utf8
+pub mod Readers
+pub mod Dates
+pub mod Table
+pub mod Locus
+pub mod Header
+pub mod Features
+pub mod Origin
+pub mod Record
+pub mod Rooms
+pub mod Wrap
+pub mod Write
+pub mod WellFormed
+pub mod Keeping
+pub mod Answers
+pub mod Public
