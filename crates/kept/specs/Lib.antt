@@ -1,2 +1,5 @@
 pub mod Tests
 pub mod WrapKept
+pub mod Decimals
+pub mod Pieces
+pub mod LocusBack
