@@ -3,3 +3,4 @@ pub mod WrapKept
 pub mod Decimals
 pub mod Pieces
 pub mod LocusBack
+pub mod OriginBack
