@@ -4,3 +4,4 @@ pub mod Decimals
 pub mod Pieces
 pub mod LocusBack
 pub mod OriginBack
+pub mod FieldBack
