@@ -5,3 +5,5 @@ pub mod Pieces
 pub mod LocusBack
 pub mod OriginBack
 pub mod FieldBack
+pub mod ReferenceBack
+pub mod HeaderBack
