@@ -6,3 +6,8 @@ pub mod BareBack
 pub mod QuotedBack
 pub mod QualifierBack
 pub mod FeatureBack
+pub mod Decimals
+pub mod Pieces
+pub mod LocusBack
+pub mod OriginBack
+pub mod FieldBack
