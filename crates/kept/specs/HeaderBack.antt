@@ -186,7 +186,7 @@ module _ (W : ℕ) where
 
 -- ---- the whole header
 
-abbrev mayList : {A : Type 0} → May A → List A
+abbrev pub mayList : {A : Type 0} → May A → List A
 mayList absent = []
 mayList (is a) = a ∷ []
 

@@ -7,9 +7,9 @@ pub mod QuotedBack
 pub mod QualifierBack
 pub mod FeatureBack
 pub mod Decimals
-pub mod Pieces
 pub mod LocusBack
 pub mod OriginBack
 pub mod FieldBack
 pub mod ReferenceBack
 pub mod HeaderBack
+pub mod RecordBack
