@@ -1,11 +1,5 @@
 pub mod Tests
 pub mod WrapKept
-pub mod Pieces
-pub mod Joins
-pub mod BareBack
-pub mod QuotedBack
-pub mod QualifierBack
-pub mod FeatureBack
 pub mod Decimals
 pub mod LocusBack
 pub mod OriginBack
@@ -13,3 +7,8 @@ pub mod FieldBack
 pub mod ReferenceBack
 pub mod HeaderBack
 pub mod RecordBack
+pub mod Joins
+pub mod BareBack
+pub mod QuotedBack
+pub mod QualifierBack
+pub mod FeatureBack
