@@ -13,3 +13,4 @@ pub mod FieldBack
 pub mod ReferenceBack
 pub mod HeaderBack
 pub mod RecordBack
+pub mod RecordsBack
