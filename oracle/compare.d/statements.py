@@ -102,10 +102,15 @@ def _needed():
 
 
 def _unfoldable():
-    names = []
-    for path in sorted((REPOSITORY / "crates" / "format" / "specs").glob("*.antt")):
-        names += ["%s.%s" % (path.stem, n) for n in re.findall(r"^\s*unfoldable pub (\S+)", path.read_text(), re.M)]
-    return names
+    """What must be unfolded for the definitions below to compute: all that can be, in their modules and those they use."""
+    wanted, texts = ["Record", "Write", "WellFormed", "Keeping"], {}
+    while wanted:
+        module = wanted.pop()
+        path = REPOSITORY / "crates" / "format" / "specs" / (module + ".antt")
+        if module not in texts and path.exists():
+            texts[module] = path.read_text()
+            wanted += re.findall(r"^use Rattle\.format\.specs\.(\w+)", texts[module], re.M)
+    return ["%s.%s" % (m, n) for m, text in sorted(texts.items()) for n in re.findall(r"^\s*unfoldable pub (\S+)", text, re.M)]
 
 
 class Prover:

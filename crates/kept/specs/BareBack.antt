@@ -14,6 +14,7 @@ use Rattle.format.specs.Wrap.{lastComma, breakAt, commaLines}
 use Rattle.laws.specs.Shrinks.{bareMore-small}
 use Rattle.kept.specs.Tests.{all-left, all-right, all-imp, all-first, some-pos}
 use Rattle.kept.specs.Pieces.{tag-back, noEnd, line-back, visible-noEnd}
+use Rattle.kept.specs.FieldBack.{commas-short, commas-long}
 use Rattle.kept.specs.Joins.{joining, joining-more, joining-stop, joining-parts}
 
 -- what may follow a value or a location: not n spaces and another byte than `/`, and enough of it to say so
@@ -76,12 +77,6 @@ module _ (indent : ℕ) where
   unfolding bare
   bare-lines s l z t r e k = rw e (joining-parts (bareMore indent) l z t r (λ m. l ++ concat m) (λ m. refl) k)
 
-  -- one line
-  pub line-bare : (rest t : List ℕ) → ends indent rest ≡ true → all noEnd t ≡ true → bare indent ((t ++ 10 ∷ []) ++ rest) ≡ Got t rest
-  line-bare rest t h k =
-      let e : bare indent (t ++ 10 ∷ rest) ≡ Got (t ++ []) rest = bare-lines (t ++ 10 ∷ rest) t rest [] rest (line-back t rest k) (further-off rest h) in
-      rw append-assoc (rw append-nil at e)
-
 -- s is read as t, over one or more lines, and then rest stands
 record Lines (indent : ℕ) (s t rest : List ℕ) : Type 0 where
   first : List ℕ
@@ -95,44 +90,26 @@ module _ (indent : ℕ) (rest : List ℕ) where
   lines-bare : (s t : List ℕ) → Lines indent s t rest → bare indent s ≡ Got t rest
   lines-bare s t h = rw (h .text) at (bare-lines indent s (h .first) (h .left) (h .later) rest (h .begins) (h .goes))
 
-  lines-one : (t : List ℕ) → ends indent rest ≡ true → all noEnd t ≡ true → Lines indent ((t ++ 10 ∷ []) ++ rest) t rest
-  lines-one t h k =
-      record {
-        first = t;
-        left = rest;
-        later = [];
-        begins = rw append-assoc (line-back t rest k);
-        goes = further-off indent rest h;
-        text = append-nil t;
-      }
+  lines-one : (t : List ℕ) → ends indent rest ≡ true → all noEnd t ≡ true → Lines indent (t ++ 10 ∷ rest) t rest
+  lines-one t h k = record { first = t; left = rest; later = []; begins = line-back t rest k; goes = further-off indent rest h; text = append-nil t }
 
   lines-more :
-      (f r c : List ℕ) → all noEnd f ≡ true → starts (but 47) (c ++ rest) ≡ true → Lines indent (c ++ rest) r rest →
-      Lines indent ((f ++ (10 ∷ (spaces indent ++ c))) ++ rest) (f ++ r) rest
-  lines-more f r c k s h =
-      let e : (f ++ (10 ∷ (spaces indent ++ c))) ++ rest ≡ f ++ (10 ∷ (spaces indent ++ (c ++ rest))) = simp append-assoc in
-      let g = further-on indent (c ++ rest) (h .first) (h .left) (h .later) rest s (h .begins) (h .goes) in
+      (f r x : List ℕ) → all noEnd f ≡ true → starts (but 47) x ≡ true → Lines indent x r rest → Lines indent (f ++ (10 ∷ (spaces indent ++ x))) (f ++ r) rest
+  lines-more f r x k s h =
       record {
         first = f;
-        left = spaces indent ++ (c ++ rest);
+        left = spaces indent ++ x;
         later = r;
-        begins = rw e (line-back f (spaces indent ++ (c ++ rest)) k);
-        goes = rw (h .text) at g;
+        begins = line-back f (spaces indent ++ x) k;
+        goes = rw (h .text) at (further-on indent x (h .first) (h .left) (h .later) rest s (h .begins) (h .goes));
         text = refl;
       }
 
+  -- a bare value of one line
+  pub line-bare : (t : List ℕ) → ends indent rest ≡ true → all noEnd t ≡ true → bare indent (t ++ 10 ∷ rest) ≡ Got t rest
+  line-bare t h k = lines-bare (t ++ 10 ∷ rest) t (lines-one t h k)
+
 module _ (W indent : ℕ) where
-  short : (n used : ℕ) (t : List ℕ) → leb (used + length t) W ≡ true → commaLines (suc n) W indent used t ≡ t ++ 10 ∷ []
-  unfolding commaLines
-  short n used t p = cc
-
-  long :
-      (n used : ℕ) (t : List ℕ) → leb (used + length t) W ≡ false →
-      commaLines (suc n) W indent used t ≡
-      take (breakAt (W - used) t) t ++ (10 ∷ (spaces indent ++ commaLines n W indent indent (drop (breakAt (W - used) t) t)))
-  unfolding commaLines
-  long n used t p = rw (p, commaLines) (simp append-assoc)
-
   -- it begins as the text does
   pub commas-starts :
       (p : ℕ → Bool) (n used : ℕ) (t rest : List ℕ) → used < W → starts p t ≡ true → starts p (commaLines n W indent used t ++ rest) ≡ true
@@ -160,7 +137,7 @@ module _ (W indent : ℕ) where
             ((r : List ℕ) → some r ≡ true → all visible r ≡ true → all (but 47) r ≡ true → length r ≤ n →
             Lines indent (commaLines n W indent indent r ++ rest) r rest) → (x : Bool) → leb (used + length t) W ≡ x →
             Lines indent (commaLines (suc n) W indent used t ++ rest) t rest
-        go ih true p = rw (short n used t p) (lines-one indent rest t fine (all-imp visible noEnd visible-noEnd t h))
+        go ih true p = rw (commas-short W indent n used t rest p) (lines-one indent rest t fine (all-imp visible noEnd visible-noEnd t h))
         go ih false p =
             let over : W < used + length t = leb-false (used + length t) W p in
             let m : ℕ = breakAt (W - used) t in
@@ -173,9 +150,9 @@ module _ (W indent : ℕ) where
             let or : all (but 47) r ≡ true = all-right (but 47) f r o′ in
             let lr : length r ≡ length t - m = length-drop m t in
             let sr : some r ≡ true = some-pos r (omega arith) in
-            let c : List ℕ = commaLines n W indent indent r in
-            rw (long n used t p)
-            (rw j at (lines-more indent rest f r c (all-imp visible noEnd visible-noEnd f (all-left visible f r a))
+            let x : List ℕ = commaLines n W indent indent r ++ rest in
+            rw (commas-long W indent n used t rest p)
+            (rw j at (lines-more indent rest f r x (all-imp visible noEnd visible-noEnd f (all-left visible f r a))
             (commas-starts (but 47) n indent r rest w (all-first (but 47) r sr or)) (ih r sr (all-right visible f r a) or (omega arith))))
 
     -- a location or a comma-broken value

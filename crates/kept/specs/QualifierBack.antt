@@ -115,9 +115,8 @@ module _ (W : ℕ) (k v rest : List ℕ) (room : 25 + length k ≤ W) (fine : en
       let l : 23 + length k + length v < W = search (and-left, and-right, ltb-true) in
       let e : wrapped false W 21 (23 + length k) v ≡ v ++ 10 ∷ [] =
       wrapped-kept false W 21 (23 + length k) v (line-kept W 21 (23 + length k) v f c l) ∙ rw (laid-one 21 v f) in
-      let b : bare 21 ((v ++ 10 ∷ []) ++ rest) ≡ Got v rest = line-bare 21 rest v fine (all-and (but 10) (but 13) noEnd no-end v f c) in
-      let s : starts (but 34) ((v ++ 10 ∷ []) ++ rest) ≡ true = rw append-assoc (unquoted v (10 ∷ rest) n refl) in
-      rw (p, q, e) (value-bare k v ((v ++ 10 ∷ []) ++ rest) rest s b u)
+      let b : bare 21 (v ++ 10 ∷ rest) ≡ Got v rest = line-bare 21 rest v fine (all-and (but 10) (but 13) noEnd no-end v f c) in
+      rw (p, q, e, append-assoc v (10 ∷ []) rest) (value-bare k v (v ++ 10 ∷ rest) rest (unquoted v (10 ∷ rest) n refl) b u)
 
   quoted-value :
       commaKey k ≡ false → bareKey k ≡ false → quoted (same k (bytes "translation")) 21 ((34 ∷ wrapped true W 21 (24 + length k) v) ++ rest) ≡ Got v rest →
