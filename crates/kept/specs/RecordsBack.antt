@@ -1,5 +1,5 @@
 -- The round trip at any place of a slice, and of many tables written one after the other.
-use Prim.Native.Nat.{ℕ, suc, _+_, _-_, _<_, _≤_}
+use Prim.Native.Nat.{ℕ, _+_, _-_, _<_}
 use native.Mathlib.Omega.{arith}
 use mathlib.Core.Bool.{Bool, true, false, _&&_}
 use mathlib.Core.Path.{_≡_, refl, ap, sym, _∙_}
@@ -7,8 +7,8 @@ use mathlib.Core.List.{List, [], _∷_, _++_, append-assoc, append-nil}
 use lib.ListN.{length, drop, length-append}
 use lib.Dec.{eqb, leb}
 use lib.Seq.{drop-append-seam}
-use borrow.Author.Tests.{leb-true, le-leb, ne-eqb, eq-eqb}
-use Rattle.format.specs.Bytes.{pick, all, each}
+use borrow.Author.Tests.{le-leb, ne-eqb, eq-eqb}
+use Rattle.format.specs.Bytes.{all, each}
 use Rattle.format.specs.Readers.{lineEnd}
 use Rattle.format.specs.Table.{Table}
 use Rattle.format.specs.Record.{Outcome, Read, Not, readRecord, most, readAt}
