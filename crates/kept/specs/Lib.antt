@@ -14,3 +14,4 @@ pub mod ReferenceBack
 pub mod HeaderBack
 pub mod RecordBack
 pub mod RecordsBack
+pub mod AnswersBack
