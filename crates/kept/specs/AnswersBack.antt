@@ -19,7 +19,7 @@ use Rattle.format.specs.declared.ReadAnswer.the-variants as read
 use Rattle.format.specs.declared.WriteAnswer.the-variants as answer
 use Rattle.kept.specs.Tests.{and-both}
 use Rattle.kept.specs.LocusBack.{lengthFits}
-use Rattle.kept.specs.RecordsBack.{keepable, kept-alone}
+use Rattle.kept.specs.RecordsBack.{kept-alone}
 
 module _ (W : ℕ) (truncate escape : Bool) (r : Rooms) (h : Head) where
   -- what an answer 0 of the keeping writer says
