@@ -1,0 +1,174 @@
+"""States answers as equations about the definitions of crates/format, and lets antt compute them.
+
+Each statement is closed by `refl`, so antt accepts it exactly if the definition computes to the answer. The statements stand in
+throw-away crates above a copy of `format`, in a temporary folder.
+"""
+import os
+import pathlib
+import re
+import shutil
+import subprocess
+
+import tables
+
+REPOSITORY = pathlib.Path(__file__).resolve().parent.parent.parent
+SIZE = 400  # statements in one crate
+
+LIBRARY = """ghost use mathlib.Core.Path.{_≡_};
+
+pub fn one() -> u8
+    ensures { λ r. ⌜ r ≡ 1 ⌝ }
+{
+    1
+}
+"""
+
+OPENING = """-- Answers that the definitions must compute.
+use Prim.Native.Nat.{ℕ}
+use mathlib.Core.Bool.{Bool, true, false}
+use mathlib.Core.Path.{_≡_, refl}
+use mathlib.Core.List.{List, [], _∷_}
+use lib.Dec.{eqb}
+use Rattle.format.specs.Bytes.{bytes, May, absent, is, pick, same, among}
+use Rattle.format.specs.Table.{Locus, Source, Reference, Qualifier, Feature, Table}
+use Rattle.format.specs.Record.{Outcome, Read, Not, number, placeWith}
+use Rattle.format.specs.declared.Dated.the-variants as dated
+%s
+-- a refusal: its number and what is returned with it
+abbrev refusal : ℕ → Outcome → List ℕ
+refusal at (Read t r) = []
+refusal at (Not u) = number u ∷ placeWith u at ∷ []
+
+-- refused with one of these numbers and the place given
+abbrev refusedBy : List (List ℕ) → ℕ → Outcome → Bool
+refusedBy numbers at (Read t r) = false
+refusedBy numbers at (Not u) = pick (eqb (placeWith u at) at) (among (number u ∷ []) numbers) false
+
+-- both writers' numbers and the bytes
+pub data Written : Type 0 where
+  Refused : ℕ → Written
+  Wrote : ℕ → List ℕ → Written
+
+abbrev writing : ℕ → Bool → Bool → Table → Written
+writing w truncate escape t =
+  pick (WellFormed.wellFormed w truncate escape t)
+  (Wrote (pick (Keeping.keeps w truncate escape t) 0 13) (Write.written w truncate escape t)) (Refused 11)
+"""
+
+
+# ---- what can be stated
+
+def reads(data, at, table, place):
+    return "Record.readAt %s %d ≡ Read %s %s" % (tables.antt_bytes(data), at, tables.antt_table(table), tables.antt_bytes(data[place:]))
+
+
+def refuses(data, at, number, place):
+    return "refusal %d (Record.readAt %s %d) ≡ %d ∷ %d ∷ []" % (at, tables.antt_bytes(data), at, number, place)
+
+
+def refuses_by(data, at, numbers):
+    listed = "".join("(%d ∷ []) ∷ " % n for n in numbers)
+    return "refusedBy (%s[]) %d (Record.readAt %s %d) ≡ true" % (listed, at, tables.antt_bytes(data), at)
+
+
+def _writing(width, truncate, escape, table):
+    return "writing %d %s %s %s" % (width, tables.antt_bool(truncate), tables.antt_bool(escape), tables.antt_table(table))
+
+
+def writes(width, truncate, escape, table, keeping, data):
+    return "%s ≡ Wrote %d %s" % (_writing(width, truncate, escape, table), keeping, tables.antt_bytes(data))
+
+
+def writes_not(width, truncate, escape, table):
+    return "%s ≡ Refused 11" % _writing(width, truncate, escape, table)
+
+
+# ---- the definitions
+
+def _needed():
+    """`format` and what it stands on, each with its line of crates.txt."""
+    lines = {}
+    for line in (REPOSITORY / "crates.txt").read_text().splitlines():
+        name, colon, rest = line.split("#")[0].partition(":")
+        if colon:
+            lines[name.strip()] = rest
+    wanted, found = ["format"], {}
+    while wanted:
+        name = wanted.pop()
+        if name not in found:
+            found[name] = lines[name]
+            wanted += lines[name].replace(",", " ").split()
+    return {name: rest for name, rest in lines.items() if name in found}
+
+
+def _unfoldable():
+    """What must be unfolded for the definitions below to compute: all that can be, in their modules and those they use."""
+    wanted, texts = ["Record", "Write", "WellFormed", "Keeping"], {}
+    while wanted:
+        module = wanted.pop()
+        path = REPOSITORY / "crates" / "format" / "specs" / (module + ".antt")
+        if module not in texts and path.exists():
+            texts[module] = path.read_text()
+            wanted += re.findall(r"^use Rattle\.format\.specs\.(\w+)", texts[module], re.M)
+    return ["%s.%s" % (m, n) for m, text in sorted(texts.items()) for n in re.findall(r"^\s*unfoldable pub (\S+)", text, re.M)]
+
+
+def _short(says):
+    """Of what antt says, the part about the computed answers."""
+    start = says.find("computed as far as they go")
+    return says[max(start, 0):].split("\n  expected type")[0]
+
+
+class Prover:
+    def __init__(self, folder):
+        self.folder = pathlib.Path(folder)
+        self.needed = _needed()
+        self.names = _unfoldable()
+        for name in self.needed:
+            shutil.copytree(REPOSITORY / "crates" / name, self.folder / "crates" / name)
+        subprocess.run(["git", "init", "-q", str(self.folder)], check=True)
+        self.made = 0
+
+    def _write_crate(self, name, statements):
+        """A crate with these statements; the first line of each."""
+        crate = self.folder / "crates" / name
+        for part in ("src", "specs"):
+            (crate / part).mkdir(parents=True, exist_ok=True)
+        (crate / "src" / "lib.rt").write_text(LIBRARY)
+        (crate / "specs" / "Lib.antt").write_text("pub mod Answers\n")
+        modules = sorted({n.split(".")[0] for n in self.names})
+        text = [OPENING % "".join("use Rattle.format.specs.%s as %s\n" % (m, m) for m in modules)]
+        for i, statement in statements:
+            text.append("case%d : %s\nunfolding %s\ncase%d = refl\n" % (i, statement, " ".join(self.names), i))
+        (crate / "specs" / "Answers.antt").write_text("\n".join(text))
+
+    def _check(self, crates):
+        listed = ["%s:%s" % item for item in self.needed.items()] + ["%s: format" % name for name in crates]
+        (self.folder / "crates.txt").write_text("\n".join(listed) + "\n")
+        return subprocess.run(["rt", "check"] + list(crates), cwd=self.folder, env=dict(os.environ, RT_CUT="0"),
+                              stdout=subprocess.PIPE, stderr=subprocess.STDOUT, text=True)
+
+    def wrong(self, statements):
+        """The statements that do not hold: number and what antt says."""
+        found = {}
+        todo = list(enumerate(statements))
+        while todo:
+            crates = {}
+            for start in range(0, len(todo), SIZE):
+                self.made += 1
+                crates["held%d" % self.made] = todo[start:start + SIZE]
+            for name, part in crates.items():
+                self._write_crate(name, part)
+            done = self._check(crates)
+            new = {int(m[1]): _short(m[2]) for m in re.finditer(r"error: `case(\d+)`: (.*(?:\n  .*)*)", done.stdout)}
+            again = []
+            for name, part in crates.items():
+                failed = any(i in new for i, _ in part)
+                if not failed and not re.search(r"^rt: %s proved" % name, done.stdout, re.M):
+                    raise RuntimeError("antt did not check the statements:\n" + done.stdout[-3000:])
+                if failed:  # once more without them, until all that is left is proved
+                    again += [(i, s) for i, s in part if i not in new]
+                shutil.rmtree(self.folder / "crates" / name)
+            found.update(new)
+            todo = again
+        return found
