@@ -113,6 +113,12 @@ def _unfoldable():
     return ["%s.%s" % (m, n) for m, text in sorted(texts.items()) for n in re.findall(r"^\s*unfoldable pub (\S+)", text, re.M)]
 
 
+def _short(says):
+    """Of what antt says, the part about the computed answers."""
+    start = says.find("computed as far as they go")
+    return says[max(start, 0):].split("\n  expected type")[0]
+
+
 class Prover:
     def __init__(self, folder):
         self.folder = pathlib.Path(folder)
@@ -154,7 +160,7 @@ class Prover:
             for name, part in crates.items():
                 self._write_crate(name, part)
             done = self._check(crates)
-            new = {int(m[1]): m[2] for m in re.finditer(r"error: `case(\d+)`: (.*(?:\n  .*)*)", done.stdout)}
+            new = {int(m[1]): _short(m[2]) for m in re.finditer(r"error: `case(\d+)`: (.*(?:\n  .*)*)", done.stdout)}
             again = []
             for name, part in crates.items():
                 failed = any(i in new for i, _ in part)

@@ -1,5 +1,11 @@
 pub mod Tests
 pub mod WrapKept
+pub mod Pieces
+pub mod Joins
+pub mod BareBack
+pub mod QuotedBack
+pub mod QualifierBack
+pub mod FeatureBack
 pub mod Decimals
 pub mod LocusBack
 pub mod OriginBack
@@ -7,8 +13,3 @@ pub mod FieldBack
 pub mod ReferenceBack
 pub mod HeaderBack
 pub mod RecordBack
-pub mod Joins
-pub mod BareBack
-pub mod QuotedBack
-pub mod QualifierBack
-pub mod FeatureBack
