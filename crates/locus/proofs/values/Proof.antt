@@ -1,3 +1,4 @@
+use Rattle.locus.proofs.Lines.{no-name, no-bases, no-unit, no-date, is-circular, is-linear, is-neither}
 use Prim.Native.Nat.{ℕ, suc, _+_, _-_, _*_, _/_, _%_, _≤_, _<_}
 use mathlib.Core.Path.{_≡_, refl, sym, ap, _∙_}
 use lib.ListN.{length, getD, take, drop, set}
@@ -8,16 +9,12 @@ use Rattle.locus.proofs.values.Statement.{statement}
 use Rattle.locus.proofs.values.Tie as tie
 use Rattle.locus.proofs.values.Reads as reads
 use Rattle.locus.proofs.values.Lts as lts
-use Rattle.locus.proofs.span_bases.Reads as span-bases-reads
-use Rattle.locus.proofs.span_date.Reads as span-date-reads
-use Rattle.locus.proofs.span_equal.Reads as span-equal-reads
-use Rattle.locus.proofs.span_named.Reads as span-named-reads
 
 span-named-requires : tie.Need-span-named-requires
 span-named-requires c κs = search needs
 
 returns : tie.Need-returns
-returns c = search needs
+returns c = record { is = no-name _ _ _ _ _ _ _ _ (c .before .span-named .ensures) (c .if1 .taken); within = tt }
 
 span-bases-requires : tie.Need-span-bases-requires
 span-bases-requires c κs = search needs
@@ -29,7 +26,7 @@ enum-told : tie.Need-enum-told
 enum-told c = search needs
 
 returns-2 : tie.Need-returns-2
-returns-2 c = search needs
+returns-2 c = record { is = no-bases _ _ _ _ _ _ _ _ (c .before .before .before .before .span-named .ensures) (c .before .before .before .if1 .left) _ (c .before .before .span-bases .ensures) (c .enum-told .given .1); within = tt }
 
 slice-aggregate-span-equal : tie.Need-slice-aggregate-span-equal
 slice-aggregate-span-equal c = search needs
@@ -38,7 +35,7 @@ span-equal-requires : tie.Need-span-equal-requires
 span-equal-requires c κs = search needs
 
 returns-3 : tie.Need-returns-3
-returns-3 c = search needs
+returns-3 c = record { is = no-unit _ _ _ _ _ _ _ _ (c .before .before .before .before .before .before .before .before .span-named .ensures) (c .before .before .before .before .before .before .before .if1 .left) _ (c .before .before .before .before .before .before .span-bases .ensures) _ (c .before .before .before .before .length .given .1) _ (c .before .span-equal .ensures) (c .if2 .taken); within = tt }
 
 span-date-requires : tie.Need-span-date-requires
 span-date-requires c κs = search needs
@@ -50,7 +47,7 @@ enum-told-2 : tie.Need-enum-told-2
 enum-told-2 c = search needs
 
 returns-4 : tie.Need-returns-4
-returns-4 c = search needs
+returns-4 c = record { is = no-date _ _ _ _ _ _ _ _ (c .before .before .before .before .before .before .before .before .before .before .before .span-named .ensures) (c .before .before .before .before .before .before .before .before .before .before .if1 .left) _ (c .before .before .before .before .before .before .before .before .before .span-bases .ensures) _ (c .before .before .before .before .before .before .before .length .given .1) _ (c .before .before .before .before .span-equal .ensures) (c .before .before .before .if2 .left) _ (c .before .before .span-date .ensures) (c .enum-told2 .given .1); within = tt }
 
 slice-aggregate-span-equal-2 : tie.Need-slice-aggregate-span-equal-2
 slice-aggregate-span-equal-2 c = search needs
@@ -59,7 +56,7 @@ span-equal-requires-2 : tie.Need-span-equal-requires-2
 span-equal-requires-2 c κs = search needs
 
 returns-5 : tie.Need-returns-5
-returns-5 c = search needs
+returns-5 c = record { is = is-circular _ _ _ _ _ _ _ _ (c .before .before .before .before .before .before .before .before .before .before .before .before .before .before .before .span-named .ensures) (c .before .before .before .before .before .before .before .before .before .before .before .before .before .before .if1 .left) _ (c .before .before .before .before .before .before .before .before .before .before .before .before .before .span-bases .ensures) _ (c .before .before .before .before .before .before .before .before .before .before .before .length .given .1) _ (c .before .before .before .before .before .before .before .before .span-equal .ensures) (c .before .before .before .before .before .before .before .if2 .left) _ (c .before .before .before .before .before .before .span-date .ensures) _ (c .before .before .before .before .on .given .1) _ (c .before .span-equal2 .ensures) (c .if3 .taken); within = (c .before .before .before .before .before .before .before .before .before .before .before .before .before .before .before .before .before .pre .0 .0, (c .before .before .before .before .before .before .before .before .before .before .before .before .before .before .before .before .before .pre .1 .0, c .before .before .before .before .before .before .before .before .before .before .before .before .before .before .before .before .before .pre .1 .1 .1 .0)) }
 
 slice-aggregate-span-equal-3 : tie.Need-slice-aggregate-span-equal-3
 slice-aggregate-span-equal-3 c = search needs
@@ -68,10 +65,10 @@ span-equal-requires-3 : tie.Need-span-equal-requires-3
 span-equal-requires-3 c κs = search needs
 
 returns-6 : tie.Need-returns-6
-returns-6 c = search needs
+returns-6 c = record { is = is-linear _ _ _ _ _ _ _ _ (c .before .before .before .before .before .before .before .before .before .before .before .before .before .before .before .before .before .before .span-named .ensures) (c .before .before .before .before .before .before .before .before .before .before .before .before .before .before .before .before .before .if1 .left) _ (c .before .before .before .before .before .before .before .before .before .before .before .before .before .before .before .before .span-bases .ensures) _ (c .before .before .before .before .before .before .before .before .before .before .before .before .before .before .length .given .1) _ (c .before .before .before .before .before .before .before .before .before .before .before .span-equal .ensures) (c .before .before .before .before .before .before .before .before .before .before .if2 .left) _ (c .before .before .before .before .before .before .before .before .before .span-date .ensures) _ (c .before .before .before .before .before .before .before .on .given .1) _ (c .before .before .before .before .span-equal2 .ensures) (c .before .before .before .if3 .left) _ (c .before .span-equal3 .ensures) (c .if4 .taken); within = (c .before .before .before .before .before .before .before .before .before .before .before .before .before .before .before .before .before .before .before .before .pre .0 .0, (c .before .before .before .before .before .before .before .before .before .before .before .before .before .before .before .before .before .before .before .before .pre .1 .0, c .before .before .before .before .before .before .before .before .before .before .before .before .before .before .before .before .before .before .before .before .pre .1 .1 .1 .0)) }
 
 returns-7 : tie.Need-returns-7
-returns-7 c = search needs
+returns-7 c = record { is = is-neither _ _ _ _ _ _ _ _ (c .before .before .before .before .before .before .before .before .before .before .before .before .before .before .before .before .before .before .span-named .ensures) (c .before .before .before .before .before .before .before .before .before .before .before .before .before .before .before .before .before .if1 .left) _ (c .before .before .before .before .before .before .before .before .before .before .before .before .before .before .before .before .span-bases .ensures) _ (c .before .before .before .before .before .before .before .before .before .before .before .before .before .before .length .given .1) _ (c .before .before .before .before .before .before .before .before .before .before .before .span-equal .ensures) (c .before .before .before .before .before .before .before .before .before .before .if2 .left) _ (c .before .before .before .before .before .before .before .before .before .span-date .ensures) _ (c .before .before .before .before .before .before .before .on .given .1) _ (c .before .before .before .before .span-equal2 .ensures) (c .before .before .before .if3 .left) _ (c .before .span-equal3 .ensures) (c .if4 .left); within = tt }
 
 pub values-spec : {M : Type 1} → statement M
 values-spec =
