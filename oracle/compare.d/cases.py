@@ -61,8 +61,10 @@ class Reading(Case):
         return [statements.refuses_by(self.data, self.at, (2, 4, 5, 7, 8, 9))]
 
     def verdict(self):
-        if self.at > len(self.data) or self.departed == "panic":
-            return _named((5,))
+        if self.at > len(self.data):
+            return _named((5,)) + ", number 3"
+        if self.departed == "panic":
+            return _named((5,)) + ", the Rust panics"
         refused = ("err", "none")
         if self.at < len(self.data) and self.unchanged == "none" and self.departed in refused:
             return _named((2,)) + ", None at a cut LOCUS line"
@@ -111,7 +113,7 @@ class Writing(Case):
 
     def verdict(self):
         if not self.laid_out():
-            return _named((5,))
+            return _named((5,)) + ", number 11"
         if not self.departed.startswith("ok "):
             return LEFT
         return self.smallest(lambda a, b: a == b)

@@ -173,6 +173,8 @@ class Slices:
     def small(self):
         """A few lines, the last one often cut."""
         r = self.r
+        if self.chance(0.03):  # a byte above 127 that ends the slice after an indent
+            return b"LOCUS \nFEATURES  Location/Qualifiers\n g  1..2\n" + r.choice([b"", b"    /k=v\n", b'    /k="v"\n', b'    /k="v\n']) + b"    " + bytes([r.randint(126, 255)])
         bag = [b"LOCUS ", b"LOCUS       x 4 bp DNA linear SYN 01-JAN-2001", b"DEFINITION  a", b"            b", b"  ORGANISM  o", b"SOURCE s", b"       t", b"//",
                b"FEATURES  Location/Qualifiers", b" g  1..2", b"    /k", b'    /k="v"', b"    /k=v", b'    /k="a""', b'    "b"', b"    more", b"    /translation=\"MK",
                b"    LV\"", b"ORIGIN", b"ORIGIN x", b"acgt", b"1 acg t", b"CONTIG 1..5", b"       6", b"BASE COUNT 1", b"REFERENCE 1", b"  TITLE t", b"   PUBMED 5",
@@ -277,6 +279,8 @@ class Writings:
             return self.gentle_text(indent, used)
         if self.chance(0.45):
             return pick_words(r, 8)
+        if indent == 21 and self.chance(0.4):
+            return self.quote_at_end(used)
         out, column = "", used
         for _ in range(r.choice([1, 1, 2, 3])):
             room = max(0, self.width - column + r.choice([-3, -2, -1, -1, 0, 0, 1, 2]))
@@ -289,6 +293,14 @@ class Writings:
             out += filling + r.choice(["", " ", '"', "\n", "é", "€", "𝄞", '""', ' "', '" ', "\n\n", "  ", '"\n', "\t", "z"])
             column = indent
         return (out + r.choice(["", "", "end", " end", "\n"])).encode()
+
+    def quote_at_end(self, used):
+        """A quote near the end of the first line, most often where one column is left."""
+        r = self.r
+        filling = bytearray(b"x" * (self.width - used - r.choice([1, 1, 1, 1, 0, 2, 3])))
+        if filling and self.chance(0.5):
+            filling[r.randrange(len(filling))] = 32
+        return bytes(filling) + b'"' + r.choice([b"", b"", b" ", b"\n", b"x", b" y", b"\nz", b'"', "é".encode(), b"x" * 60])
 
     def gentle_text(self, indent, used):
         """Lines that are shorter than the width, most of them by one."""

@@ -31,6 +31,8 @@ def write_request(mask, width, truncate, escape, table):
 
 def ask(requests):
     """The reply to each request."""
+    if not requests:
+        return []
     done = subprocess.run([str(PROGRAM)], input="\n".join(requests) + "\n", stdout=subprocess.PIPE, text=True, check=True)
     replies = done.stdout.split("\n")[:-1]
     if len(replies) != len(requests):

@@ -1,0 +1,1 @@
+// Nothing runs here: specs/Rules.antt computes that each keeping rule earns its place.

@@ -1,0 +1,2 @@
+-- What it means to have written a text.
+pub mod Pen

@@ -1,0 +1,52 @@
+-- `wrap::put_escaped` meets its contract.
+use Rattle.pen.specs.Pen.{writes-as}
+use mathlib.Core.Path.{sym, _∙_}
+use Rattle.wrap.specs.Loop.{escape-plain, escape-bare}
+use borrow.Author.Needs.{needs}
+use Rattle.wrap.proofs.put_escaped.Statement.{statement}
+use Rattle.wrap.proofs.put_escaped.Tie as tie
+
+quoted-requires : tie.Need-quoted-requires
+quoted-requires c κs = search needs
+
+put-each-shown-requires : tie.Need-put-each-shown-requires
+put-each-shown-requires c κs = search needs
+
+same-length : tie.Need-same-length
+same-length c = search needs
+
+returns : tie.Need-returns
+returns c = search needs
+
+put-bytes-requires : tie.Need-put-bytes-requires
+put-bytes-requires c κs = search needs
+
+same-length-2 : tie.Need-same-length-2
+same-length-2 c = search needs
+
+returns-2 : tie.Need-returns-2
+returns-2 c = simp (c .before .before .before .before .before .before .if1 .taken) (writes-as (escape-plain _ (sym (c .before .before .before .before .before .quoted .ensures) ∙ c .before .before .before .before .if2 .left)) (c .before .before .put-bytes .ensures))
+
+put-bytes-requires-2 : tie.Need-put-bytes-requires-2
+put-bytes-requires-2 c κs = search needs
+
+same-length-3 : tie.Need-same-length-3
+same-length-3 c = search needs
+
+returns-3 : tie.Need-returns-3
+returns-3 c = simp (c .before .before .before .before .if1 .left) (writes-as (escape-bare _) (c .before .before .put-bytes2 .ensures))
+
+pub put-escaped-spec : {M : Type 1} → statement M
+put-escaped-spec =
+    tie.close
+    (tie.spec
+    quoted-requires
+    put-each-shown-requires
+    same-length
+    returns
+    put-bytes-requires
+    same-length-2
+    returns-2
+    put-bytes-requires-2
+    same-length-3
+    returns-3)

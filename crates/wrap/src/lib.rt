@@ -1,0 +1,226 @@
+// `wrap_text` and `wrap_get_line` of writer.rs: free text over lines, with quotes doubled where asked.
+use pen::put_byte;
+use pen::put_bytes;
+use pen::put_spaces;
+ghost use mathlib.Core.Path.{_≡_};
+ghost use mathlib.Core.List.{[], _∷_, _++_};
+ghost use Prim.Native.Nat.{_+_, _≤_, _<_};
+ghost use lib.Dec.{ltb};
+ghost use lib.ListN.{length};
+ghost use Rattle.format.specs.Bytes.{spaces};
+ghost use Rattle.format.specs.Wrap.{wrapped};
+ghost use Rattle.pen.specs.Pen.{Writes};
+ghost use Rattle.wrap.specs.Line.{Breaks, Columns, LastSpace, stops, full, shown, escape, quoted, closed};
+
+// Where a line ends in its text, and where the next one starts.
+pub struct Break {
+    pub end: usize,
+    pub next: usize,
+}
+
+// How many columns a byte takes.
+fn columns(b: u8, quote: bool) -> usize
+    ensures { λ r. ⌜ Columns quote b r ⌝ }
+{
+    if quote {
+        if b == 34 {
+            return 2;
+        }
+        return 1;
+    }
+    1
+}
+
+// Whether a line of `width` columns stops before b, which would bring it to w columns. A byte inside a character never stops it.
+fn stops(b: u8, width: usize, w: usize) -> bool
+    ensures { λ r. ⌜ r ≡ stops b width w ⌝ }
+{
+    if w <= width {
+        return false;
+    }
+    if b < 128 {
+        return true;
+    }
+    if b < 192 {
+        return false;
+    }
+    true
+}
+
+// The place after the last space, 0 where there is none.
+fn last_space(b: u8, i: usize, space: usize) -> usize
+    requires { ⌜ (i < 16777216) × (space ≤ i) ⌝ }
+    ensures { λ r. ⌜ LastSpace b i space r ⌝ }
+{
+    if b == 32 {
+        return i + 1;
+    }
+    space
+}
+
+// The break of a full line before the byte b at i, which is left out if it is a space or LF.
+fn full(b: u8, i: usize, space: usize) -> Break
+    requires { ⌜ (i < 16777216) × (space ≤ i) ⌝ }
+    ensures { λ r. ⌜ r ≡ full b i space ⌝ }
+{
+    if b == 32 {
+        return Break {
+            end: i,
+            next: i + 1,
+        };
+    }
+    if b == 10 {
+        return Break {
+            end: i,
+            next: i + 1,
+        };
+    }
+    if space == 0 {
+        return Break { end: i, next: i };
+    }
+    Break {
+        end: space - 1,
+        next: space,
+    }
+}
+
+// The first line of the text, where `taken` columns are taken.
+fn line_break(text: &[u8], taken: usize, width: usize, quote: bool) -> Break
+    requires { ⌜ (length (now text) ≤ 16777216) × (taken ≤ 33554432) ⌝ }
+    ensures { λ r. ⌜ Breaks quote width taken (now (text .entry)) r ⌝ }
+{
+    let mut i = 0;
+    let mut used = taken;
+    let mut space = 0;
+    while i < text.len() {
+        let b = text[i];
+        let w = used + columns(b, quote);
+        if stops(b, width, w) {
+            return full(b, i, space);
+        }
+        if b == 10 {
+            return Break {
+                end: i,
+                next: i + 1,
+            };
+        }
+        space = last_space(b, i, space);
+        used = w;
+        i += 1;
+    }
+    Break { end: i, next: i }
+}
+
+// A byte, a quote twice where quotes are doubled.
+fn put_shown(out: &mut [u8], at: usize, b: u8, quote: bool) -> usize
+    ensures { λ r. ⌜ Writes (now (out .entry)) at (shown quote b) (now (out .exit)) r ⌝ }
+{
+    if quote {
+        if b == 34 {
+            return put_bytes(out, at, b"\"\"");
+        }
+        return put_byte(out, at, b);
+    }
+    put_byte(out, at, b)
+}
+
+fn put_each_shown(out: &mut [u8], at: usize, line: &[u8], quote: bool) -> usize
+    ensures { λ r. ⌜ Writes (now (out .entry)) at (escape quote (now (line .entry))) (now (out .exit)) r ⌝ }
+{
+    let mut p = at;
+    let mut i = 0;
+    while i < line.len() {
+        p = put_shown(out, p, line[i], quote);
+        i += 1;
+    }
+    p
+}
+
+// Whether a line holds a quote.
+fn quoted(line: &[u8]) -> bool
+    ensures { λ r. ⌜ r ≡ quoted (now (line .entry)) ⌝ }
+{
+    let mut i = 0;
+    while i < line.len() {
+        if line[i] == 34 {
+            return true;
+        }
+        i += 1;
+    }
+    false
+}
+
+// A line as it is written: most hold no quote and go as they are.
+fn put_escaped(out: &mut [u8], at: usize, line: &[u8], quote: bool) -> usize
+    ensures { λ r. ⌜ Writes (now (out .entry)) at (escape quote (now (line .entry))) (now (out .exit)) r ⌝ }
+{
+    if quote {
+        if quoted(line) {
+            return put_each_shown(out, at, line, quote);
+        }
+        return put_bytes(out, at, line);
+    }
+    put_bytes(out, at, line)
+}
+
+// The end of a line that is not the last, and the indent of the next.
+fn put_break(out: &mut [u8], at: usize, indent: usize) -> usize
+    ensures { λ r. ⌜ Writes (now (out .entry)) at (10 ∷ [] ++ spaces indent) (now (out .exit)) r ⌝ }
+{
+    let next = put_byte(out, at, 10);
+    put_spaces(out, next, indent)
+}
+
+// Whether n columns after `used` leave one free.
+fn leaves_one(used: usize, n: usize, width: usize) -> bool
+    ensures { λ r. ⌜ r ≡ ltb (used + n) width ⌝ }
+{
+    if width <= used {
+        return false;
+    }
+    n < width - used
+}
+
+// What ends a text whose last line has a free column, or has not.
+fn put_closing(out: &mut [u8], at: usize, quote: bool, free: bool, indent: usize) -> usize
+    ensures { λ r. ⌜ Writes (now (out .entry)) at (closed quote free indent) (now (out .exit)) r ⌝ }
+{
+    if quote {
+        if free {
+            return put_bytes(out, at, b"\"\n");
+        }
+        let a = put_break(out, at, indent);
+        return put_bytes(out, a, b"\"\n");
+    }
+    put_byte(out, at, 10)
+}
+
+// The text after its first indent and quote, which take `taken` columns.
+pub fn put_wrapped(
+    out: &mut [u8],
+    at: usize,
+    text: &[u8],
+    taken: usize,
+    indent: usize,
+    quote: bool,
+    width: usize,
+) -> usize
+    requires { ⌜ (length (now text) ≤ 16777216) × (taken ≤ 33554432) × (indent + 2 ≤ width) × (width ≤ 132) ⌝ }
+    ensures { λ r. ⌜ Writes (now (out .entry)) at (wrapped quote width indent taken (now (text .entry))) (now (out .exit)) r ⌝ }
+{
+    let mut p = at;
+    let mut used = taken;
+    let mut from = 0;
+    loop {
+        let b = line_break(&text[from..], used, width, quote);
+        let end = from + b.end;
+        let next = from + b.next;
+        let a = put_escaped(out, p, &text[from..end], quote);
+        if text.len() <= next {
+            return put_closing(out, a, quote, leaves_one(used, a - p, width), indent);
+        }
+        p = put_break(out, a, indent);
+        from = next;
+        used = indent;
+    }
+}
