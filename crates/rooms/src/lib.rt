@@ -1,1 +1,1 @@
-// Nothing runs here: specs/ proves what a layout holds (written on branch rooms).
+// Nothing runs here: specs/ proves what a layout holds.
