@@ -1,12 +1,57 @@
-// Where a record ends: the empty lines after `//`, and whether `//` stands on a later line.
+// Where a record's sections begin and end: the line of FEATURES, the empty lines after `//`, and whether `//` stands on a later line.
 use chars::Step;
 ghost use mathlib.Core.Path.{_≡_};
 ghost use mathlib.Core.Bool.{_&&_};
 ghost use Prim.Native.Nat.{_+_, _≤_};
 ghost use lib.ListN.{length, getD, drop};
 ghost use lib.Dec.{eqb};
+ghost use Rattle.format.specs.Features.{featuresHeader};
 ghost use Rattle.format.specs.Record.{slashesLater};
-ghost use Rattle.sections.specs.Ends.{EmptyPassed};
+ghost use Rattle.chars.specs.Views.{Emptied};
+ghost use Rattle.sections.specs.Ends.{headerEnd, headerGap, EmptyPassed, Ended};
+
+// The place after a record, or why it does not end here.
+pub enum RecordEnd {
+    At(usize),
+    NoSlashes,
+    Unended,
+}
+
+// The last word of the line of FEATURES, and its end.
+fn header_end(s: &[u8], at: usize) -> Step
+    requires { ⌜ at ≤ length (now s) ⌝ }
+    ensures { λ r. ⌜ Emptied (now (s .entry)) at (headerEnd (drop at (now (s .entry)))) r ⌝ }
+{
+    match chars::tag(s, at, b"Location/Qualifiers") {
+        Step::Got(next) => chars::line_end(s, next),
+        Step::No => Step::No,
+        Step::Cut => Step::Cut,
+    }
+}
+
+// The blanks before it.
+fn header_gap(s: &[u8], at: usize) -> Step
+    requires { ⌜ at ≤ length (now s) ⌝ }
+    ensures { λ r. ⌜ Emptied (now (s .entry)) at (headerGap (drop at (now (s .entry)))) r ⌝ }
+{
+    match chars::blanks1(s, at) {
+        Step::Got(next) => header_end(s, next),
+        Step::No => Step::No,
+        Step::Cut => Step::Cut,
+    }
+}
+
+// The line of FEATURES.
+pub fn features_header(s: &[u8], at: usize) -> Step
+    requires { ⌜ at ≤ length (now s) ⌝ }
+    ensures { λ r. ⌜ Emptied (now (s .entry)) at (featuresHeader (drop at (now (s .entry)))) r ⌝ }
+{
+    match chars::tag(s, at, b"FEATURES") {
+        Step::Got(next) => header_gap(s, next),
+        Step::No => Step::No,
+        Step::Cut => Step::Cut,
+    }
+}
 
 // The place after all empty lines that stand there.
 pub fn empty_lines(s: &[u8], at: usize) -> usize
@@ -46,4 +91,21 @@ pub fn slashes_later(s: &[u8], at: usize) -> bool
         i += 1;
     }
     false
+}
+
+// `//` and the empty lines after it, where the sections end.
+pub fn record_end(s: &[u8], at: usize) -> RecordEnd
+    requires { ⌜ at ≤ length (now s) ⌝ }
+    ensures { λ r. ⌜ Ended (now (s .entry)) at r ⌝ }
+{
+    match chars::tag(s, at, b"//") {
+        Step::Got(next) => RecordEnd::At(empty_lines(s, next)),
+        Step::No => {
+            if slashes_later(s, at) {
+                return RecordEnd::NoSlashes;
+            }
+            RecordEnd::Unended
+        }
+        Step::Cut => RecordEnd::Unended,
+    }
 }

@@ -1,3 +1,4 @@
+-- `empty_lines`: the loop has passed empty lines only, and stops at the first line that is not.
 use Prim.Native.Nat.{ℕ, suc, _+_, _-_, _*_, _/_, _%_, _≤_, _<_}
 use mathlib.Core.Path.{_≡_, refl, sym, ap, _∙_}
 use lib.ListN.{length, getD, take, drop, set}
