@@ -1,0 +1,118 @@
+-- Why the promises hold: the longer proofs that Promise.antt cites.
+use Prim.Native.Nat.{ℕ, _<_, _≤_}
+use native.Mathlib.Omega.{arith}
+use mathlib.Core.Bool.{Bool, true, false}
+use mathlib.Core.Path.{_≡_, refl, ap, sym, _∙_}
+use mathlib.Core.List.{List, []}
+use lib.ListN.{length, take}
+use lib.Dec.{leb}
+use borrow.Author.Tests.{le-leb}
+use Rattle.format.specs.Bytes.{pick, May, absent, is}
+use Rattle.format.specs.Table.{Table}
+use Rattle.format.specs.Record.{Read, most, readAt}
+use Rattle.format.specs.Write.{written}
+use Rattle.format.specs.WellFormed.{widthFine, ifIs, wellFormed}
+use Rattle.format.specs.Keeping.{keeps}
+use Rattle.format.specs.Rooms.{Rooms, tableOf, roomsFine, sizes, fits, headOf, layout, overRooms, readAnswer, roomsOf, roomsAfter}
+use Rattle.format.specs.Answers.{room, keepingAnswer, plainAnswer, sliceAfter}
+use Rattle.format.specs.declared.Head.{Head}
+use Rattle.format.specs.declared.ReadAnswer.the-variants as read
+use Rattle.format.specs.declared.Unwritten.{Unwritten}
+use Rattle.format.specs.declared.Unwritten.the-variants as unwritten
+use Rattle.format.specs.declared.WriteAnswer.the-variants as answer
+use Rattle.kept.specs.LocusBack.{lengthFits}
+use Rattle.kept.specs.RecordsBack.{keepable}
+use Rattle.kept.specs.AnswersBack.{answer-back, answer-read}
+use Rattle.rooms.specs.LayoutBack.{layout-back}
+
+-- ---- the premises, as tests
+
+pub width-fine : (W : ℕ) → 60 ≤ W → W ≤ 132 → widthFine W ≡ true
+width-fine W l u = rw (le-leb 60 W l, le-leb W 132 u)
+
+pub length-fits : (t : Table) → ((n : ℕ) → t .locus .length ≡ is n → n < 4294967296) → lengthFits t ≡ true
+length-fits t h = go (t .locus .length) refl
+  where
+    go : (o : May ℕ) → t .locus .length ≡ o → ifIs (λ n. leb n 4294967295) o ≡ true
+    go absent e = refl
+    go (is n) e = let l : n < 4294967296 = h n e in le-leb n 4294967295 (omega arith)
+
+pub can-keep :
+    (W : ℕ) (truncate escape : Bool) (t : Table) → wellFormed W truncate escape t ≡ true → keeps W truncate escape t ≡ true → lengthFits t ≡ true →
+    keepable W truncate escape t ≡ true
+can-keep W truncate escape t f k n = rw (f, k, n)
+
+-- ---- the two writers
+
+not-refused : (n k : ℕ) (why : Unwritten) → room n k ≡ answer.Refused why → ⊥
+not-refused n k why e = go (leb k n) refl
+  where
+    go : (b : Bool) → leb k n ≡ b → ⊥
+    go true p = let z : _≡_ {A = ℕ} 0 1 = cc in omega arith
+    go false p = let z : _≡_ {A = ℕ} 0 1 = cc in omega arith
+
+module _ (W : ℕ) (truncate escape : Bool) (r : Rooms) (h : Head) (n : ℕ) where
+  pub as-plain : keeps W truncate escape (tableOf r h) ≡ true → keepingAnswer W truncate escape r h n ≡ plainAnswer W truncate escape r h n
+  unfolding keepingAnswer plainAnswer
+  as-plain e = rw e
+
+  pub refused-by-rule :
+      widthFine W ≡ true → roomsFine r h ≡ true → wellFormed W truncate escape (tableOf r h) ≡ true → keeps W truncate escape (tableOf r h) ≡ false →
+      keepingAnswer W truncate escape r h n ≡ answer.Refused unwritten.NotKept
+  unfolding keepingAnswer
+  refused-by-rule a b c d = rw (a, b, c, d)
+
+  pub rule-broken : keepingAnswer W truncate escape r h n ≡ answer.Refused unwritten.NotKept → keeps W truncate escape (tableOf r h) ≡ false
+  unfolding keepingAnswer
+  rule-broken e =
+      go (widthFine W) refl (roomsFine r h) refl (wellFormed W truncate escape (tableOf r h)) refl (keeps W truncate escape (tableOf r h)) refl
+    where
+      go :
+          (a : Bool) → widthFine W ≡ a → (b : Bool) → roomsFine r h ≡ b → (c : Bool) → wellFormed W truncate escape (tableOf r h) ≡ c → (d : Bool) →
+          keeps W truncate escape (tableOf r h) ≡ d → keeps W truncate escape (tableOf r h) ≡ false
+      go true p true q true s false u = u
+      go true p true q true s true u = absurd (not-refused n (length (written W truncate escape (tableOf r h))) unwritten.NotKept (cc))
+      go true p true q false s d u = let z : _≡_ {A = ℕ} 0 1 = cc in absurd (omega arith)
+      go true p false q c s d u = let z : _≡_ {A = ℕ} 0 1 = cc in absurd (omega arith)
+      go false p b q c s d u = let z : _≡_ {A = ℕ} 0 1 = cc in absurd (omega arith)
+
+  done-keeps : (k : ℕ) → keepingAnswer W truncate escape r h n ≡ answer.Done k → keeps W truncate escape (tableOf r h) ≡ true
+  unfolding keepingAnswer
+  done-keeps k e =
+      go (widthFine W) refl (roomsFine r h) refl (wellFormed W truncate escape (tableOf r h)) refl (keeps W truncate escape (tableOf r h)) refl
+    where
+      go :
+          (a : Bool) → widthFine W ≡ a → (b : Bool) → roomsFine r h ≡ b → (c : Bool) → wellFormed W truncate escape (tableOf r h) ≡ c → (d : Bool) →
+          keeps W truncate escape (tableOf r h) ≡ d → keeps W truncate escape (tableOf r h) ≡ true
+      go true p true q true s true u = u
+      go true p true q true s false u = let z : _≡_ {A = ℕ} 0 1 = cc in absurd (omega arith)
+      go true p true q false s d u = let z : _≡_ {A = ℕ} 0 1 = cc in absurd (omega arith)
+      go true p false q c s d u = let z : _≡_ {A = ℕ} 0 1 = cc in absurd (omega arith)
+      go false p b q c s d u = let z : _≡_ {A = ℕ} 0 1 = cc in absurd (omega arith)
+
+  pub done-as-plain : (k : ℕ) → keepingAnswer W truncate escape r h n ≡ answer.Done k → plainAnswer W truncate escape r h n ≡ answer.Done k
+  done-as-plain k e = sym (as-plain (done-keeps k e)) ∙ e
+
+-- ---- over rooms
+
+after-read : (text : List ℕ) (q : Rooms) (t : Table) (rest : List ℕ) → readAt text 0 ≡ Read t rest → fits (sizes t) q ≡ true → roomsAfter text 0 q ≡ overRooms (layout t) q
+unfolding roomsAfter roomsOf
+after-read text q t rest e f = rw (e, f)
+
+module _
+    (W : ℕ) (truncate escape : Bool) (r : Rooms) (h : Head) (old : List ℕ) (k : ℕ) (e : keepingAnswer W truncate escape r h (length old) ≡ answer.Done k)
+    (n : lengthFits (tableOf r h) ≡ true) (m : k ≤ 16777216) (q : Rooms) (f : fits (sizes (tableOf r h)) q ≡ true) (new : List ℕ)
+    (is-new : new ≡ sliceAfter (keepingAnswer W truncate escape r h (length old)) (written W truncate escape (tableOf r h)) old) where
+  text-is : take k new ≡ take k (sliceAfter (answer.Done k) (written W truncate escape (tableOf r h)) old)
+  text-is = ap (take k) is-new ∙ ap (λ a. take k (sliceAfter a (written W truncate escape (tableOf r h)) old)) e
+
+  pub read-done : readAnswer (take k new) 0 q ≡ read.Done (headOf (tableOf r h)) k
+  read-done =
+      rw text-is
+      (answer-read W truncate escape r h old k q e n (le-leb k most m) ∙
+      ap (λ b. pick b (read.Done (headOf (tableOf r h)) k) (read.Room (sizes (tableOf r h)))) f)
+
+  pub read-back : tableOf (roomsAfter (take k new) 0 q) (headOf (tableOf r h)) ≡ tableOf r h
+  read-back =
+      rw (after-read (take k new) q (tableOf r h) [] (rw text-is (answer-back W truncate escape r h old k e n (le-leb k most m))) f)
+      (layout-back (tableOf r h) q)
