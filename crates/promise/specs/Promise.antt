@@ -22,6 +22,7 @@ use Rattle.format.specs.declared.WriteAnswer.{WriteAnswer}
 use Rattle.format.specs.declared.WriteAnswer.the-variants as answer
 use Rattle.kept.specs.RecordBack.{lineEnds}
 use Rattle.kept.specs.RecordsBack.{keepable, kept-inside, Records, kept-all}
+use Rattle.promise.specs.EmptyLines.{EmptyLine, endBytes, lines-inside}
 use Rattle.promise.specs.Grounds.{width-fine, length-fits, can-keep, as-plain, refused-by-rule, rule-broken, done-as-plain, read-done, read-back}
 
 -- ---- the record comes back
@@ -44,6 +45,15 @@ pub record-comes-back :
 record-comes-back W truncate escape before t rest k e m =
     kept-inside W truncate escape (width-fine W (k .narrowest) (k .widest)) before t rest
     (can-keep W truncate escape t (k .laidOut) (k .rules) (length-fits t (k .bases))) e m
+
+-- Empty lines that follow the record are taken with it, whether they end with LF or with CR LF. They are no part of the table, and the next record
+-- is read from behind them.
+pub empty-lines-are-taken :
+    (W : ℕ) (truncate escape : Bool) (before : List ℕ) (t : Table) (lines : List EmptyLine) (rest : List ℕ) → Taken W truncate escape t →
+    lineEnds rest ≡ false → leb (length (before ++ (written W truncate escape t ++ (each endBytes lines ++ rest)))) most ≡ true →
+    readAt (before ++ (written W truncate escape t ++ (each endBytes lines ++ rest))) (length before) ≡ Read t rest
+empty-lines-are-taken W truncate escape before t lines rest k e m =
+    lines-inside W truncate escape before t lines rest (width-fine W (k .narrowest) (k .widest)) (k .laidOut) (k .rules) (length-fits t (k .bases)) e m
 
 -- Tables that are written one after the other are read back, all of them and in their order, each from the place where the one before ended. After
 -- the last one the reader says that there is no more.
