@@ -9,11 +9,11 @@ use lib.Dec.{leb}
 use borrow.Author.Tests.{le-leb}
 use Rattle.format.specs.Bytes.{pick, May, absent, is}
 use Rattle.format.specs.Table.{Table}
-use Rattle.format.specs.Record.{Read, most, readAt}
+use Rattle.format.specs.Record.{Outcome, Read, Not, most, readAt}
 use Rattle.format.specs.Write.{written}
 use Rattle.format.specs.WellFormed.{widthFine, ifIs, wellFormed}
 use Rattle.format.specs.Keeping.{keeps}
-use Rattle.format.specs.Rooms.{Rooms, tableOf, roomsFine, sizes, fits, headOf, layout, overRooms, readAnswer, roomsOf, roomsAfter}
+use Rattle.format.specs.Rooms.{Rooms, tableOf, lengthsFine, roomsFine, sizes, fits, headOf, layout, overRooms, answerOf, readAnswer, roomsOf, roomsAfter}
 use Rattle.format.specs.Answers.{room, keepingAnswer, plainAnswer, sliceAfter}
 use Rattle.format.specs.declared.Head.{Head}
 use Rattle.format.specs.declared.ReadAnswer.the-variants as read
@@ -24,6 +24,7 @@ use Rattle.kept.specs.LocusBack.{lengthFits}
 use Rattle.kept.specs.RecordsBack.{keepable}
 use Rattle.kept.specs.AnswersBack.{answer-back, answer-read}
 use Rattle.rooms.specs.LayoutBack.{layout-back}
+use Rattle.rooms.specs.LayoutFine.{layout-fine}
 
 -- ---- the premises, as tests
 
@@ -95,9 +96,44 @@ module _ (W : ℕ) (truncate escape : Bool) (r : Rooms) (h : Head) (n : ℕ) whe
 
 -- ---- over rooms
 
-after-read : (text : List ℕ) (q : Rooms) (t : Table) (rest : List ℕ) → readAt text 0 ≡ Read t rest → fits (sizes t) q ≡ true → roomsAfter text 0 q ≡ overRooms (layout t) q
+after-read :
+    (s : List ℕ) (at : ℕ) (q : Rooms) (t : Table) (rest : List ℕ) → readAt s at ≡ Read t rest → fits (sizes t) q ≡ true →
+    roomsAfter s at q ≡ overRooms (layout t) q
 unfolding roomsAfter roomsOf
-after-read text q t rest e f = rw (e, f)
+after-read s at q t rest e f = rw (e, f)
+
+module _ (s : List ℕ) (at : ℕ) (q : Rooms) (h : Head) (place : ℕ) where
+  -- what a reader's answer 0 says
+  pub record DoneBy : Type 0 where
+    table : Table
+    rest : List ℕ
+    reads : readAt s at ≡ Read table rest
+    fit : fits (sizes table) q ≡ true
+    answered : h ≡ headOf table
+
+  pub done-by : readAnswer s at q ≡ read.Done h place → DoneBy
+  unfolding readAnswer answerOf
+  done-by e = go (readAt s at) refl
+    where
+      fitted : (t : Table) (rest : List ℕ) → readAt s at ≡ Read t rest → (b : Bool) → fits (sizes t) q ≡ b → DoneBy
+      fitted t rest p true f = record { table = t; rest = rest; reads = p; fit = f; answered = cc }
+      fitted t rest p false f = let z : _≡_ {A = ℕ} 0 1 = cc in absurd (omega arith)
+
+      go : (o : Outcome) → readAt s at ≡ o → DoneBy
+      go (Read t rest) p = fitted t rest p (fits (sizes t) q) refl
+      go (Not why) p = let z : _≡_ {A = ℕ} 0 1 = cc in absurd (omega arith)
+
+  rooms-are : (d : DoneBy) → roomsAfter s at q ≡ overRooms (layout (d .table)) q
+  rooms-are d = after-read s at q (d .table) (d .rest) (d .reads) (d .fit)
+
+  pub done-holds : (t : Table) (rest : List ℕ) → DoneBy → readAt s at ≡ Read t rest → tableOf (roomsAfter s at q) h ≡ t
+  done-holds t rest d e =
+      let same : Read (d .table) (d .rest) ≡ Read t rest = sym (d .reads) ∙ e in
+      let t-is : d .table ≡ t = cc in
+      rw (rooms-are d, d .answered) (layout-back (d .table) q ∙ t-is)
+
+  pub done-fine : DoneBy → lengthsFine q ≡ true → roomsFine (roomsAfter s at q) h ≡ true
+  done-fine d l = rw (rooms-are d, d .answered) (layout-fine (d .table) q (d .fit) l)
 
 module _
     (W : ℕ) (truncate escape : Bool) (r : Rooms) (h : Head) (old : List ℕ) (k : ℕ) (e : keepingAnswer W truncate escape r h (length old) ≡ answer.Done k)
@@ -114,5 +150,5 @@ module _
 
   pub read-back : tableOf (roomsAfter (take k new) 0 q) (headOf (tableOf r h)) ≡ tableOf r h
   read-back =
-      rw (after-read (take k new) q (tableOf r h) [] (rw text-is (answer-back W truncate escape r h old k e n (le-leb k most m))) f)
+      rw (after-read (take k new) 0 q (tableOf r h) [] (rw text-is (answer-back W truncate escape r h old k e n (le-leb k most m))) f)
       (layout-back (tableOf r h) q)

@@ -12,7 +12,7 @@ use Rattle.format.specs.Record.{Read, most, readAt}
 use Rattle.format.specs.Write.{written}
 use Rattle.format.specs.WellFormed.{wellFormed}
 use Rattle.format.specs.Keeping.{keeps}
-use Rattle.format.specs.Rooms.{Rooms, tableOf, roomsFine, sizes, fits, headOf, readAnswer, roomsAfter}
+use Rattle.format.specs.Rooms.{Rooms, tableOf, lengthsFine, roomsFine, sizes, fits, headOf, readAnswer, roomsAfter}
 use Rattle.format.specs.Answers.{keepingAnswer, plainAnswer, sliceAfter}
 use Rattle.format.specs.declared.Head.{Head}
 use Rattle.format.specs.declared.ReadAnswer.{ReadAnswer}
@@ -23,7 +23,7 @@ use Rattle.format.specs.declared.WriteAnswer.the-variants as answer
 use Rattle.kept.specs.RecordBack.{lineEnds}
 use Rattle.kept.specs.RecordsBack.{keepable, kept-inside, Records, kept-all}
 use Rattle.promise.specs.EmptyLines.{EmptyLine, endBytes, lines-inside}
-use Rattle.promise.specs.Grounds.{width-fine, length-fits, can-keep, as-plain, refused-by-rule, rule-broken, done-as-plain, read-done, read-back}
+use Rattle.promise.specs.Grounds.{width-fine, length-fits, can-keep, as-plain, refused-by-rule, rule-broken, done-as-plain, done-by, done-holds, done-fine, read-done, read-back}
 
 -- ---- the record comes back
 
@@ -37,7 +37,7 @@ pub record Taken (W : ℕ) (truncate escape : Bool) (t : Table) : Type 0 where
   pub bases : (n : ℕ) → t .locus .length ≡ is n → n < 4294967296
 
 -- What is written of such a table is read back as that table, at any place of any slice of at most 16,777,216 bytes. Reading ends where the
--- record does, so that what follows is left, if it does not begin with a line end.
+-- record does, and leaves what follows, which may be nothing and does not begin with a line end.
 pub record-comes-back :
     (W : ℕ) (truncate escape : Bool) (before : List ℕ) (t : Table) (rest : List ℕ) → Taken W truncate escape t → lineEnds rest ≡ false →
     leb (length (before ++ (written W truncate escape t ++ rest))) most ≡ true →
@@ -62,7 +62,20 @@ pub records-come-back :
     leb (length (each (written W truncate escape) ts)) most ≡ true → Records (each (written W truncate escape) ts) 0 ts
 records-come-back W truncate escape l u ts k m = kept-all W truncate escape (width-fine W l u) ts k m
 
--- ---- the record comes back, over rooms
+-- ---- rooms
+
+-- When the reader answers that it is done, the head that it answers and the rooms afterwards hold the table that the definitions read at that place.
+-- What the rooms held before makes no difference.
+pub rooms-hold-what-was-read :
+    (s : List ℕ) (at : ℕ) (q : Rooms) (h : Head) (place : ℕ) (t : Table) (rest : List ℕ) → readAnswer s at q ≡ read.Done h place → readAt s at ≡ Read t rest →
+    tableOf (roomsAfter s at q) h ≡ t
+rooms-hold-what-was-read s at q h place t rest d e = done-holds s at q h place t rest (done-by s at q h place d) e
+
+-- What was read can be handed to a writer in the same rooms: number 10 is not due. That asks only that none of the rooms is longer than 16,777,216.
+pub what-was-read-can-be-written :
+    (s : List ℕ) (at : ℕ) (q : Rooms) (h : Head) (place : ℕ) → readAnswer s at q ≡ read.Done h place → lengthsFine q ≡ true →
+    roomsFine (roomsAfter s at q) h ≡ true
+what-was-read-can-be-written s at q h place d l = done-fine s at q h place (done-by s at q h place d) l
 
 -- The bytes that the keeping writer counts are read as done, up to their end. The head that is answered and the rooms afterwards hold the table of
 -- the rooms that were written.
@@ -98,7 +111,8 @@ pub thirteen-exactly :
 thirteen-exactly W truncate escape r h n l u a b =
     (rule-broken W truncate escape r h n, refused-by-rule W truncate escape r h n (width-fine W l u) a b)
 
--- Where no keeping rule is broken, the keeping writer answers what the plain one does, and so leaves the same bytes. It never answers 13 then.
+-- Where no keeping rule is broken, the keeping writer answers what the plain one does, whatever that is. So it refuses no more than the plain one,
+-- but by a rule.
 pub kept-as-plain :
     (W : ℕ) (truncate escape : Bool) (r : Rooms) (h : Head) (n : ℕ) → keeps W truncate escape (tableOf r h) ≡ true →
     keepingAnswer W truncate escape r h n ≡ plainAnswer W truncate escape r h n
