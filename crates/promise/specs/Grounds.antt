@@ -2,6 +2,7 @@
 use Prim.Native.Nat.{ℕ, _<_, _≤_}
 use native.Mathlib.Omega.{arith}
 use mathlib.Core.Bool.{Bool, true, false}
+use mathlib.Core.Logic.{_↔_}
 use mathlib.Core.Path.{_≡_, refl, ap, sym, _∙_}
 use mathlib.Core.List.{List, []}
 use lib.ListN.{length, take}
@@ -13,12 +14,15 @@ use Rattle.format.specs.Record.{Outcome, Read, Not, most, readAt}
 use Rattle.format.specs.Write.{written}
 use Rattle.format.specs.WellFormed.{widthFine, ifIs, wellFormed}
 use Rattle.format.specs.Keeping.{keeps}
-use Rattle.format.specs.Rooms.{Rooms, tableOf, lengthsFine, roomsFine, sizes, fits, headOf, layout, overRooms, answerOf, readAnswer, roomsOf, roomsAfter}
-use Rattle.format.specs.Answers.{room, keepingAnswer, plainAnswer, sliceAfter}
+use Rattle.format.specs.Rooms.{Rooms, tableOf, lengthsFine, roomsFine, sizes, fits, headOf, mayLength, layout, overRooms, answerOf, readAnswer, roomsOf, roomsAfter}
+use Rattle.format.specs.Answers.{room, keepingAnswer, plainAnswer, sliceAfter, number, valueWith}
 use Rattle.format.specs.declared.Head.{Head}
+use Rattle.format.specs.declared.Length.{Length}
+use Rattle.format.specs.declared.Length.the-variants as given
 use Rattle.format.specs.declared.ReadAnswer.the-variants as read
 use Rattle.format.specs.declared.Unwritten.{Unwritten}
 use Rattle.format.specs.declared.Unwritten.the-variants as unwritten
+use Rattle.format.specs.declared.WriteAnswer.{WriteAnswer}
 use Rattle.format.specs.declared.WriteAnswer.the-variants as answer
 use Rattle.kept.specs.LocusBack.{lengthFits}
 use Rattle.kept.specs.RecordsBack.{keepable}
@@ -37,6 +41,14 @@ length-fits t h = go (t .locus .length) refl
     go : (o : May ℕ) → t .locus .length ≡ o → ifIs (λ n. leb n 4294967295) o ≡ true
     go absent e = refl
     go (is n) e = let l : n < 4294967296 = h n e in le-leb n 4294967295 (omega arith)
+
+pub head-length-fits : (r : Rooms) (h : Head) → ((n : ℕ) → h .length ≡ given.Bases n → n < 4294967296) → lengthFits (tableOf r h) ≡ true
+unfolding tableOf
+head-length-fits r h f = go (h .length) refl
+  where
+    go : (o : Length) → h .length ≡ o → ifIs (λ n. leb n 4294967295) (mayLength o) ≡ true
+    go given.Absent e = refl
+    go (given.Bases n) e = let l : n < 4294967296 = f n e in le-leb n 4294967295 (omega arith)
 
 pub can-keep :
     (W : ℕ) (truncate escape : Bool) (t : Table) → wellFormed W truncate escape t ≡ true → keeps W truncate escape t ≡ true → lengthFits t ≡ true →
@@ -93,6 +105,41 @@ module _ (W : ℕ) (truncate escape : Bool) (r : Rooms) (h : Head) (n : ℕ) whe
 
   pub done-as-plain : (k : ℕ) → keepingAnswer W truncate escape r h n ≡ answer.Done k → plainAnswer W truncate escape r h n ≡ answer.Done k
   done-as-plain k e = sym (as-plain (done-keeps k e)) ∙ e
+
+-- two answers that equal the one that is due, with the slices that they leave
+pub one-answer :
+    (due : WriteAnswer) (text old : List ℕ) (a b : WriteAnswer) (x y : List ℕ) → a ≡ due → x ≡ sliceAfter a text old → b ≡ due → y ≡ sliceAfter b text old →
+    (a ≡ b) × (x ≡ y)
+one-answer due text old a b x y e f g i =
+    let p : a ≡ b = e ∙ sym g in
+    (p, f ∙ (ap (λ c. sliceAfter c text old) p ∙ sym i))
+
+-- ---- numbers
+
+pub zero-done : (a : WriteAnswer) (k : ℕ) → ((number a ≡ 0) × (valueWith a ≡ k)) ↔ (a ≡ answer.Done k)
+zero-done a k = (to a, back)
+  where
+    to : (a : WriteAnswer) → ((number a ≡ 0) × (valueWith a ≡ k)) → a ≡ answer.Done k
+    to (answer.Done n) h = ap answer.Done (h .1)
+    to (answer.Room n) h = let z : _≡_ {A = ℕ} 6 0 = h .0 in absurd (omega arith)
+    to (answer.Refused unwritten.BadRooms) h = let z : _≡_ {A = ℕ} 10 0 = h .0 in absurd (omega arith)
+    to (answer.Refused unwritten.NoLayout) h = let z : _≡_ {A = ℕ} 11 0 = h .0 in absurd (omega arith)
+    to (answer.Refused unwritten.BadWidth) h = let z : _≡_ {A = ℕ} 12 0 = h .0 in absurd (omega arith)
+    to (answer.Refused unwritten.NotKept) h = let z : _≡_ {A = ℕ} 13 0 = h .0 in absurd (omega arith)
+
+    back : a ≡ answer.Done k → (number a ≡ 0) × (valueWith a ≡ k)
+    back e = (ap number e, ap valueWith e)
+
+pub thirteen-not-kept : (a : WriteAnswer) → (number a ≡ 13) ↔ (a ≡ answer.Refused unwritten.NotKept)
+thirteen-not-kept a = (to a, λ e. ap number e)
+  where
+    to : (a : WriteAnswer) → number a ≡ 13 → a ≡ answer.Refused unwritten.NotKept
+    to (answer.Done n) h = let z : _≡_ {A = ℕ} 0 13 = h in absurd (omega arith)
+    to (answer.Room n) h = let z : _≡_ {A = ℕ} 6 13 = h in absurd (omega arith)
+    to (answer.Refused unwritten.BadRooms) h = let z : _≡_ {A = ℕ} 10 13 = h in absurd (omega arith)
+    to (answer.Refused unwritten.NoLayout) h = let z : _≡_ {A = ℕ} 11 13 = h in absurd (omega arith)
+    to (answer.Refused unwritten.BadWidth) h = let z : _≡_ {A = ℕ} 12 13 = h in absurd (omega arith)
+    to (answer.Refused unwritten.NotKept) h = refl
 
 -- ---- over rooms
 

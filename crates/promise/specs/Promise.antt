@@ -13,8 +13,9 @@ use Rattle.format.specs.Write.{written}
 use Rattle.format.specs.WellFormed.{wellFormed}
 use Rattle.format.specs.Keeping.{keeps}
 use Rattle.format.specs.Rooms.{Rooms, tableOf, lengthsFine, roomsFine, sizes, fits, headOf, readAnswer, roomsAfter}
-use Rattle.format.specs.Answers.{keepingAnswer, plainAnswer, sliceAfter}
+use Rattle.format.specs.Answers.{keepingAnswer, plainAnswer, sliceAfter, number, valueWith}
 use Rattle.format.specs.declared.Head.{Head}
+use Rattle.format.specs.declared.Length.the-variants as given
 use Rattle.format.specs.declared.ReadAnswer.{ReadAnswer}
 use Rattle.format.specs.declared.ReadAnswer.the-variants as read
 use Rattle.format.specs.declared.Unwritten.the-variants as unwritten
@@ -23,7 +24,7 @@ use Rattle.format.specs.declared.WriteAnswer.the-variants as answer
 use Rattle.kept.specs.RecordBack.{lineEnds}
 use Rattle.kept.specs.RecordsBack.{keepable, kept-inside, Records, kept-all}
 use Rattle.promise.specs.EmptyLines.{EmptyLine, endBytes, lines-inside}
-use Rattle.promise.specs.Grounds.{width-fine, length-fits, can-keep, as-plain, refused-by-rule, rule-broken, done-as-plain, done-by, done-holds, done-fine, read-done, read-back}
+use Rattle.promise.specs.Grounds.{width-fine, length-fits, head-length-fits, can-keep, as-plain, refused-by-rule, rule-broken, done-as-plain, done-by, done-holds, done-fine, read-done, read-back, one-answer, zero-done, thirteen-not-kept}
 
 -- ---- the record comes back
 
@@ -90,10 +91,10 @@ pub rooms-come-back :
     (W : ℕ) (truncate escape : Bool) (r : Rooms) (h : Head) (old new : List ℕ) (k : ℕ) →
     keepingAnswer W truncate escape r h (length old) ≡ answer.Done k →
     new ≡ sliceAfter (keepingAnswer W truncate escape r h (length old)) (written W truncate escape (tableOf r h)) old →
-    ((n : ℕ) → tableOf r h .locus .length ≡ is n → n < 4294967296) → k ≤ 16777216 →
+    ((n : ℕ) → h .length ≡ given.Bases n → n < 4294967296) → k ≤ 16777216 →
     (q : Rooms) → fits (sizes (tableOf r h)) q ≡ true → Back r h (take k new) k q
 rooms-come-back W truncate escape r h old new k e s n m q f =
-    let l = length-fits (tableOf r h) n in
+    let l = head-length-fits r h n in
     record {
       head = headOf (tableOf r h);
       done = read-done W truncate escape r h old k e l m q f new s;
@@ -110,6 +111,11 @@ pub thirteen-exactly :
     (keepingAnswer W truncate escape r h n ≡ answer.Refused unwritten.NotKept) ↔ (keeps W truncate escape (tableOf r h) ≡ false)
 thirteen-exactly W truncate escape r h n l u a b =
     (rule-broken W truncate escape r h n, refused-by-rule W truncate escape r h n (width-fine W l u) a b)
+
+-- Number 13 is that answer and no other. Number 0 with a count is the answer that so many bytes are written, and no other.
+pub numbers-name-answers :
+    (a : WriteAnswer) → ((number a ≡ 13) ↔ (a ≡ answer.Refused unwritten.NotKept)) × ((k : ℕ) → ((number a ≡ 0) × (valueWith a ≡ k)) ↔ (a ≡ answer.Done k))
+numbers-name-answers a = (thirteen-not-kept a, zero-done a)
 
 -- Where no keeping rule is broken, the keeping writer answers what the plain one does, whatever that is. So it refuses no more than the plain one,
 -- but by a rule.
@@ -137,17 +143,16 @@ pub reader-agrees :
     r₂ ≡ roomsAfter s at r → (a ≡ b) × (r₁ ≡ r₂)
 reader-agrees s at r a b r₁ r₂ e f g i = (e ∙ sym g, f ∙ sym i)
 
--- Two answers that a writer's contract permits for one call are equal, be it the plain writer or the keeping one. So are the slices afterwards.
-pub record OneAnswer (answers : WriteAnswer) (text old : List ℕ) : Type 0 where
-  pub agree :
-      (a b : WriteAnswer) (x y : List ℕ) → a ≡ answers → x ≡ sliceAfter answers text old → b ≡ answers → y ≡ sliceAfter answers text old → (a ≡ b) × (x ≡ y)
-
+-- Two answers that the plain writer's contract permits for one call are equal. So are the slices afterwards.
 pub plain-agrees :
-    (W : ℕ) (truncate escape : Bool) (r : Rooms) (h : Head) (old : List ℕ) →
-    OneAnswer (plainAnswer W truncate escape r h (length old)) (written W truncate escape (tableOf r h)) old
-plain-agrees W truncate escape r h old = record { agree = λ a b x y e f g i. (e ∙ sym g, f ∙ sym i) }
+    (W : ℕ) (truncate escape : Bool) (r : Rooms) (h : Head) (old : List ℕ) (a b : WriteAnswer) (x y : List ℕ) →
+    a ≡ plainAnswer W truncate escape r h (length old) → x ≡ sliceAfter a (written W truncate escape (tableOf r h)) old →
+    b ≡ plainAnswer W truncate escape r h (length old) → y ≡ sliceAfter b (written W truncate escape (tableOf r h)) old → (a ≡ b) × (x ≡ y)
+plain-agrees W truncate escape r h old = one-answer (plainAnswer W truncate escape r h (length old)) (written W truncate escape (tableOf r h)) old
 
+-- Two answers that the keeping writer's contract permits for one call are equal. So are the slices afterwards.
 pub keeping-agrees :
-    (W : ℕ) (truncate escape : Bool) (r : Rooms) (h : Head) (old : List ℕ) →
-    OneAnswer (keepingAnswer W truncate escape r h (length old)) (written W truncate escape (tableOf r h)) old
-keeping-agrees W truncate escape r h old = record { agree = λ a b x y e f g i. (e ∙ sym g, f ∙ sym i) }
+    (W : ℕ) (truncate escape : Bool) (r : Rooms) (h : Head) (old : List ℕ) (a b : WriteAnswer) (x y : List ℕ) →
+    a ≡ keepingAnswer W truncate escape r h (length old) → x ≡ sliceAfter a (written W truncate escape (tableOf r h)) old →
+    b ≡ keepingAnswer W truncate escape r h (length old) → y ≡ sliceAfter b (written W truncate escape (tableOf r h)) old → (a ≡ b) × (x ≡ y)
+keeping-agrees W truncate escape r h old = one-answer (keepingAnswer W truncate escape r h (length old)) (written W truncate escape (tableOf r h)) old
