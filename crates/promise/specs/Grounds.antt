@@ -1,5 +1,5 @@
 -- Why the promises hold: the longer proofs that Promise.antt cites.
-use Prim.Native.Nat.{ℕ, _<_, _≤_}
+use Prim.Native.Nat.{ℕ, _-_, _<_, _≤_}
 use native.Mathlib.Omega.{arith}
 use mathlib.Core.Bool.{Bool, true, false}
 use mathlib.Core.Logic.{_↔_}
@@ -157,13 +157,14 @@ module _ (s : List ℕ) (at : ℕ) (q : Rooms) (h : Head) (place : ℕ) where
     reads : readAt s at ≡ Read table rest
     fit : fits (sizes table) q ≡ true
     answered : h ≡ headOf table
+    ended : place ≡ length s - length rest
 
   pub done-by : readAnswer s at q ≡ read.Done h place → DoneBy
   unfolding readAnswer answerOf
   done-by e = go (readAt s at) refl
     where
       fitted : (t : Table) (rest : List ℕ) → readAt s at ≡ Read t rest → (b : Bool) → fits (sizes t) q ≡ b → DoneBy
-      fitted t rest p true f = record { table = t; rest = rest; reads = p; fit = f; answered = cc }
+      fitted t rest p true f = record { table = t; rest = rest; reads = p; fit = f; answered = cc; ended = cc }
       fitted t rest p false f = let z : _≡_ {A = ℕ} 0 1 = cc in absurd (omega arith)
 
       go : (o : Outcome) → readAt s at ≡ o → DoneBy
@@ -178,6 +179,12 @@ module _ (s : List ℕ) (at : ℕ) (q : Rooms) (h : Head) (place : ℕ) where
       let same : Read (d .table) (d .rest) ≡ Read t rest = sym (d .reads) ∙ e in
       let t-is : d .table ≡ t = cc in
       rw (rooms-are d, d .answered) (layout-back (d .table) q ∙ t-is)
+
+  pub done-ends : (t : Table) (rest : List ℕ) → DoneBy → readAt s at ≡ Read t rest → place ≡ length s - length rest
+  done-ends t rest d e =
+      let same : Read (d .table) (d .rest) ≡ Read t rest = sym (d .reads) ∙ e in
+      let rest-is : d .rest ≡ rest = cc in
+      d .ended ∙ ap (λ l. length s - length l) rest-is
 
   pub done-fine : DoneBy → lengthsFine q ≡ true → roomsFine (roomsAfter s at q) h ≡ true
   done-fine d l = rw (rooms-are d, d .answered) (layout-fine (d .table) q (d .fit) l)

@@ -1,5 +1,5 @@
 -- WHAT IS PROMISED. Each statement can be read without its proof.
-use Prim.Native.Nat.{ℕ, _<_, _≤_}
+use Prim.Native.Nat.{ℕ, _-_, _<_, _≤_}
 use mathlib.Core.Bool.{Bool, true, false}
 use mathlib.Core.Logic.{_↔_}
 use mathlib.Core.Path.{_≡_, sym, ap, _∙_}
@@ -24,7 +24,7 @@ use Rattle.format.specs.declared.WriteAnswer.the-variants as answer
 use Rattle.kept.specs.RecordBack.{lineEnds}
 use Rattle.kept.specs.RecordsBack.{keepable, kept-inside, Records, kept-all}
 use Rattle.promise.specs.EmptyLines.{EmptyLine, endBytes, lines-inside}
-use Rattle.promise.specs.Grounds.{width-fine, length-fits, head-length-fits, can-keep, as-plain, refused-by-rule, rule-broken, done-as-plain, done-by, done-holds, done-fine, read-done, read-back, one-answer, zero-done, thirteen-not-kept}
+use Rattle.promise.specs.Grounds.{width-fine, length-fits, head-length-fits, can-keep, as-plain, refused-by-rule, rule-broken, done-as-plain, done-by, done-holds, done-ends, done-fine, read-done, read-back, one-answer, zero-done, thirteen-not-kept}
 
 -- ---- the record comes back
 
@@ -65,12 +65,14 @@ records-come-back W truncate escape l u ts k m = kept-all W truncate escape (wid
 
 -- ---- rooms
 
--- When the reader answers that it is done, the head that it answers and the rooms afterwards hold the table that the definitions read at that place.
--- What the rooms held before makes no difference.
+-- When the reader answers that it is done, the head that it answers and the rooms afterwards hold the table that the definitions read at that place,
+-- whatever the rooms held before. The place that it answers is where the definitions stop, with `rest` left of the slice.
 pub rooms-hold-what-was-read :
     (s : List ℕ) (at : ℕ) (q : Rooms) (h : Head) (place : ℕ) (t : Table) (rest : List ℕ) → readAnswer s at q ≡ read.Done h place → readAt s at ≡ Read t rest →
-    tableOf (roomsAfter s at q) h ≡ t
-rooms-hold-what-was-read s at q h place t rest d e = done-holds s at q h place t rest (done-by s at q h place d) e
+    (tableOf (roomsAfter s at q) h ≡ t) × (place ≡ length s - length rest)
+rooms-hold-what-was-read s at q h place t rest d e =
+    let by = done-by s at q h place d in
+    (done-holds s at q h place t rest by e, done-ends s at q h place t rest by e)
 
 -- What was read can be handed to a writer in the same rooms: number 10 is not due. That asks only that none of the rooms is longer than 16,777,216.
 pub what-was-read-can-be-written :
