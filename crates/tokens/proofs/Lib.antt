@@ -1,0 +1,4 @@
+pub mod Cuts
+pub mod Worded
+pub mod Digits
+pub mod Counted

@@ -1,0 +1,27 @@
+use borrow.Author.Tests.{le-leb, lt-leb}
+use Prim.Native.Nat.{ℕ, suc, _+_, _-_, _*_, _/_, _%_, _≤_, _<_}
+use mathlib.Core.Path.{_≡_, refl, sym, ap, _∙_}
+use lib.ListN.{length, getD, take, drop, set}
+use native.Mathlib.Omega.{arith}
+use denote.Ref.{now}
+use borrow.Author.Needs.{needs}
+use Rattle.tokens.proofs.is_plain.Statement.{statement}
+use Rattle.tokens.proofs.is_plain.Tie as tie
+use Rattle.tokens.proofs.is_plain.Reads as reads
+use Rattle.tokens.proofs.is_plain.Lts as lts
+use Rattle.tokens.proofs.is_blank.Reads as is-blank-reads
+
+is-blank-requires : tie.Need-is-blank-requires
+is-blank-requires c κs = search needs
+
+returns : tie.Need-returns
+returns c = rw (← c .before .is-blank .ensures, c .if1 .taken)
+
+returns-2 : tie.Need-returns-2
+returns-2 c = rw (← c .before .before .is-blank .ensures, c .before .if1 .left, le-leb _ _ (c .if2 .taken))
+
+returns-3 : tie.Need-returns-3
+returns-3 c = rw (← c .before .before .is-blank .ensures, c .before .if1 .left, lt-leb _ _ (c .if2 .left))
+
+pub is-plain-spec : {M : Type 1} → statement M
+is-plain-spec = tie.close (tie.spec is-blank-requires returns returns-2 returns-3)
