@@ -18,10 +18,10 @@ pub record Laid (t : Table) (r : Rooms) : Type 0 where
   pub comments : Held (r .texts) (commentsAt t) (textsOf commentPieces (t .comments))
   pub features : Held (r .texts) (featuresAt t) (each featureText (t .features))
   pub contig : Held (r .texts) (contigAt t) (pieceText (perhaps (t .contig)))
-  pub referenceRows : Held (r .references) 0 (rowsOf referencePieces (referencesAt t) (t .references))
-  pub commentRows : Held (r .comments) 0 (rowsOf commentPieces (commentsAt t) (t .comments))
-  pub featureRows′ : Held (r .features) 0 (featureRows (featuresAt t) 0 (t .features))
-  pub qualifierRows′ : Held (r .qualifiers) 0 (qualifierRows (featuresAt t) (t .features))
+  pub referencesRows : Held (r .references) 0 (rowsOf referencePieces (referencesAt t) (t .references))
+  pub commentsRows : Held (r .comments) 0 (rowsOf commentPieces (commentsAt t) (t .comments))
+  pub featuresRows : Held (r .features) 0 (featureRows (featuresAt t) 0 (t .features))
+  pub qualifiersRows : Held (r .qualifiers) 0 (qualifierRows (featuresAt t) (t .features))
   pub letters : Held (r .letters) 0 (t .letters)
 
 pub layout-laid : (t : Table) (r : Rooms) → Laid t (overRooms (layout t) r)
@@ -47,10 +47,10 @@ layout-laid t r =
       comments = held-at S _ _ C e₂ (held-right S 0 (H ++ R) C b);
       features = held-at S _ _ F e₃ (held-right S 0 (H ++ R ++ C) F a);
       contig = held-at S _ _ G e₄ (held-right S 0 (H ++ R ++ C ++ F) G whole);
-      referenceRows = held-first (rowsOf referencePieces (referencesAt t) (t .references)) _;
-      commentRows = held-first (rowsOf commentPieces (commentsAt t) (t .comments)) _;
-      featureRows′ = held-first (featureRows (featuresAt t) 0 (t .features)) _;
-      qualifierRows′ = held-first (qualifierRows (featuresAt t) (t .features)) _;
+      referencesRows = held-first (rowsOf referencePieces (referencesAt t) (t .references)) _;
+      commentsRows = held-first (rowsOf commentPieces (commentsAt t) (t .comments)) _;
+      featuresRows = held-first (featureRows (featuresAt t) 0 (t .features)) _;
+      qualifiersRows = held-first (qualifierRows (featuresAt t) (t .features)) _;
       letters = held-first (t .letters) _;
     }
 
@@ -190,13 +190,13 @@ two-wide x start = pieces-long start (commentPieces x)
 
 module _ (t : Table) (r : Rooms) (l : Laid t r) where
   pub references-good : EachRow (λ at x. AllGood (r .texts) (r .references) at 0 (referencePieces x)) 14 0 (t .references)
-  references-good = rows-good referencePieces 14 fourteen-wide (r .texts) (r .references) (t .references) (referencesAt t) 0 (l .references) (l .referenceRows)
+  references-good = rows-good referencePieces 14 fourteen-wide (r .texts) (r .references) (t .references) (referencesAt t) 0 (l .references) (l .referencesRows)
 
   pub comments-good : EachRow (λ at x. AllGood (r .texts) (r .comments) at 0 (commentPieces x)) 2 0 (t .comments)
-  comments-good = rows-good commentPieces 2 two-wide (r .texts) (r .comments) (t .comments) (commentsAt t) 0 (l .comments) (l .commentRows)
+  comments-good = rows-good commentPieces 2 two-wide (r .texts) (r .comments) (t .comments) (commentsAt t) 0 (l .comments) (l .commentsRows)
 
   pub table-features-good : FeaturesGood r 0 0 (t .features)
-  table-features-good = features-good r (t .features) (featuresAt t) 0 0 (l .features) (l .featureRows′) (l .qualifierRows′)
+  table-features-good = features-good r (t .features) (featuresAt t) 0 0 (l .features) (l .featuresRows) (l .qualifiersRows)
 
   references-back : rowsFrom (referenceIn r) 14 0 (length (t .references)) ≡ t .references
   references-back = rows-read (λ at x. AllGood (r .texts) (r .references) at 0 (referencePieces x)) 14 (referenceIn r) (reference-back r) 0 (t .references) references-good

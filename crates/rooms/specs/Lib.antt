@@ -1,3 +1,5 @@
 pub mod Held
 pub mod Rows
 pub mod LayoutBack
+pub mod LayoutLengths
+pub mod LayoutFine

@@ -1,0 +1,3 @@
+pub mod EmptyLines
+pub mod Grounds
+pub mod Promise
