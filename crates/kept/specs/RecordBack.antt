@@ -9,13 +9,13 @@ use lib.Dec.{leb}
 use borrow.Author.Tests.{leb-true}
 use Rattle.format.specs.Bytes.{May, absent, is, bytes, spaces, starts, all, but, letter}
 use Rattle.format.specs.Utf8.{utf8}
-use Rattle.format.specs.Readers.{Ans, Got, No, Cut, optional, tag, lineEnd, end, whileFits}
+use Rattle.format.specs.Readers.{Ans, Got, No, Cut, optional, tag, lineEnd, whileFits}
 use Rattle.format.specs.Table.{Feature, Table}
 use Rattle.format.specs.Locus.{preamble, locus}
 use Rattle.format.specs.Header.{fieldBytes, field, reference, source, ignoredLine, headerField, every, textIn}
 use Rattle.format.specs.Features.{featuresHeader, locationText}
-use Rattle.format.specs.Origin.{originTag, letters}
-use Rattle.format.specs.Record.{Read, features, baseCount, contig, slashesAt, promised, withLetters, afterOrigin, listOf, middle, tableFrom, readRecord}
+use Rattle.format.specs.Origin.{originTag}
+use Rattle.format.specs.Record.{Outcome, Read, features, baseCount, contig, slashesAt, promised, withLetters, afterOrigin, listOf, middle, tableFrom, readRecord}
 use Rattle.format.specs.Write.{locusText, headerLines, featuresLines, contigLines, originLines, written}
 use Rattle.format.specs.Wrap.{wrapLocation}
 use Rattle.format.specs.WellFormed.{widthFine, ifIs, headerTexts, featureFine, lettersFine, locusFine, wellFormed}
@@ -142,7 +142,7 @@ lineEnds s = got (lineEnd s)
     got No = false
     got Cut = false
 
-end-taken : (rest : List ℕ) → lineEnds rest ≡ false → whileFits lineEnd rest ≡ Got [] rest
+pub end-taken : (rest : List ℕ) → lineEnds rest ≡ false → whileFits lineEnd rest ≡ Got [] rest
 end-taken rest h = go (lineEnd rest) refl
   where
     go : (o : Ans (List ℕ)) → lineEnd rest ≡ o → whileFits lineEnd rest ≡ Got [] rest
@@ -172,14 +172,12 @@ fine-letters o b l h = h
 
 -- t is the table without its letters
 origin-section :
-    (t : Table) (l rest : List ℕ) → withLetters t [] ≡ t → lettersFine (t .locus .length) l ≡ true → lineEnds rest ≡ false →
-    afterOrigin t (originLines l ++ (bytes "//\n" ++ rest)) (originTag (originLines l ++ (bytes "//\n" ++ rest))) ≡ Read (withLetters t l) rest
-origin-section t [] rest e h f = rw (no-letters (bytes "//\n" ++ rest), no-origin rest, e) (slashes-back t rest f)
-origin-section t (b ∷ l) rest e h f =
+    (t : Table) (l s : List ℕ) → withLetters t [] ≡ t → lettersFine (t .locus .length) l ≡ true →
+    afterOrigin t (originLines l ++ (bytes "//\n" ++ s)) (originTag (originLines l ++ (bytes "//\n" ++ s))) ≡ slashesAt (withLetters t l) (bytes "//\n" ++ s)
+origin-section t [] s e h = rw (no-letters (bytes "//\n" ++ s), no-origin s, e)
+origin-section t (b ∷ l) s e h =
     let k = fine-letters (t .locus .length) b l h in
-    rw
-    (origin-back b l (bytes "//\n" ++ rest), numbered-back b l (47 ∷ 10 ∷ rest) (and-left (all letter (b ∷ l)) _ k), and-right (all letter (b ∷ l)) _ k)
-    (slashes-back (withLetters t (b ∷ l)) rest f)
+    rw (origin-back b l (bytes "//\n" ++ s), numbered-back b l (47 ∷ 10 ∷ s) (and-left (all letter (b ∷ l)) _ k), and-right (all letter (b ∷ l)) _ k)
 
 -- ---- the table again
 
@@ -212,11 +210,11 @@ unfolding locusText
 preamble-none t s = preamble-back _
 
 record-steps :
-    (t : Table) (s s₁ s₂ s₃ rest : List ℕ) → preamble s ≡ Got tt s → locus s ≡ Got (t .locus) s₁ → whileFits headerField s₁ ≡ Got (fieldsOf t) s₂ →
-    middle s₂ ≡ Got (record { features = t .features; contig = t .contig }) s₃ → afterOrigin (bare t) s₃ (originTag s₃) ≡ Read t rest →
-    readRecord s ≡ Read t rest
+    (t : Table) (s s₁ s₂ s₃ : List ℕ) (o : Outcome) → preamble s ≡ Got tt s → locus s ≡ Got (t .locus) s₁ → whileFits headerField s₁ ≡ Got (fieldsOf t) s₂ →
+    middle s₂ ≡ Got (record { features = t .features; contig = t .contig }) s₃ → afterOrigin (bare t) s₃ (originTag s₃) ≡ o →
+    readRecord s ≡ o
 unfolding readRecord bare
-record-steps t s s₁ s₂ s₃ rest e₁ e₂ e₃ e₄ e₅ = rw (e₁, e₂, e₃, one-definition t, e₄) e₅
+record-steps t s s₁ s₂ s₃ o e₁ e₂ e₃ e₄ e₅ = rw (e₁, e₂, e₃, one-definition t, e₄) e₅
 
 regroup₆ : (a b c d e f r : List ℕ) → (a ++ b ++ c ++ d ++ e ++ f) ++ r ≡ a ++ (b ++ (c ++ (d ++ (e ++ (f ++ r)))))
 regroup₆ a b c d e f r = simp append-assoc
@@ -255,20 +253,20 @@ rules W t f k =
     }
 
 record-back :
-    (W : ℕ) (t : Table) (rest : List ℕ) → 21 < W → Rules W t → lengthFits t ≡ true → lineEnds rest ≡ false →
-    readRecord (written W false false t ++ rest) ≡ Read t rest
+    (W : ℕ) (t : Table) (rest : List ℕ) → 21 < W → Rules W t → lengthFits t ≡ true →
+    readRecord (written W false false t ++ rest) ≡ slashesAt t (bytes "//\n" ++ rest)
 unfolding written
-record-back W t rest w r n e =
+record-back W t rest w r n =
     let s₃ : List ℕ = originLines (t .letters) ++ (bytes "//\n" ++ rest) in
     let s₂ : List ℕ = featuresLines W (t .features) ++ (contigLines W (t .contig) ++ s₃) in
     let s₁ : List ℕ = headerLines W t ++ s₂ in
     let o =
-    origin-section (bare t) (t .letters) rest (bare-none t) (rw (bare-locus t) (r .lettersFine′)) e ∙
-    ap (λ (x : Table). Read x rest) (bare-whole t) in
+    origin-section (bare t) (t .letters) rest (bare-none t) (rw (bare-locus t) (r .lettersFine′)) ∙
+    ap (λ (x : Table). slashesAt x (bytes "//\n" ++ rest)) (bare-whole t) in
     rw
     (regroup₆ (locusText false false t) (headerLines W t) (featuresLines W (t .features)) (contigLines W (t .contig)) (originLines (t .letters))
     (bytes "//\n") rest)
-    (record-steps t (locusText false false t ++ s₁) s₁ s₂ s₃ rest (preamble-none t s₁) (locus-back t s₁ (r .locusFine′) (r .locusKept′) n)
+    (record-steps t (locusText false false t ++ s₁) s₁ s₂ s₃ (slashesAt t (bytes "//\n" ++ rest)) (preamble-none t s₁) (locus-back t s₁ (r .locusFine′) (r .locusKept′) n)
     (header-back W t s₂ (r .headerKept′) (r .headerUtf8) (r .pubmed) (features-start W (t .features) (t .contig) (t .letters) rest)
     (no-header W (t .features) (t .contig) (t .letters) rest))
     (middle-steps (t .features) (t .contig) s₂ (contigLines W (t .contig) ++ s₃) s₃
@@ -276,15 +274,21 @@ record-back W t rest w r n e =
     (no-count W (t .contig) (t .letters) rest) (contig-section W (t .contig) (t .letters) rest (r .contigFine)))
     o)
 
+-- a table that the keeping writer takes, with a length that a LOCUS line can give (every length of 32 bits), is read up to its `//`, whatever follows
+pub kept-then :
+    (W : ℕ) (truncate escape : Bool) (t : Table) (rest : List ℕ) → widthFine W ≡ true → wellFormed W truncate escape t ≡ true →
+    keeps W truncate escape t ≡ true → lengthFits t ≡ true → readRecord (written W truncate escape t ++ rest) ≡ slashesAt t (bytes "//\n" ++ rest)
+unfolding keeps
+kept-then W false false t rest w f k n =
+    let l : 60 ≤ W = leb-true 60 W (and-left (leb 60 W) _ w) in
+    record-back W t rest (omega arith) (rules W t f k) n
+kept-then W false true t rest w f k n = let z : _≡_ {A = ℕ} 0 1 = cc in absurd (omega arith)
+kept-then W true false t rest w f k n = let z : _≡_ {A = ℕ} 0 1 = cc in absurd (omega arith)
+kept-then W true true t rest w f k n = let z : _≡_ {A = ℕ} 0 1 = cc in absurd (omega arith)
+
 -- DEMAND 3 about the definitions. A table that the keeping writer takes, with a length that a LOCUS line can give (every length of 32 bits),
 -- is read back from what is written of it, whatever follows but a line end, which the reader would take too
 pub kept :
     (W : ℕ) (truncate escape : Bool) (t : Table) (rest : List ℕ) → widthFine W ≡ true → wellFormed W truncate escape t ≡ true →
     keeps W truncate escape t ≡ true → lengthFits t ≡ true → lineEnds rest ≡ false → readRecord (written W truncate escape t ++ rest) ≡ Read t rest
-unfolding keeps
-kept W false false t rest w f k n e =
-    let l : 60 ≤ W = leb-true 60 W (and-left (leb 60 W) _ w) in
-    record-back W t rest (omega arith) (rules W t f k) n e
-kept W false true t rest w f k n e = let z : _≡_ {A = ℕ} 0 1 = cc in absurd (omega arith)
-kept W true false t rest w f k n e = let z : _≡_ {A = ℕ} 0 1 = cc in absurd (omega arith)
-kept W true true t rest w f k n e = let z : _≡_ {A = ℕ} 0 1 = cc in absurd (omega arith)
+kept W truncate escape t rest w f k n e = kept-then W truncate escape t rest w f k n ∙ slashes-back t rest e

@@ -30,11 +30,11 @@ module _ (W : ℕ) (truncate escape : Bool) where
   unfolding written locusText lineEnd
   written-starts t rest = refl
 
-  written-some : (t : Table) (rest : List ℕ) → 0 < length (written W truncate escape t ++ rest)
+  pub written-some : (t : Table) (rest : List ℕ) → 0 < length (written W truncate escape t ++ rest)
   unfolding written locusText
   written-some t rest = omega arith
 
-at-steps :
+pub at-steps :
     (s before x : List ℕ) (o : Outcome) → s ≡ before ++ x → 0 < length x → leb (length s) most ≡ true → readRecord x ≡ o → readAt s (length before) ≡ o
 unfolding readAt
 at-steps s before x o p l m e =
