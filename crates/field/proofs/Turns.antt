@@ -1,15 +1,12 @@
 -- Further lines one by one, and a text made of its first line and of them. Assumes nothing.
 use Prim.Native.Nat.{ℕ, _+_, _-_, _≤_, _<_}
-use mathlib.Core.Path.{_≡_, refl, sym, ap, _∙_, subst}
+use mathlib.Core.Path.{_≡_, refl, sym, ap, _∙_}
 use mathlib.Core.Bool.{Bool, true, false}
-use mathlib.Core.List.{List, [], _∷_, _++_, append-assoc, append-nil}
+use mathlib.Core.List.{List, [], _++_, append-assoc, append-nil}
 use native.Mathlib.Omega.{arith}
 use lib.ListN.{length, drop, length-append}
-use Rattle.format.specs.Bytes.{each}
-use Rattle.format.specs.Readers.{Ans, Got, No, Cut, bind, mapped, line, many0}
-use Rattle.format.specs.Header.{lineAfter, concatLines, furtherLine, fieldText}
-use Rattle.laws.specs.Loops.{many0-more, many0-stop, many0-cut}
-use Rattle.laws.specs.Shrinks.{further-small}
+use Rattle.format.specs.Readers.{Ans, Got, No, Cut, bind, mapped, line}
+use Rattle.format.specs.Header.{lineAfter, furtherLine, fieldText}
 use Rattle.chars.specs.declared.Step.{Step}
 use Rattle.chars.specs.declared.Step.the-variants as step
 use Rattle.chars.specs.declared.Line.{Line}
@@ -19,11 +16,11 @@ use Rattle.chars.specs.Parts.{length-part}
 use Rattle.chars.specs.Views.{Stepped, Lined}
 use Rattle.chars.specs.Sequence.{step-places, line-places, line-is}
 use Rattle.field.specs.declared.Judge.{Judge}
-use Rattle.field.specs.declared.Piece.{Piece}
 use Rattle.field.specs.declared.Piece.the-variants as piece
 use Rattle.field.specs.declared.Joined.{Joined}
 use Rattle.field.specs.declared.Joined.the-variants as joined
 use Rattle.field.specs.Judges.{fresh, Judged, judged-none, judged-append}
+use Rattle.field.specs.Lines.{further-more, further-stop, further-cut, text-further}
 use Rattle.field.specs.Texts.{further, grownBy, Pieced, PastPiece, ReadAs, Joins}
 
 -- ---- a further line
@@ -49,36 +46,6 @@ module _ (s : List ℕ) (at : ℕ) (o : Ans Unit) (r : Step) (f : Unit → List 
         record { is = rw (← h .is, e, ← l .is, k); place = (omega arith, omega arith, omega arith, omega arith) }
 
 pub ruleset piecing = (piece-no, piece-cut, piece-line-no, piece-line-cut, piece-got)
-
-pub piece-places : {s : List ℕ} {at : ℕ} {o : Ans (List ℕ)} {r : Piece} {f e n : ℕ} → Pieced s at o r → r ≡ piece.Got f e n → PastPiece s at (piece.Got f e n)
-piece-places {s} {at} h q = subst (λ (x : Piece). PastPiece s at x) q (h .place)
-
-pub piece-is : {s : List ℕ} {at : ℕ} {o : Ans (List ℕ)} {r : Piece} {f e n : ℕ} → Pieced s at o r → r ≡ piece.Got f e n → o ≡ Got (part f e s) (drop n s)
-piece-is h q = rw (← h .is, q)
-
-pub piece-is-no : {s : List ℕ} {at : ℕ} {o : Ans (List ℕ)} {r : Piece} → Pieced s at o r → r ≡ piece.No → o ≡ No
-piece-is-no h q = rw (← h .is, q)
-
-pub piece-is-cut : {s : List ℕ} {at : ℕ} {o : Ans (List ℕ)} {r : Piece} → Pieced s at o r → r ≡ piece.Cut → o ≡ Cut
-piece-is-cut h q = rw (← h .is, q)
-
--- ---- further lines
-
-join : (keep : Bool) (o : Ans (List (List ℕ))) (l : List ℕ)
-    → mapped (each (lineAfter keep)) (mapped (λ t. l ∷ t) o) ≡ mapped (λ m. lineAfter keep l ++ m) (mapped (each (lineAfter keep)) o)
-join keep (Got t r) l = refl
-join keep No l = refl
-join keep Cut l = refl
-
-module _ (n : ℕ) (keep : Bool) (xs : List ℕ) where
-  pub further-more : (l ys : List ℕ) → furtherLine n xs ≡ Got l ys → further n keep xs ≡ mapped (λ m. lineAfter keep l ++ m) (further n keep ys)
-  further-more l ys e = ap (mapped (each (lineAfter keep))) (many0-more (furtherLine n) (further-small n) xs l ys e) ∙ join keep (many0 (furtherLine n) ys) l
-
-  pub further-stop : furtherLine n xs ≡ No → further n keep xs ≡ Got [] xs
-  further-stop e = ap (mapped (each (lineAfter keep))) (many0-stop (furtherLine n) xs e)
-
-  pub further-cut : furtherLine n xs ≡ Cut → further n keep xs ≡ Cut
-  further-cut e = ap (mapped (each (lineAfter keep))) (many0-cut (furtherLine n) xs e)
 
 -- the answer of the whole is `text` and the answer from here
 pub record Reading (o rest : Ans (List ℕ)) (u v : Judge) (before size : ℕ) : Type 0 where
@@ -138,15 +105,6 @@ reading-stop n keep o u v before size s at i now e p q k =
     }
 
 -- ---- a text
-
-text-further : (n : ℕ) (keep : Bool) (xs first ys : List ℕ) → line xs ≡ Got first ys → fieldText n keep xs ≡ mapped (λ m. first ++ m) (further n keep ys)
-unfolding fieldText
-text-further n keep xs first ys e = rw e (go (many0 (furtherLine n) ys))
-  where
-    go : (o : Ans (List (List ℕ))) → bind o (λ rest z. Got (concatLines keep first rest) z) ≡ mapped (λ m. first ++ m) (mapped (each (lineAfter keep)) o)
-    go (Got t r) = refl
-    go No = refl
-    go Cut = refl
 
 module _ (n : ℕ) (keep : Bool) (s : List ℕ) (at : ℕ) (r : Line) (h : Lined s at (line (drop at s)) r) where
   pub text-no : r ≡ line′.No → Joins s at (fieldText n keep (drop at s)) fresh 0 joined.No

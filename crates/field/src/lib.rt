@@ -139,7 +139,7 @@ fn grown(keep: bool, front: usize, n: usize) -> usize
     if keep { front + n + 1 } else { front + n }
 }
 
-fn further_line(s: &[u8], at: usize, columns: usize) -> Piece
+pub fn further_line(s: &[u8], at: usize, columns: usize) -> Piece
     requires { ⌜ at ≤ length (now s) ⌝ }
     ensures { λ r. ⌜ Pieced (now (s .entry)) at (furtherLine columns (drop at (now (s .entry)))) r ⌝ }
 {

@@ -6,7 +6,8 @@ use borrow.Author.Needs.{needs}
 use denote.Ref.{now}
 use Rattle.field.specs.Texts.{further}
 use Rattle.chars.specs.Parts.{length-part}
-use Rattle.field.proofs.Turns.{Reading, reading-start, reading-more, reading-stop, reading-cut, grown-small, piece-places, piece-is, piece-is-no, piece-is-cut}
+use Rattle.field.proofs.Turns.{Reading, reading-start, reading-more, reading-stop, reading-cut, grown-small}
+use Rattle.field.specs.Lines.{piece-places, piece-is, piece-is-no, piece-is-cut}
 use Rattle.field.proofs.further_lines.Statement.{statement}
 use Rattle.field.proofs.further_lines.Tie as tie
 
