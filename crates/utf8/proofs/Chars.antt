@@ -1,7 +1,7 @@
 -- What one byte makes of the state, and the loops over the bytes of a part. Assumes nothing.
 use Prim.Native.Nat.{ℕ, zero, suc, _+_, _≤_, _<_}
 use mathlib.Core.Path.{_≡_, refl, sym, _∙_}
-use mathlib.Core.Bool.{Bool, true, false, _&&_}
+use mathlib.Core.Bool.{Bool, true, false}
 use mathlib.Core.List.{List, [], _∷_, _++_}
 use native.Mathlib.Numerals.{sub-one}
 use native.Mathlib.Omega.{arith}
@@ -56,22 +56,6 @@ step-ran u b r e = rw e (record { on = λ y. step-on (u .more) (u .low) (u .high
 module _ (u : State) (s : List ℕ) (from i : ℕ) where
   pub ran-on : (v r : State) → from ≤ i → i < length s → Ran u (part from i s) v → r ≡ stepOf v (getD s i 0) → Ran u (part from (i + 1) s) r
   ran-on v r h k w e = rw (part-snoc s from i h k) (ran-append u v r (part from i s) (getD s i 0 ∷ []) w (step-ran v (getD s i 0) r e))
-
-all-snoc : (p : ℕ → Bool) (t : List ℕ) (b : ℕ) → all p (t ++ (b ∷ [])) ≡ all p t && p b
-all-snoc p [] b = go (p b)
-  where
-    go : (x : Bool) → x && true ≡ x
-    go true = refl
-    go false = refl
-all-snoc p (a ∷ t) b = go (p a) (all-snoc p t b)
-  where
-    go : (x : Bool) → all p (t ++ (b ∷ [])) ≡ all p t && p b → x && all p (t ++ (b ∷ [])) ≡ (x && all p t) && p b
-    go true ih = ih
-    go false ih = refl
-
-pub all-on : (p : ℕ → Bool) (s : List ℕ) (from i : ℕ) (ok t r : Bool) → from ≤ i → i < length s → ok ≡ all p (part from i s) → t ≡ p (getD s i 0) → r ≡ ok && t
-    → r ≡ all p (part from (i + 1) s)
-all-on p s from i ok t r h k w e q = rw (part-snoc s from i h k, all-snoc p (part from i s) (getD s i 0), ← w, ← e) q
 
 same-start : (lo hi : ℕ) (y : List ℕ) → chars 0 lo hi y ≡ chars 0 0 0 y
 unfolding chars

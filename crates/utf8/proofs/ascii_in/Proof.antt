@@ -8,7 +8,7 @@ use Rattle.utf8.specs.States.{ascii}
 use Rattle.format.specs.Bytes.{all}
 use Rattle.chars.specs.Places.{part}
 use Rattle.chars.specs.Parts.{part-none}
-use Rattle.utf8.proofs.Chars.{all-on}
+use Rattle.utf8.specs.Every.{all-on}
 use Rattle.utf8.proofs.ascii_in.Statement.{statement}
 use Rattle.utf8.proofs.ascii_in.Tie as tie
 

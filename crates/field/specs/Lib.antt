@@ -1,0 +1,4 @@
+pub mod Judges
+pub mod Texts
+pub mod Lines
+pub mod Entries
