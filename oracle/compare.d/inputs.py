@@ -121,6 +121,8 @@ class Slices:
             while self.chance(0.2):
                 lines.append(b" " * indent + r.choice([b"more", b"aa:Trp)", b"", b" x", b'"', "é".encode()]))
             return lines
+        if self.chance(0.06):  # a doubled quote with a line end in it
+            return [start + b'="' + pick_words(r, 1) + b'"', b" " * indent + r.choice([b'"x"', b'"', b'""', b'"x', b'" y"'])]
         parts = [pick_words(r, 4).replace(b'"', b'""') for _ in range(r.choice([1, 1, 1, 2, 3]))]
         if self.chance(0.15):
             parts.insert(r.randrange(len(parts) + 1), r.choice([b'a"', b'"', b'""', b'"b', b'""""', b"", b'a" x', b"/gene"]))

@@ -33,6 +33,7 @@ use Rattle.format.specs.Bytes.{bytes, May, absent, is, pick, same, among}
 use Rattle.format.specs.Table.{Locus, Source, Reference, Qualifier, Feature, Table}
 use Rattle.format.specs.Record.{Outcome, Read, Not, number, placeWith}
 use Rattle.format.specs.declared.Dated.the-variants as dated
+use Rattle.format.specs.declared.Unread.the-variants as unread
 %s
 -- a refusal: its number and what is returned with it
 abbrev refusal : ℕ → Outcome → List ℕ

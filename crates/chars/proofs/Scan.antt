@@ -9,12 +9,13 @@ use native.Mathlib.Nat.{add-zero, le-trans, not-suc-le-zero}
 use native.Mathlib.Omega.{arith}
 use borrow.Author.Tests.{lt-ltb, le-ltb, le-leb, lt-leb, eq-eqb, ne-eqb, eqb-true, eqb-false, leb-true, leb-false}
 use lib.Dec.{eqb, leb}
-use lib.ListN.{length, getD, take, drop, drop-of-length-le, length-take, length-drop}
+use lib.ListN.{length, getD, take, drop, drop-of-length-le}
 use lib.Seq.{drop-cons, drop-drop}
 use Rattle.format.specs.Bytes.{pick, some, spaces}
 use Rattle.format.specs.Readers.{Ans, Got, No, Cut, tag, push, until, until1, line, lineEnd, lineFeed}
 use Rattle.chars.specs.declared.Step.{Step}
 use Rattle.chars.specs.Places.{part, span, scan, Scanned, Passes, lineStop, stopAt, stopAfter}
+use Rattle.chars.specs.Parts.{length-part, part-none}
 use Rattle.chars.specs.Views.{Texted}
 
 -- ---- a scan, one byte at a time
@@ -126,10 +127,10 @@ some-long [] h = absurd (not-suc-le-zero h)
 some-long (b ∷ l) h = refl
 
 part-some : (s : List ℕ) (at e : ℕ) → at < e → e ≤ length s → some (part at e s) ≡ true
-part-some s at e h k = some-long (part at e s) (simp (length-take, length-drop) (omega arith))
+part-some s at e h k = some-long (part at e s) (omega (arith, length-part s at e (omega arith) k))
 
-part-none : (s : List ℕ) (at e : ℕ) → e ≡ at → part at e s ≡ []
-part-none s at e h = let z : e - at ≡ 0 = omega arith in rw z
+flat : (e at : ℕ) → eqb e at ≡ true → e ≤ at
+flat e at k = let q : e ≡ at = eqb-true e at k in omega arith
 
 strict : {a b : ℕ} → a ≤ b → (b ≡ a → ⊥) → a < b
 strict h k = omega arith
@@ -149,7 +150,7 @@ module _ (p : ℕ → Bool) (s : List ℕ) (at e : ℕ) (r : Step) (w : Scanned 
       go : (x : Bool) → leb (length s) e ≡ x → (y : Bool) → eqb e at ≡ y → Texted s at (until1 p (drop at s)) (stopAfter (length s) at e)
       go true h y k = rw h (record { is = rw (until-cut p s at e w (leb-true _ _ h)); place = tt })
       go false h true k =
-          rw (h, k) (record { is = rw (until-got p s at e w (leb-false _ _ h), part-none s at e (eqb-true _ _ k)); place = tt })
+          rw (h, k) (record { is = rw (until-got p s at e w (leb-false _ _ h), part-none s at e (flat e at k)); place = tt })
       go false h false k =
           let n : at < e = strict (w .from) (eqb-false _ _ k) in
           rw (h, k) (record { is = rw (until-got p s at e w (leb-false _ _ h), part-some s at e n (w .within)); place = (w .from, w .within) })

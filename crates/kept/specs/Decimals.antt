@@ -4,14 +4,13 @@ use native.Mathlib.Omega.{arith}
 use mathlib.Core.Bool.{Bool, true, false, _&&_}
 use mathlib.Core.Path.{_≡_, refl, ap, _∙_}
 use mathlib.Core.List.{List, [], _∷_, _++_}
-use lib.ListN.{length, length-append, getD}
-use lib.Dec.{eqb, ltb, leb}
+use lib.ListN.{length, length-append}
+use lib.Dec.{eqb, ltb}
 use borrow.Author.Tests.{eqb-true, eqb-false, ltb-true, ltb-false, le-ltb, le-leb}
-use Rattle.format.specs.Bytes.{pick, some, all, visible, digit, number, digits, decimal}
+use Rattle.format.specs.Bytes.{some, all, visible, digit, number, digits, decimal}
 use Rattle.format.specs.Dates.{made, isDate, months, monthName, dateText}
 use Rattle.format.specs.Locus.{placeIn, dateOf, dateToken}
 use Rattle.format.specs.declared.Date.{Date}
-use Rattle.format.specs.declared.Dated.{Dated}
 use Rattle.format.specs.declared.Dated.the-variants as dated
 use Rattle.kept.specs.Tests.{and-left, and-right, all-append}
 

@@ -1,25 +1,25 @@
 -- A header text, and CONTIG's: the lines of an entry are read as the text that they were written from.
 use Prim.Native.Nat.{ℕ, zero, suc, _+_, _-_, _<_, _≤_}
 use native.Mathlib.Omega.{arith}
-use mathlib.Core.Bool.{Bool, true, false, _&&_, _||_, not}
+use mathlib.Core.Bool.{Bool, true, false, _&&_, not, _||_}
 use mathlib.Core.Path.{_≡_, refl, ap, _∙_}
 use mathlib.Core.List.{List, [], _∷_, _++_, append-assoc, append-nil}
 use lib.ListN.{length, take, drop, length-append, length-replicate, take-append-drop}
 use lib.Dec.{eqb, ltb, leb}
 use borrow.Author.Tests.{eqb-true, not-true}
-use Rattle.format.specs.Bytes.{pick, May, absent, is, bytes, spaces, some, starts, all, visible, space, but, each}
+use Rattle.format.specs.Bytes.{is, bytes, spaces, some, starts, all, visible, space, but}
 use Rattle.format.specs.Utf8.{utf8}
-use Rattle.format.specs.Readers.{Ans, Got, No, Cut, bind, tag, spaces1, line, utf8Of, many0}
+use Rattle.format.specs.Readers.{Got, No, tag, line, many0}
 use Rattle.format.specs.Header.{lineAfter, concatLines, furtherLine, fieldText, fieldBytes, field}
 use Rattle.format.specs.Record.{contig}
 use Rattle.format.specs.Features.{locationText}
-use Rattle.format.specs.Wrap.{wrapped, wrapText, breakAt, commaLines, wrapLocation}
+use Rattle.format.specs.Wrap.{wrapText, breakAt, commaLines, wrapLocation}
 use Rattle.format.specs.Write.{padded, fieldLines, contigLines}
 use Rattle.format.specs.Keeping.{linesKept, headerKept}
 use Rattle.laws.specs.Loops.{many0-more, many0-stop}
 use Rattle.laws.specs.Shrinks.{further-small}
 use Rattle.kept.specs.Tests.{and-left, and-right, all-head, all-tail, all-left, all-right, all-imp}
-use Rattle.kept.specs.Pieces.{tag-back, spaces-back, noEnd, line-back, visible-noEnd, visible-but}
+use Rattle.kept.specs.Pieces.{tag-back, spaces-back, noEnd, visible-noEnd, visible-but}
 use Rattle.kept.specs.WrapKept.{laid, wrapped-kept}
 
 -- ---- a text's lines, one byte or one line more

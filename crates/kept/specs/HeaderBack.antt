@@ -1,15 +1,15 @@
 -- The header: each entry is read as it was written, and together they give the table's header again.
-use Prim.Native.Nat.{ℕ, zero, suc, _+_, _<_, _≤_}
+use Prim.Native.Nat.{ℕ, _<_}
 use native.Mathlib.Omega.{arith}
 use mathlib.Core.Bool.{Bool, true, false, _&&_}
-use mathlib.Core.Path.{_≡_, refl, ap, _∙_}
+use mathlib.Core.Path.{_≡_, refl, _∙_}
 use mathlib.Core.List.{List, [], _∷_, _++_, append-assoc, append-nil, map}
 use lib.ListN.{length}
-use lib.Dec.{leb, lit<}
-use Rattle.format.specs.Bytes.{pick, May, absent, is, bytes, spaces, starts, all, same, but, each}
+use lib.Dec.{lit<}
+use Rattle.format.specs.Bytes.{pick, May, absent, is, bytes, starts, all, same, but, each}
 use Rattle.format.specs.Utf8.{utf8}
-use Rattle.format.specs.Readers.{Ans, Got, No, Cut, mapped, orElse, tag, whileFits}
-use Rattle.format.specs.Header.{field, reference, source, Field, Entry, SourceOf, ReferenceOf, Dropped, headerField, latest, every, textIn, sourceIn, referenceIn}
+use Rattle.format.specs.Readers.{Got, No, tag, whileFits}
+use Rattle.format.specs.Header.{field, reference, source, Field, Entry, SourceOf, ReferenceOf, headerField, latest, every, textIn, sourceIn, referenceIn}
 use Rattle.format.specs.Table.{Source, Reference, Table}
 use Rattle.format.specs.Write.{fieldLines, maybeLines, sourceLines, referenceLines, headerLines}
 use Rattle.format.specs.WellFormed.{ifIs, sourceTexts, referenceTexts, headerTexts}
@@ -314,34 +314,16 @@ header-back W t rest k u one fine stop =
 
 -- ---- what the entries give
 
+-- a later one goes before
+abbrev later : {A : Type 0} → May A → May A → May A
+later (is a) o = is a
+later absent o = o
+
+later-absent : {A : Type 0} (o : May A) → later o absent ≡ o
+later-absent absent = refl
+later-absent (is a) = refl
+
 module _ {A : Type 0} (f : Field → May A) where
-  -- nothing is found in a group of which f says nothing
-  latest-skip : {B : Type 0} (g : B → Field) → ((b : B) → f (g b) ≡ absent) → (xs : List B) (fs : List Field) → latest f (map g xs ++ fs) ≡ latest f fs
-  unfolding latest
-  latest-skip g h [] fs = refl
-  latest-skip g h (x ∷ xs) fs = go (latest-skip g h xs fs) (latest f fs) refl
-    where
-      go : latest f (map g xs ++ fs) ≡ latest f fs → (o : May A) → latest f fs ≡ o → latest f (map g (x ∷ xs) ++ fs) ≡ latest f fs
-      go ih (is a) e = cc
-      go ih absent e = cc (h x)
-
-  every-skip : {B : Type 0} (g : B → Field) → ((b : B) → f (g b) ≡ absent) → (xs : List B) (fs : List Field) → every f (map g xs ++ fs) ≡ every f fs
-  unfolding every
-  every-skip g h [] fs = refl
-  every-skip g h (x ∷ xs) fs = cc (h x, every-skip g h xs fs)
-
-  -- the one of a group of which f gives each, where nothing is found later
-  latest-one :
-      (g : A → Field) → ((a : A) → f (g a) ≡ is a) → (o : May A) (fs : List Field) → latest f fs ≡ absent → latest f (map g (mayList o) ++ fs) ≡ o
-  unfolding latest
-  latest-one g h absent fs e = e
-  latest-one g h (is a) fs e = cc (h a)
-
-  every-one : (g : A → Field) → ((a : A) → f (g a) ≡ is a) → (xs : List A) (fs : List Field) → every f (map g xs ++ fs) ≡ xs ++ every f fs
-  unfolding every
-  every-one g h [] fs = refl
-  every-one g h (x ∷ xs) fs = cc (h x, every-one g h xs fs)
-
   latest-none : latest f [] ≡ absent
   unfolding latest
   latest-none = refl
@@ -350,128 +332,153 @@ module _ {A : Type 0} (f : Field → May A) where
   unfolding every
   every-none = refl
 
+  latest-next : (x : Field) (fs : List Field) → latest f (x ∷ fs) ≡ later (latest f fs) (f x)
+  unfolding latest
+  latest-next x fs = go (latest f fs) refl
+    where
+      go : (o : May A) → latest f fs ≡ o → latest f (x ∷ fs) ≡ later (latest f fs) (f x)
+      go (is a) e = cc
+      go absent e = cc
+
+  -- a group of which f says nothing
+  latest-skip : {B : Type 0} (g : B → Field) → ((b : B) → f (g b) ≡ absent) → (xs : List B) (fs : List Field) → latest f (map g xs ++ fs) ≡ latest f fs
+  latest-skip g h [] fs = refl
+  latest-skip g h (x ∷ xs) fs = latest-next (g x) (map g xs ++ fs) ∙ rw (h x, latest-skip g h xs fs) (later-absent (latest f fs))
+
+  every-skip : {B : Type 0} (g : B → Field) → ((b : B) → f (g b) ≡ absent) → (xs : List B) (fs : List Field) → every f (map g xs ++ fs) ≡ every f fs
+  unfolding every
+  every-skip g h [] fs = refl
+  every-skip g h (x ∷ xs) fs = cc (h x, every-skip g h xs fs)
+
+  -- a group of which f gives each
+  latest-one : (g : A → Field) → ((a : A) → f (g a) ≡ is a) → (o : May A) (fs : List Field) → latest f (map g (mayList o) ++ fs) ≡ later (latest f fs) o
+  latest-one g h absent fs = rw (later-absent (latest f fs))
+  latest-one g h (is a) fs = rw (latest-next (g a) fs, h a)
+
+  every-one : (g : A → Field) → ((a : A) → f (g a) ≡ is a) → (xs : List A) (fs : List Field) → every f (map g xs ++ fs) ≡ xs ++ every f fs
+  unfolding every
+  every-one g h [] fs = refl
+  every-one g h (x ∷ xs) fs = cc (h x, every-one g h xs fs)
+
+-- what is asked for, v, hears of a group with the word w: all of it, or nothing
+heard : {A : Type 0} → List ℕ → List ℕ → A → A → A
+heard v w a none = pick (same w v) a none
+
+module _ (v w : List ℕ) where
+  latest-heard : (o : May (List ℕ)) (fs : List Field) → latest (textIn v) (map (Entry w) (mayList o) ++ fs) ≡ later (latest (textIn v) fs) (heard v w o absent)
+  unfolding heard
+  latest-heard o fs = go (same w v) refl
+    where
+      go : (x : Bool) → same w v ≡ x → latest (textIn v) (map (Entry w) (mayList o) ++ fs) ≡ later (latest (textIn v) fs) (pick (same w v) o absent)
+      go true e = rw e (latest-one (textIn v) (Entry w) (λ t. cc) o fs)
+      go false e = rw (e, later-absent (latest (textIn v) fs)) (latest-skip (textIn v) (Entry w) (λ t. cc) (mayList o) fs)
+
+  every-heard : (xs : List (List ℕ)) (fs : List Field) → every (textIn v) (map (Entry w) xs ++ fs) ≡ heard v w xs [] ++ every (textIn v) fs
+  unfolding heard
+  every-heard xs fs = go (same w v) refl
+    where
+      go : (x : Bool) → same w v ≡ x → every (textIn v) (map (Entry w) xs ++ fs) ≡ pick (same w v) xs [] ++ every (textIn v) fs
+      go true e = rw e (every-one (textIn v) (Entry w) (λ t. cc) xs fs)
+      go false e = rw e (every-skip (textIn v) (Entry w) (λ t. cc) xs fs)
+
+module _ (v : List ℕ) (t : Table) where
+  latest-texts :
+      same (bytes "COMMENT") v ≡ false →
+      latest (textIn v) (fieldsOf t) ≡
+      later
+      (later
+      (later (later (heard v (bytes "KEYWORDS") (t .keywords) absent) (heard v (bytes "DBLINK") (t .dblink) absent))
+      (heard v (bytes "VERSION") (t .version) absent))
+      (heard v (bytes "ACCESSION") (t .accession) absent))
+      (heard v (bytes "DEFINITION") (t .definition) absent)
+  unfolding fieldsOf
+  latest-texts h =
+      rw (
+        latest-heard v (bytes "DEFINITION") (t .definition),
+        latest-heard v (bytes "ACCESSION") (t .accession),
+        latest-heard v (bytes "VERSION") (t .version),
+        latest-heard v (bytes "DBLINK") (t .dblink),
+        latest-heard v (bytes "KEYWORDS") (t .keywords),
+        latest-skip (textIn v) SourceOf (λ x. refl) (mayList (t .source)),
+        latest-skip (textIn v) ReferenceOf (λ x. refl) (t .references),
+        latest-skip (textIn v) (Entry (bytes "COMMENT")) (λ x. rw h) (t .comments) [],
+        latest-none (textIn v),
+      )
+
+  every-texts :
+      every (textIn v) (fieldsOf t) ≡
+      heard v (bytes "DEFINITION") (mayList (t .definition)) [] ++ (heard v (bytes "ACCESSION") (mayList (t .accession)) [] ++
+      (heard v (bytes "VERSION") (mayList (t .version)) [] ++ (heard v (bytes "DBLINK") (mayList (t .dblink)) [] ++
+      (heard v (bytes "KEYWORDS") (mayList (t .keywords)) [] ++ (heard v (bytes "COMMENT") (t .comments) [] ++ [])))))
+  unfolding fieldsOf
+  every-texts =
+      rw (
+        every-heard v (bytes "DEFINITION") (mayList (t .definition)),
+        every-heard v (bytes "ACCESSION") (mayList (t .accession)),
+        every-heard v (bytes "VERSION") (mayList (t .version)),
+        every-heard v (bytes "DBLINK") (mayList (t .dblink)),
+        every-heard v (bytes "KEYWORDS") (mayList (t .keywords)),
+        every-skip (textIn v) SourceOf (λ x. refl) (mayList (t .source)),
+        every-skip (textIn v) ReferenceOf (λ x. refl) (t .references),
+        every-heard v (bytes "COMMENT") (t .comments) [],
+        every-none (textIn v),
+      )
+
 pub definition-is : (t : Table) → latest (textIn (bytes "DEFINITION")) (fieldsOf t) ≡ t .definition
-unfolding fieldsOf
-definition-is t =
-    let f = textIn (bytes "DEFINITION") in
-    latest-one f (Entry (bytes "DEFINITION")) (λ x. refl) (t .definition) _
-    (latest-skip f (Entry (bytes "ACCESSION")) (λ x. refl) (mayList (t .accession)) _ ∙
-    (latest-skip f (Entry (bytes "VERSION")) (λ x. refl) (mayList (t .version)) _ ∙
-    (latest-skip f (Entry (bytes "DBLINK")) (λ x. refl) (mayList (t .dblink)) _ ∙
-    (latest-skip f (Entry (bytes "KEYWORDS")) (λ x. refl) (mayList (t .keywords)) _ ∙
-    (latest-skip f SourceOf (λ x. refl) (mayList (t .source)) _ ∙
-    (latest-skip f ReferenceOf (λ x. refl) (t .references) _ ∙
-    (latest-skip f (Entry (bytes "COMMENT")) (λ x. refl) (t .comments) _ ∙
-    latest-none f)))))))
+unfolding heard
+definition-is t = latest-texts (bytes "DEFINITION") t refl
 
 pub accession-is : (t : Table) → latest (textIn (bytes "ACCESSION")) (fieldsOf t) ≡ t .accession
-unfolding fieldsOf
-accession-is t =
-    let f = textIn (bytes "ACCESSION") in
-    (latest-skip f (Entry (bytes "DEFINITION")) (λ x. refl) (mayList (t .definition)) _ ∙
-    latest-one f (Entry (bytes "ACCESSION")) (λ x. refl) (t .accession) _
-    (latest-skip f (Entry (bytes "VERSION")) (λ x. refl) (mayList (t .version)) _ ∙
-    (latest-skip f (Entry (bytes "DBLINK")) (λ x. refl) (mayList (t .dblink)) _ ∙
-    (latest-skip f (Entry (bytes "KEYWORDS")) (λ x. refl) (mayList (t .keywords)) _ ∙
-    (latest-skip f SourceOf (λ x. refl) (mayList (t .source)) _ ∙
-    (latest-skip f ReferenceOf (λ x. refl) (t .references) _ ∙
-    (latest-skip f (Entry (bytes "COMMENT")) (λ x. refl) (t .comments) _ ∙
-    latest-none f)))))))
+unfolding heard
+accession-is t = latest-texts (bytes "ACCESSION") t refl ∙ simp later-absent
 
 pub version-is : (t : Table) → latest (textIn (bytes "VERSION")) (fieldsOf t) ≡ t .version
-unfolding fieldsOf
-version-is t =
-    let f = textIn (bytes "VERSION") in
-    (latest-skip f (Entry (bytes "DEFINITION")) (λ x. refl) (mayList (t .definition)) _ ∙
-    (latest-skip f (Entry (bytes "ACCESSION")) (λ x. refl) (mayList (t .accession)) _ ∙
-    latest-one f (Entry (bytes "VERSION")) (λ x. refl) (t .version) _
-    (latest-skip f (Entry (bytes "DBLINK")) (λ x. refl) (mayList (t .dblink)) _ ∙
-    (latest-skip f (Entry (bytes "KEYWORDS")) (λ x. refl) (mayList (t .keywords)) _ ∙
-    (latest-skip f SourceOf (λ x. refl) (mayList (t .source)) _ ∙
-    (latest-skip f ReferenceOf (λ x. refl) (t .references) _ ∙
-    (latest-skip f (Entry (bytes "COMMENT")) (λ x. refl) (t .comments) _ ∙
-    latest-none f)))))))
+unfolding heard
+version-is t = latest-texts (bytes "VERSION") t refl ∙ simp later-absent
 
 pub dblink-is : (t : Table) → latest (textIn (bytes "DBLINK")) (fieldsOf t) ≡ t .dblink
-unfolding fieldsOf
-dblink-is t =
-    let f = textIn (bytes "DBLINK") in
-    (latest-skip f (Entry (bytes "DEFINITION")) (λ x. refl) (mayList (t .definition)) _ ∙
-    (latest-skip f (Entry (bytes "ACCESSION")) (λ x. refl) (mayList (t .accession)) _ ∙
-    (latest-skip f (Entry (bytes "VERSION")) (λ x. refl) (mayList (t .version)) _ ∙
-    latest-one f (Entry (bytes "DBLINK")) (λ x. refl) (t .dblink) _
-    (latest-skip f (Entry (bytes "KEYWORDS")) (λ x. refl) (mayList (t .keywords)) _ ∙
-    (latest-skip f SourceOf (λ x. refl) (mayList (t .source)) _ ∙
-    (latest-skip f ReferenceOf (λ x. refl) (t .references) _ ∙
-    (latest-skip f (Entry (bytes "COMMENT")) (λ x. refl) (t .comments) _ ∙
-    latest-none f)))))))
+unfolding heard
+dblink-is t = latest-texts (bytes "DBLINK") t refl ∙ simp later-absent
 
 pub keywords-is : (t : Table) → latest (textIn (bytes "KEYWORDS")) (fieldsOf t) ≡ t .keywords
-unfolding fieldsOf
-keywords-is t =
-    let f = textIn (bytes "KEYWORDS") in
-    (latest-skip f (Entry (bytes "DEFINITION")) (λ x. refl) (mayList (t .definition)) _ ∙
-    (latest-skip f (Entry (bytes "ACCESSION")) (λ x. refl) (mayList (t .accession)) _ ∙
-    (latest-skip f (Entry (bytes "VERSION")) (λ x. refl) (mayList (t .version)) _ ∙
-    (latest-skip f (Entry (bytes "DBLINK")) (λ x. refl) (mayList (t .dblink)) _ ∙
-    latest-one f (Entry (bytes "KEYWORDS")) (λ x. refl) (t .keywords) _
-    (latest-skip f SourceOf (λ x. refl) (mayList (t .source)) _ ∙
-    (latest-skip f ReferenceOf (λ x. refl) (t .references) _ ∙
-    (latest-skip f (Entry (bytes "COMMENT")) (λ x. refl) (t .comments) _ ∙
-    latest-none f)))))))
+unfolding heard
+keywords-is t = latest-texts (bytes "KEYWORDS") t refl ∙ simp later-absent
 
 pub source-is : (t : Table) → latest sourceIn (fieldsOf t) ≡ t .source
 unfolding fieldsOf
 source-is t =
-    let f = sourceIn in
-    (latest-skip f (Entry (bytes "DEFINITION")) (λ x. refl) (mayList (t .definition)) _ ∙
-    (latest-skip f (Entry (bytes "ACCESSION")) (λ x. refl) (mayList (t .accession)) _ ∙
-    (latest-skip f (Entry (bytes "VERSION")) (λ x. refl) (mayList (t .version)) _ ∙
-    (latest-skip f (Entry (bytes "DBLINK")) (λ x. refl) (mayList (t .dblink)) _ ∙
-    (latest-skip f (Entry (bytes "KEYWORDS")) (λ x. refl) (mayList (t .keywords)) _ ∙
-    latest-one f SourceOf (λ x. refl) (t .source) _
-    (latest-skip f ReferenceOf (λ x. refl) (t .references) _ ∙
-    (latest-skip f (Entry (bytes "COMMENT")) (λ x. refl) (t .comments) _ ∙
-    latest-none f)))))))
+    rw (
+      latest-skip sourceIn (Entry (bytes "DEFINITION")) (λ x. refl) (mayList (t .definition)),
+      latest-skip sourceIn (Entry (bytes "ACCESSION")) (λ x. refl) (mayList (t .accession)),
+      latest-skip sourceIn (Entry (bytes "VERSION")) (λ x. refl) (mayList (t .version)),
+      latest-skip sourceIn (Entry (bytes "DBLINK")) (λ x. refl) (mayList (t .dblink)),
+      latest-skip sourceIn (Entry (bytes "KEYWORDS")) (λ x. refl) (mayList (t .keywords)),
+      latest-one sourceIn SourceOf (λ x. refl) (t .source),
+      latest-skip sourceIn ReferenceOf (λ x. refl) (t .references),
+      latest-skip sourceIn (Entry (bytes "COMMENT")) (λ x. refl) (t .comments) [],
+      latest-none sourceIn,
+    )
 
 pub references-are : (t : Table) → every referenceIn (fieldsOf t) ≡ t .references
 unfolding fieldsOf
 references-are t =
-    let f = referenceIn in
-    (every-skip f (Entry (bytes "DEFINITION")) (λ x. refl) (mayList (t .definition)) _ ∙
-    (every-skip f (Entry (bytes "ACCESSION")) (λ x. refl) (mayList (t .accession)) _ ∙
-    (every-skip f (Entry (bytes "VERSION")) (λ x. refl) (mayList (t .version)) _ ∙
-    (every-skip f (Entry (bytes "DBLINK")) (λ x. refl) (mayList (t .dblink)) _ ∙
-    (every-skip f (Entry (bytes "KEYWORDS")) (λ x. refl) (mayList (t .keywords)) _ ∙
-    (every-skip f SourceOf (λ x. refl) (mayList (t .source)) _ ∙
-    every-one f ReferenceOf (λ x. refl) (t .references) _ ∙
-    ap (λ (l : List Reference). t .references ++ l) ((every-skip f (Entry (bytes "COMMENT")) (λ x. refl) (t .comments) _ ∙
-    every-none f)) ∙ append-nil (t .references)))))))
+    rw (
+      every-skip referenceIn (Entry (bytes "DEFINITION")) (λ x. refl) (mayList (t .definition)),
+      every-skip referenceIn (Entry (bytes "ACCESSION")) (λ x. refl) (mayList (t .accession)),
+      every-skip referenceIn (Entry (bytes "VERSION")) (λ x. refl) (mayList (t .version)),
+      every-skip referenceIn (Entry (bytes "DBLINK")) (λ x. refl) (mayList (t .dblink)),
+      every-skip referenceIn (Entry (bytes "KEYWORDS")) (λ x. refl) (mayList (t .keywords)),
+      every-skip referenceIn SourceOf (λ x. refl) (mayList (t .source)),
+      every-one referenceIn ReferenceOf (λ x. refl) (t .references),
+      every-skip referenceIn (Entry (bytes "COMMENT")) (λ x. refl) (t .comments) [],
+      every-none referenceIn,
+      append-nil,
+    )
 
 pub comments-are : (t : Table) → every (textIn (bytes "COMMENT")) (fieldsOf t) ≡ t .comments
-unfolding fieldsOf
-comments-are t =
-    let f = textIn (bytes "COMMENT") in
-    (every-skip f (Entry (bytes "DEFINITION")) (λ x. refl) (mayList (t .definition)) _ ∙
-    (every-skip f (Entry (bytes "ACCESSION")) (λ x. refl) (mayList (t .accession)) _ ∙
-    (every-skip f (Entry (bytes "VERSION")) (λ x. refl) (mayList (t .version)) _ ∙
-    (every-skip f (Entry (bytes "DBLINK")) (λ x. refl) (mayList (t .dblink)) _ ∙
-    (every-skip f (Entry (bytes "KEYWORDS")) (λ x. refl) (mayList (t .keywords)) _ ∙
-    (every-skip f SourceOf (λ x. refl) (mayList (t .source)) _ ∙
-    (every-skip f ReferenceOf (λ x. refl) (t .references) _ ∙
-    every-one f (Entry (bytes "COMMENT")) (λ x. refl) (t .comments) _ ∙
-    ap (λ (l : List (List ℕ)). (t .comments) ++ l) (every-none f) ∙ append-nil (t .comments))))))))
+unfolding heard
+comments-are t = every-texts (bytes "COMMENT") t ∙ append-nil (t .comments)
 
 pub definitions-are : (t : Table) → every (textIn (bytes "DEFINITION")) (fieldsOf t) ≡ mayList (t .definition)
-unfolding fieldsOf
-definitions-are t =
-    let f = textIn (bytes "DEFINITION") in
-    every-one f (Entry (bytes "DEFINITION")) (λ x. refl) (mayList (t .definition)) _ ∙
-    ap (λ (l : List (List ℕ)). (mayList (t .definition)) ++ l) ((every-skip f (Entry (bytes "ACCESSION")) (λ x. refl) (mayList (t .accession)) _ ∙
-    (every-skip f (Entry (bytes "VERSION")) (λ x. refl) (mayList (t .version)) _ ∙
-    (every-skip f (Entry (bytes "DBLINK")) (λ x. refl) (mayList (t .dblink)) _ ∙
-    (every-skip f (Entry (bytes "KEYWORDS")) (λ x. refl) (mayList (t .keywords)) _ ∙
-    (every-skip f SourceOf (λ x. refl) (mayList (t .source)) _ ∙
-    (every-skip f ReferenceOf (λ x. refl) (t .references) _ ∙
-    (every-skip f (Entry (bytes "COMMENT")) (λ x. refl) (t .comments) _ ∙
-    every-none f)))))))) ∙ append-nil (mayList (t .definition))
+unfolding heard
+definitions-are t = every-texts (bytes "DEFINITION") t ∙ append-nil (mayList (t .definition))

@@ -13,3 +13,5 @@ pub mod FieldBack
 pub mod ReferenceBack
 pub mod HeaderBack
 pub mod RecordBack
+pub mod RecordsBack
+pub mod AnswersBack

@@ -1,18 +1,18 @@
 -- The LOCUS line: what is written of a table that keeps the rules is read as the same values.
-use Prim.Native.Nat.{ℕ, zero, suc, _+_, _-_, _<_, _≤_}
+use Prim.Native.Nat.{ℕ, zero, suc, _+_, _-_, _≤_}
 use native.Mathlib.Omega.{arith}
-use mathlib.Core.Bool.{Bool, true, false, _&&_, _||_, not}
+use mathlib.Core.Bool.{Bool, true, false, _&&_, _||_}
 use mathlib.Core.Path.{_≡_, refl, ap, _∙_}
 use mathlib.Core.List.{List, [], _∷_, _++_, append-assoc, append-nil}
-use lib.ListN.{length, length-append}
+use lib.ListN.{length}
 use lib.Dec.{eqb, leb}
 use borrow.Author.Tests.{eqb-false, le-leb, leb-true, not-true, ne-eqb}
-use Rattle.format.specs.Bytes.{pick, May, absent, is, bytes, spaces, some, starts, all, same, visible, printing, digit, blank, notBlank, but, number, decimal}
-use Rattle.format.specs.Readers.{Ans, Got, No, Cut, bind, mapped, tag, until, until1, line, Turn, more, stop, end, endUpTo}
-use Rattle.format.specs.Dates.{made, isDate, dateText, printedDate}
+use Rattle.format.specs.Bytes.{May, absent, is, bytes, spaces, some, starts, all, same, visible, printing, digit, blank, notBlank, but, decimal}
+use Rattle.format.specs.Readers.{Got, tag, until1, line, end, endUpTo}
+use Rattle.format.specs.Dates.{isDate, dateText}
 use Rattle.format.specs.Table.{Locus, Table}
-use Rattle.format.specs.Locus.{preamble, preambleTurn, tokens, ahead, dateToken, unknown, locusFrom, locusOf, locusLine, locus}
-use Rattle.format.specs.Write.{padded, nameOr, lengthOr, lengthText, printedName, moleculeText, topologyText, nameAndLength, locusText}
+use Rattle.format.specs.Locus.{preamble, tokens, dateToken, locusFrom, locusOf, locusLine, locus}
+use Rattle.format.specs.Write.{nameOr, lengthText, printedName, moleculeText, topologyText, locusText}
 use Rattle.format.specs.WellFormed.{ifIs, dateFine, locusFine}
 use Rattle.format.specs.Keeping.{spaceless, present, locusKept}
 use Rattle.format.specs.declared.Date.{Date}

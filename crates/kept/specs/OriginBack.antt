@@ -1,15 +1,15 @@
 -- The letters: ORIGIN's line and the numbered lines are read as the letters that they were written from.
-use Prim.Native.Nat.{ℕ, zero, suc, _+_, _-_, _%_, _<_, _≤_}
+use Prim.Native.Nat.{ℕ, suc, _-_, _%_, _≤_}
 use native.Mathlib.Omega.{arith}
-use mathlib.Core.Bool.{Bool, true, false, _&&_, _||_, and-false}
+use mathlib.Core.Bool.{Bool, true, false, _&&_}
 use mathlib.Core.Path.{_≡_, refl}
 use mathlib.Core.List.{List, [], _∷_, _++_, append-assoc}
 use lib.ListN.{length}
 use lib.Dec.{eqb, leb}
 use borrow.Author.Tests.{leb-true, le-leb, lt-leb, ne-eqb, not-true}
-use Rattle.format.specs.Bytes.{pick, bytes, spaces, all, but, between, digit, letter, digits, decimal}
-use Rattle.format.specs.Readers.{Ans, Got, tag, until, lineEnd}
-use Rattle.format.specs.Origin.{originTag, Letters, AtSlash, AtEnd, Bad, keep, skipped, letters}
+use Rattle.format.specs.Bytes.{bytes, spaces, all, but, digit, letter, digits, decimal}
+use Rattle.format.specs.Readers.{Got, tag, until, lineEnd}
+use Rattle.format.specs.Origin.{originTag, AtSlash, skipped, letters}
 use Rattle.format.specs.Write.{rightAligned, lineStart, tenStart, letterLines, originLines}
 use Rattle.kept.specs.Tests.{and-left, and-right, all-head, all-tail, all-append, all-imp}
 use Rattle.kept.specs.Pieces.{all-spaces}

@@ -1,13 +1,13 @@
 -- The small readers read back what stands there: words, spaces, lines.
-use Prim.Native.Nat.{ℕ, zero, suc, _<_}
+use Prim.Native.Nat.{ℕ, zero, suc}
 use native.Mathlib.Omega.{arith}
-use mathlib.Core.Bool.{Bool, true, false, _&&_, not}
+use mathlib.Core.Bool.{Bool, true, _&&_, not}
 use mathlib.Core.Path.{_≡_, refl}
 use mathlib.Core.List.{List, [], _∷_, _++_}
 use lib.Dec.{eqb, leb}
 use borrow.Author.Tests.{eq-eqb, ne-eqb, not-true, leb-true}
-use Rattle.format.specs.Bytes.{spaces, starts, all, but, digit, visible, printing}
-use Rattle.format.specs.Readers.{Ans, Got, No, Cut, tag, until, spaces1, line}
+use Rattle.format.specs.Bytes.{spaces, starts, all, but, visible}
+use Rattle.format.specs.Readers.{Got, tag, until, spaces1, line}
 use Rattle.kept.specs.Tests.{and-left, and-right, all-head, all-tail}
 
 pub tag-back : (w s : List ℕ) → tag w (w ++ s) ≡ Got tt s
@@ -40,12 +40,7 @@ line-back (b ∷ x) rest h =
     let n : noEnd b ≡ true = all-head noEnd b x h in
     cc (not-true (eqb b 10) (and-left (not (eqb b 10)) _ n), not-true (eqb b 13) (and-right (not (eqb b 10)) _ n), line-back x rest (all-tail noEnd b x h))
 
--- what bytes from 32 on are not
-pub printing-noEnd : (b : ℕ) → printing b ≡ true → noEnd b ≡ true
-printing-noEnd b h =
-    let l = leb-true 32 b (and-left (leb 32 b) _ h) in
-    cc (ne-eqb b 10 (λ e. omega arith), ne-eqb b 13 (λ e. omega arith))
-
+-- what bytes from 33 on are not
 pub visible-noEnd : (b : ℕ) → visible b ≡ true → noEnd b ≡ true
 visible-noEnd b h =
     let l = leb-true 33 b (and-left (leb 33 b) _ h) in

@@ -1,22 +1,21 @@
 -- THE ROUND TRIP: what the keeping writer writes of a table, the reader reads back as that table.
-use Prim.Native.Nat.{ℕ, zero, suc, _+_, _-_, _<_, _≤_}
+use Prim.Native.Nat.{ℕ, _<_, _≤_}
 use native.Mathlib.Omega.{arith}
-use mathlib.Core.Bool.{Bool, true, false, _&&_, _||_}
+use mathlib.Core.Bool.{Bool, true, false, _&&_}
 use mathlib.Core.Path.{_≡_, refl, ap, _∙_}
-use mathlib.Core.List.{List, [], _∷_, _++_, append-assoc, append-nil}
-use lib.ListN.{length, drop, length-append}
-use lib.Dec.{eqb, leb}
-use lib.Seq.{drop-at}
-use borrow.Author.Tests.{leb-true, le-leb, ne-eqb, eq-eqb}
-use Rattle.format.specs.Bytes.{pick, May, absent, is, bytes, spaces, starts, all, but, each, letter}
+use mathlib.Core.List.{List, [], _∷_, _++_, append-assoc}
+use lib.ListN.{length}
+use lib.Dec.{leb}
+use borrow.Author.Tests.{leb-true}
+use Rattle.format.specs.Bytes.{May, absent, is, bytes, spaces, starts, all, but, letter}
 use Rattle.format.specs.Utf8.{utf8}
-use Rattle.format.specs.Readers.{Ans, Got, No, Cut, bind, orElse, optional, unless, passing, tag, until, lineEnd, endUpTo, end, whileFits}
-use Rattle.format.specs.Table.{Locus, Feature, Table}
-use Rattle.format.specs.Locus.{preamble, preambleTurn, locus}
-use Rattle.format.specs.Header.{Field, fieldBytes, field, reference, source, ignoredLine, headerField, every, textIn}
+use Rattle.format.specs.Readers.{Ans, Got, No, Cut, optional, tag, lineEnd, end, whileFits}
+use Rattle.format.specs.Table.{Feature, Table}
+use Rattle.format.specs.Locus.{preamble, locus}
+use Rattle.format.specs.Header.{fieldBytes, field, reference, source, ignoredLine, headerField, every, textIn}
 use Rattle.format.specs.Features.{featuresHeader, locationText}
-use Rattle.format.specs.Origin.{originTag, Letters, AtSlash, letters}
-use Rattle.format.specs.Record.{Outcome, Read, Not, features, baseCount, contig, leftBy, slashesAt, promised, withLetters, sequence, afterOrigin, listOf, Middle, middle, tableFrom, afterHeader, header, afterLocus, readRecord, most, readAt}
+use Rattle.format.specs.Origin.{originTag, letters}
+use Rattle.format.specs.Record.{Read, features, baseCount, contig, slashesAt, promised, withLetters, afterOrigin, listOf, middle, tableFrom, readRecord}
 use Rattle.format.specs.Write.{locusText, headerLines, featuresLines, contigLines, originLines, written}
 use Rattle.format.specs.Wrap.{wrapLocation}
 use Rattle.format.specs.WellFormed.{widthFine, ifIs, headerTexts, featureFine, lettersFine, locusFine, wellFormed}
@@ -24,9 +23,9 @@ use Rattle.format.specs.Keeping.{switchesKept, locusKept, headerKept, pubmedKep
 use Rattle.format.specs.declared.Unread.the-variants as unread
 use Rattle.laws.specs.Loops.{tries-more, tries-no, tries-cut}
 use Rattle.laws.specs.Shrinks.{lineEnd-small}
-use Rattle.kept.specs.Tests.{and-left, and-right, all-head, all-tail}
-use Rattle.kept.specs.LocusBack.{lengthFits, locus-back}
-use Rattle.kept.specs.OriginBack.{numbered, origin-back, numbered-back}
+use Rattle.kept.specs.Tests.{and-left, and-right}
+use Rattle.kept.specs.LocusBack.{preamble-back, lengthFits, locus-back}
+use Rattle.kept.specs.OriginBack.{origin-back, numbered-back}
 use Rattle.kept.specs.FieldBack.{contig-back}
 use Rattle.kept.specs.ReferenceBack.{refused, is-no}
 use Rattle.kept.specs.HeaderBack.{fieldsOf, header-back, definition-is, accession-is, version-is, dblink-is, keywords-is, source-is, references-are, comments-are, definitions-are, mayList}
@@ -209,8 +208,8 @@ one-definition t = rw (definitions-are t) (go (t .definition))
 -- ---- the record
 
 preamble-none : (t : Table) (s : List ℕ) → preamble (locusText false false t ++ s) ≡ Got tt (locusText false false t ++ s)
-unfolding preamble end endUpTo tag locusText
-preamble-none t s = refl
+unfolding locusText
+preamble-none t s = preamble-back _
 
 record-steps :
     (t : Table) (s s₁ s₂ s₃ rest : List ℕ) → preamble s ≡ Got tt s → locus s ≡ Got (t .locus) s₁ → whileFits headerField s₁ ≡ Got (fieldsOf t) s₂ →

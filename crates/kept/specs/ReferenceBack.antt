@@ -1,24 +1,21 @@
 -- SOURCE and REFERENCE with the texts under them are read as they were written.
-use Prim.Native.Nat.{ℕ, zero, suc, _+_, _-_, _<_, _≤_}
-use native.Mathlib.Omega.{arith}
-use mathlib.Core.Bool.{Bool, true, false, _&&_, _||_, not}
-use mathlib.Core.Path.{_≡_, refl, ap, _∙_}
-use mathlib.Core.List.{List, [], _∷_, _++_, append-assoc, append-nil, map}
+use Prim.Native.Nat.{ℕ, suc, _+_, _-_, _<_}
+use mathlib.Core.Bool.{Bool, true, false, _||_}
+use mathlib.Core.Path.{_≡_, refl, _∙_}
+use mathlib.Core.List.{List, [], _∷_, _++_, append-assoc}
 use lib.ListN.{length}
-use lib.Dec.{eqb, leb, lit<}
+use lib.Dec.{eqb, lit<}
 use borrow.Author.Tests.{not-true}
-use Rattle.format.specs.Bytes.{pick, May, absent, is, bytes, spaces, starts, all, same, but, each}
+use Rattle.format.specs.Bytes.{May, absent, is, bytes, spaces, starts, all, but, each}
 use Rattle.format.specs.Utf8.{utf8}
-use Rattle.format.specs.Readers.{Ans, Got, No, Cut, bind, mapped, orElse, optional, unless, tag, line, utf8Of, whileFits}
-use Rattle.format.specs.Header.{fieldBytes, field, maybeField, reference, source, Field, Entry, SourceOf, ReferenceOf, Dropped, ignoredLine, entry, headerField, latest, every, textIn, sourceIn, referenceIn}
-use Rattle.format.specs.Table.{Source, Reference, Table}
+use Rattle.format.specs.Readers.{Ans, Got, No, Cut, tag, line}
+use Rattle.format.specs.Header.{fieldBytes, field, maybeField, reference, source}
+use Rattle.format.specs.Table.{Source, Reference}
 use Rattle.format.specs.Wrap.{wrapped, wrapText}
-use Rattle.format.specs.Write.{padded, fieldLines, maybeLines, sourceLines, referenceLines, headerLines}
-use Rattle.format.specs.WellFormed.{ifIs, sourceTexts, referenceTexts, headerTexts}
+use Rattle.format.specs.Write.{padded, fieldLines, maybeLines, referenceLines}
+use Rattle.format.specs.WellFormed.{ifIs, sourceTexts, referenceTexts}
 use Rattle.format.specs.Keeping.{headerKept, pubmedKept}
-use Rattle.laws.specs.Loops.{tries-more, tries-no}
-use Rattle.laws.specs.Shrinks.{header-small}
-use Rattle.kept.specs.Tests.{and-left, and-right, and-both, all-head, all-tail}
+use Rattle.kept.specs.Tests.{and-left, and-right}
 use Rattle.kept.specs.FieldBack.{field-back}
 
 -- ---- what a reader refuses

@@ -2,14 +2,14 @@
 -- and the closing quote stands on the last of them.
 use Prim.Native.Nat.{ℕ, zero, suc, _+_, _<_, _≤_}
 use native.Mathlib.Omega.{arith}
-use mathlib.Core.Bool.{Bool, true, false, _&&_, _||_}
+use mathlib.Core.Bool.{Bool, true, false, _&&_}
 use mathlib.Core.Path.{_≡_, refl, ap}
 use mathlib.Core.List.{List, [], _∷_, _++_, append-assoc}
 use lib.ListN.{length}
 use lib.Dec.{eqb, ltb}
 use borrow.Author.Tests.{eqb-true, ltb-true, lt-ltb, not-true}
 use Rattle.format.specs.Bytes.{spaces, some, all, but}
-use Rattle.format.specs.Wrap.{Line, Fits, Over, fill, closing, linesAfter, wrapped, inner}
+use Rattle.format.specs.Wrap.{Fits, fill, closing, linesAfter, wrapped}
 use Rattle.format.specs.Keeping.{linesKept}
 use Rattle.kept.specs.Tests.{and-left, and-right, all-head, all-tail}
 

@@ -1,0 +1,2 @@
+-- Lines that break at commas, as the loop sees them.
+pub mod Commas

@@ -1,0 +1,2 @@
+-- A header field's lines.
+pub mod Field

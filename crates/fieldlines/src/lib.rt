@@ -1,0 +1,32 @@
+// `write_field` of writer.rs: a header word padded to 12 columns, and its text over lines.
+use pen::put_bytes;
+use pen::put_spaces;
+use wrap::put_wrapped;
+ghost use mathlib.Core.Path.{_≡_};
+ghost use Prim.Native.Nat.{_-_, _≤_};
+ghost use lib.ListN.{length};
+ghost use Rattle.format.specs.Write.{padded, fieldLines};
+ghost use Rattle.pen.specs.Pen.{Writes};
+
+// How much of n is left of `used`.
+pub fn left_of(n: usize, used: usize) -> usize
+    ensures { λ r. ⌜ r ≡ n - used ⌝ }
+{
+    if used < n { n - used } else { 0 }
+}
+
+// A word, with spaces up to n columns.
+pub fn put_padded(out: &mut [u8], at: usize, word: &[u8], n: usize) -> usize
+    ensures { λ r. ⌜ Writes (now (out .entry)) at (padded n (now (word .entry))) (now (out .exit)) r ⌝ }
+{
+    let next = put_bytes(out, at, word);
+    put_spaces(out, next, left_of(n, word.len()))
+}
+
+pub fn put_field(out: &mut [u8], at: usize, word: &[u8], text: &[u8], width: usize) -> usize
+    requires { ⌜ (length (now word) ≤ 12) × (length (now text) ≤ 16777216) × (60 ≤ width) × (width ≤ 132) ⌝ }
+    ensures { λ r. ⌜ Writes (now (out .entry)) at (fieldLines width (now (word .entry)) (now (text .entry))) (now (out .exit)) r ⌝ }
+{
+    let next = put_padded(out, at, word, 12);
+    put_wrapped(out, next, text, 12, 12, false, width)
+}

@@ -1,0 +1,2 @@
+-- The ORIGIN block, ten letters at a time.
+pub mod Origin

@@ -1,0 +1,1 @@
+// Nothing runs here: specs/ proves what a layout holds.

@@ -1,0 +1,226 @@
+// The tests that numbers 11 and 13 make of a single text.
+use chars::is_between;
+use chars::is_letter;
+use chars::is_visible;
+use keys::bare_key;
+use keys::comma_key;
+use keys::translation_key;
+use table::both;
+ghost use mathlib.Core.Path.{_≡_};
+ghost use mathlib.Core.Bool.{_&&_, not};
+ghost use Prim.Native.Nat.{_+_, _≤_, _<_};
+ghost use lib.ListN.{length, drop};
+ghost use Rattle.format.specs.Bytes.{all, some, visible, printing, letter, but, space, starts};
+ghost use Rattle.format.specs.Features.{locationText, kindText};
+ghost use Rattle.format.specs.WellFormed.{kindFine, keyFine};
+ghost use Rattle.format.specs.Keeping.{spaceless, linesKept, headerKept, noLineEnd, noQuoteFirst, kindKept, noSlash, translationKept, bareKept, valueKept};
+ghost use Rattle.texts.specs.Words.{sameByte, Small, columnAfter};
+
+// All bytes are 33 to 126.
+pub fn visible_all(s: &[u8]) -> bool
+    ensures { λ r. ⌜ r ≡ all visible (now (s .entry)) ⌝ }
+{
+    let mut i = 0;
+    while i < s.len() {
+        if !is_visible(s[i]) {
+            return false;
+        }
+        i += 1;
+    }
+    true
+}
+
+// All bytes are 32 to 126.
+pub fn printing_all(s: &[u8]) -> bool
+    ensures { λ r. ⌜ r ≡ all printing (now (s .entry)) ⌝ }
+{
+    let mut i = 0;
+    while i < s.len() {
+        if !is_between(32, 126, s[i]) {
+            return false;
+        }
+        i += 1;
+    }
+    true
+}
+
+pub fn letters_all(s: &[u8]) -> bool
+    ensures { λ r. ⌜ r ≡ all letter (now (s .entry)) ⌝ }
+{
+    let mut i = 0;
+    while i < s.len() {
+        if !is_letter(s[i]) {
+            return false;
+        }
+        i += 1;
+    }
+    true
+}
+
+// No byte is c.
+pub fn without(s: &[u8], c: u8) -> bool
+    ensures { λ r. ⌜ r ≡ all (but c) (now (s .entry)) ⌝ }
+{
+    let mut i = 0;
+    while i < s.len() {
+        if s[i] == c {
+            return false;
+        }
+        i += 1;
+    }
+    true
+}
+
+// The first byte is c.
+fn begins(s: &[u8], c: u8) -> bool
+    ensures { λ r. ⌜ r ≡ starts (sameByte c) (now (s .entry)) ⌝ }
+{
+    if s.len() == 0 {
+        return false;
+    }
+    s[0] == c
+}
+
+pub fn location_fine(s: &[u8]) -> bool
+    ensures { λ r. ⌜ r ≡ locationText (now (s .entry)) ⌝ }
+{
+    if s.len() == 0 {
+        return false;
+    }
+    visible_all(s)
+}
+
+fn kind_text(s: &[u8]) -> bool
+    ensures { λ r. ⌜ r ≡ kindText (now (s .entry)) ⌝ }
+{
+    if s.len() == 0 {
+        return false;
+    }
+    both(visible_all(s), !begins(s, b'/'))
+}
+
+pub fn kind_fine(width: usize, kind: &[u8]) -> bool
+    requires { ⌜ 7 ≤ width ⌝ }
+    ensures { λ r. ⌜ r ≡ kindFine width (now (kind .entry)) ⌝ }
+{
+    both(kind.len() <= width - 7, kind_text(kind))
+}
+
+fn key_text(s: &[u8]) -> bool
+    ensures { λ r. ⌜ r ≡ (some (now (s .entry)) && (all visible (now (s .entry)) && all (but 61) (now (s .entry)))) ⌝ }
+{
+    if s.len() == 0 {
+        return false;
+    }
+    both(visible_all(s), without(s, b'='))
+}
+
+pub fn key_fine(width: usize, key: &[u8]) -> bool
+    requires { ⌜ 25 ≤ width ⌝ }
+    ensures { λ r. ⌜ r ≡ keyFine width (now (key .entry)) ⌝ }
+{
+    both(key.len() <= width - 25, key_text(key))
+}
+
+pub fn without_spaces(s: &[u8]) -> bool
+    ensures { λ r. ⌜ r ≡ spaceless (now (s .entry)) ⌝ }
+{
+    if s.len() == 0 {
+        return false;
+    }
+    without(s, b' ')
+}
+
+// No CR, no LF at the end, and each line with what stands before it shorter than the width; quotes count twice where they are doubled.
+pub fn lines_kept(text: &[u8], quote: bool, width: usize, indent: usize, start: usize) -> bool
+    requires { ⌜ Small indent start (length (now text)) ⌝ }
+    ensures { λ r. ⌜ r ≡ linesKept quote width indent start (now (text .entry)) ⌝ }
+{
+    let mut used = start;
+    let mut i = 0;
+    while i < text.len() {
+        let Column::At(next) = column_after(text, i, quote, width, indent, used) else {
+            return false;
+        };
+        used = next;
+        i += 1;
+    }
+    used < width
+}
+
+// The columns used after a byte, or that its line may not be so.
+pub enum Column {
+    At(usize),
+    Broken,
+}
+
+fn column_after(
+    text: &[u8],
+    i: usize,
+    quote: bool,
+    width: usize,
+    indent: usize,
+    used: usize,
+) -> Column
+    requires { ⌜ (i < length (now text)) × (used ≤ 9007199254740992) ⌝ }
+    ensures { λ r. ⌜ r ≡ columnAfter quote width indent used (drop i (now (text .entry))) ⌝ }
+{
+    let b = text[i];
+    if both(quote, b == 34) {
+        return Column::At(used + 2);
+    }
+    if b == 10 {
+        if both(used < width, i + 1 < text.len()) {
+            return Column::At(indent);
+        }
+        return Column::Broken;
+    }
+    if b == 13 {
+        return Column::Broken;
+    }
+    Column::At(used + 1)
+}
+
+pub fn header_kept(width: usize, text: &[u8]) -> bool
+    requires { ⌜ length (now text) ≤ 16777216 ⌝ }
+    ensures { λ r. ⌜ r ≡ headerKept width (now (text .entry)) ⌝ }
+{
+    both(lines_kept(text, false, width, 12, 12), !begins(text, b' '))
+}
+
+pub fn kind_kept(kind: &[u8]) -> bool
+    ensures { λ r. ⌜ r ≡ kindKept (now (kind .entry)) ⌝ }
+{
+    kind.len() <= 15
+}
+
+fn bare_kept(width: usize, key: &[u8], value: &[u8]) -> bool
+    requires { ⌜ (length (now key) ≤ 16777216) × (length (now value) ≤ 16777216) ⌝ }
+    ensures { λ r. ⌜ r ≡ bareKept width (now (key .entry)) (now (value .entry)) ⌝ }
+{
+    let ends = both(without(value, 10), without(value, 13));
+    let short = 23 + key.len() + value.len() < width;
+    both(ends, both(!begins(value, b'"'), short))
+}
+
+fn translation_kept(value: &[u8]) -> bool
+    ensures { λ r. ⌜ r ≡ translationKept (now (value .entry)) ⌝ }
+{
+    both(visible_all(value), without(value, b'"'))
+}
+
+pub fn value_kept(width: usize, key: &[u8], value: &[u8]) -> bool
+    requires { ⌜ (length (now key) ≤ 16777216) × (length (now value) ≤ 16777216) ⌝ }
+    ensures { λ r. ⌜ r ≡ valueKept width (now (key .entry)) (now (value .entry)) ⌝ }
+{
+    if comma_key(key) {
+        return both(without(value, b'/'), !begins(value, b'"'));
+    }
+    if bare_key(key) {
+        return bare_kept(width, key, value);
+    }
+    if translation_key(key) {
+        return translation_kept(value);
+    }
+    lines_kept(value, true, width, 21, 24 + key.len())
+}
