@@ -13,7 +13,7 @@ use Rattle.format.specs.Table.{Feature}
 use Rattle.format.specs.Readers.{Ans, Got, No, Cut, passing, tag}
 use Rattle.format.specs.Features.{kindText, featureFrom}
 use Rattle.chars.specs.Places.{part}
-use Rattle.chars.specs.Views.{Texted}
+use Rattle.chars.specs.Views.{Texted, Emptied, PastOne}
 use Rattle.chars.specs.declared.Step.{Step}
 use Rattle.chars.specs.declared.Step.the-variants as step
 use Rattle.chars.specs.Parts.{length-part, part-none, part-cons}
@@ -77,3 +77,12 @@ module _ (s : List ℕ) (i : ℕ) where
   pub slash-got : i < length s → getD s i 0 ≡ 47 → keyText (drop (i + 1) s) ≡ keySlash (drop i s)
   unfolding tag
   slash-got h e = rw (add-one, drop-cons s i 0 h, tag, eq-eqb _ _ e)
+
+-- an empty text that was read further on
+pub emptied-from : (s : List ℕ) (at from : ℕ) (o : Ans (List ℕ)) (r : Step) → at ≤ from → Emptied s from o r → Emptied s at o r
+emptied-from s at from o r h e = record { is = e .is; place = go r (e .place) }
+  where
+    go : (r : Step) → PastOne s from r → PastOne s at r
+    go (step.Got n) w = (omega (arith, w .0), w .1)
+    go step.No w = tt
+    go step.Cut w = tt

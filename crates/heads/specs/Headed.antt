@@ -3,15 +3,22 @@ use Prim.Native.Nat.{ℕ, _+_, _-_, _≤_, _<_}
 use mathlib.Core.Path.{_≡_, refl}
 use mathlib.Core.List.{List, []}
 use lib.ListN.{length, drop}
-use Rattle.format.specs.Bytes.{bytes, spaces, space}
+use Rattle.format.specs.Bytes.{bytes, spaces, space, notBlank}
 use Rattle.format.specs.Table.{Qualifier, Feature}
-use Rattle.format.specs.Readers.{Ans, Got, No, Cut, bind, passing, tag, until1, spaces1, utf8Of}
+use Rattle.format.specs.Readers.{Ans, Got, No, Cut, bind, passing, tag, until1, spaces1, lineEnd, utf8Of}
 use Rattle.format.specs.Features.{keyEnd, kindText, valueOf, qualifier, featureFrom, feature}
 use Rattle.chars.specs.Places.{part}
 use Rattle.heads.specs.declared.Kind.{Kind}
 use Rattle.heads.specs.declared.Kind.the-variants as kind
 use Rattle.heads.specs.declared.Key.{Key}
 use Rattle.heads.specs.declared.Key.the-variants as key
+
+-- `featuresHeader` from its last words on, and from the blanks before them on
+abbrev pub headerWords : List ℕ → Ans (List ℕ)
+headerWords s = bind (tag (bytes "Location/Qualifiers") s) λ _ s. lineEnd s
+
+abbrev pub headerGap : List ℕ → Ans (List ℕ)
+headerGap s = bind (until1 notBlank s) λ _ s. headerWords s
 
 -- `feature` from the spaces after the kind on, and from the kind on; n bytes stand before the kind
 abbrev pub kindGap : ℕ → List ℕ → List ℕ → Ans Feature

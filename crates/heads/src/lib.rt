@@ -7,7 +7,7 @@ ghost use Rattle.format.specs.Bytes.{all, visible};
 ghost use Rattle.format.specs.Features.{featuresHeader, kindText, feature};
 ghost use Rattle.chars.specs.Places.{part};
 ghost use Rattle.chars.specs.Views.{Emptied};
-ghost use Rattle.heads.specs.Headed.{kindGap, kindFrom, KindRead, keyText, keySlash, keyHead, KeyRead};
+ghost use Rattle.heads.specs.Headed.{headerWords, headerGap, kindGap, kindFrom, KindRead, keyText, keySlash, keyHead, KeyRead};
 
 // A feature's kind is first..end, and its location starts at `next`.
 pub enum Kind {
@@ -140,5 +140,41 @@ pub fn key_at(s: &[u8], at: usize, indent: usize) -> Key
         Step::No => Key::No,
         Step::Cut => Key::Cut,
         Step::Got(from) => key_slash(s, at, from),
+    }
+}
+
+// The feature table's first line, from its last words on; it starts at `at`.
+fn header_words(s: &[u8], at: usize, from: usize) -> Step
+    requires { ⌜ (at ≤ from) × (from ≤ length (now s)) ⌝ }
+    ensures { λ r. ⌜ Emptied (now (s .entry)) at (headerWords (drop from (now (s .entry)))) r ⌝ }
+{
+    match chars::tag(s, from, b"Location/Qualifiers") {
+        Step::No => Step::No,
+        Step::Cut => Step::Cut,
+        Step::Got(end) => chars::line_end(s, end),
+    }
+}
+
+// The same from its blanks on.
+fn header_gap(s: &[u8], at: usize, from: usize) -> Step
+    requires { ⌜ (at ≤ from) × (from ≤ length (now s)) ⌝ }
+    ensures { λ r. ⌜ Emptied (now (s .entry)) at (headerGap (drop from (now (s .entry)))) r ⌝ }
+{
+    match chars::blanks1(s, from) {
+        Step::No => Step::No,
+        Step::Cut => Step::Cut,
+        Step::Got(words) => header_words(s, at, words),
+    }
+}
+
+// The feature table's first line.
+pub fn features_header(s: &[u8], at: usize) -> Step
+    requires { ⌜ at ≤ length (now s) ⌝ }
+    ensures { λ r. ⌜ Emptied (now (s .entry)) at (featuresHeader (drop at (now (s .entry)))) r ⌝ }
+{
+    match chars::tag(s, at, b"FEATURES") {
+        Step::No => Step::No,
+        Step::Cut => Step::Cut,
+        Step::Got(gap) => header_gap(s, at, gap),
     }
 }
