@@ -1,0 +1,41 @@
+use Rattle.format.specs.Bytes.{but}
+use Rattle.format.specs.Readers.{until}
+use Rattle.heads.proofs.Heading.{gap-indent}
+use Rattle.chars.specs.Sequence.{text-no, text-cut, text-got, text-is, text-some, text-places}
+use Prim.Native.Nat.{ℕ, suc, _+_, _-_, _*_, _/_, _%_, _≤_, _<_}
+use mathlib.Core.Path.{_≡_, refl, sym, ap, _∙_}
+use lib.ListN.{length, getD, take, drop, set}
+use native.Mathlib.Omega.{arith}
+use denote.Ref.{now}
+use borrow.Author.Needs.{needs}
+use Rattle.heads.proofs.kind_gap.Statement.{statement}
+use Rattle.heads.proofs.kind_gap.Tie as tie
+use Rattle.heads.proofs.kind_gap.Reads as reads
+use Rattle.heads.proofs.kind_gap.Lts as lts
+use Rattle.chars.proofs.spaces1.Reads as spaces1-reads
+
+spaces1-requires : tie.Need-spaces1-requires
+spaces1-requires c κs = search needs
+
+enum-told : tie.Need-enum-told
+enum-told c = search needs
+
+enum-told-2 : tie.Need-enum-told-2
+enum-told-2 c = search needs
+
+enum-known-next : tie.Need-enum-known-next
+enum-known-next c = search needs
+
+returns : tie.Need-returns
+returns c = record { is = text-no _ _ _ _ _ (c .before .before .spaces1 .ensures) (c .enum-told .given .1); place = tt }
+
+returns-2 : tie.Need-returns-2
+returns-2 c = record { is = text-cut _ _ _ _ _ (c .before .before .spaces1 .ensures) (c .enum-told2 .given .1); place = tt }
+
+returns-3 : tie.Need-returns-3
+returns-3 c = let l = text-some (until (but 32) (drop (c .before .before .before .before .before .args .end) (now (c .before .before .before .before .before .args .s)))) (c .before .before .before .spaces1 .ensures) (c .before .next .given .1) in let w = text-places (c .before .before .before .spaces1 .ensures) (c .before .next .given .1) in record { is = text-got _ _ _ _ _ _ _ (c .before .before .before .spaces1 .ensures) (c .before .next .given .1) (gap-indent _ _ _ _ _ (c .before .before .before .before .before .pre .0) (c .before .before .before .before .before .pre .1) (w .0) (w .1)); place = (c .before .before .before .before .before .pre .0, c .before .before .before .before .before .pre .1, l, w .1) }
+
+pub kind-gap-spec : {M : Type 1} → statement M
+kind-gap-spec =
+    tie.close
+    (tie.spec spaces1-requires enum-told enum-told-2 enum-known-next returns returns-2 returns-3)

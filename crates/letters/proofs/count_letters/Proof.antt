@@ -1,0 +1,73 @@
+use borrow.Author.Tests.{not-false}
+use Rattle.format.specs.Origin.{letters}
+use Rattle.letters.specs.Runs.{tally, plus, sixtyOf}
+use Rattle.letters.proofs.Passing.{count-run, counts-from, plus-none, length-sixty}
+use Prim.Native.Nat.{ℕ, suc, _+_, _-_, _*_, _/_, _%_, _≤_, _<_}
+use mathlib.Core.Path.{_≡_, refl, sym, ap, _∙_}
+use lib.ListN.{length, getD, take, drop, set}
+use native.Mathlib.Omega.{arith}
+use borrow.Author.Needs.{needs}
+use denote.Ref.{now}
+use Rattle.letters.proofs.count_letters.Statement.{statement}
+use Rattle.letters.proofs.count_letters.Tie as tie
+use Rattle.letters.proofs.count_letters.Reads as reads
+use Rattle.letters.proofs.count_letters.Lts as lts
+use Rattle.letters.proofs.count_from.Reads as count-from-reads
+use Rattle.letters.proofs.usual.Reads as usual-reads
+
+abbrev Inv-loop : tie.InvT-loop
+Inv-loop s at k₀ i₀ k i = (at ≤ i) × (i ≤ length s) × (k + at ≤ i) × (tally (letters (drop at s)) ≡ plus k (tally (letters (drop i s))))
+
+abbrev μ-loop : tie.MeasureT-loop
+μ-loop s at k₀ i₀ k i = length s - i
+
+loop-holds : tie.Need-loop-holds Inv-loop μ-loop
+loop-holds c = (search needs, search needs, search needs, plus-none _)
+
+sub-loop : tie.Need-sub-loop Inv-loop μ-loop
+sub-loop c = search needs
+
+usual-requires : tie.Need-usual-requires Inv-loop μ-loop
+usual-requires c κs = search needs
+
+count-from-requires : tie.Need-count-from-requires Inv-loop μ-loop
+count-from-requires c κs = search needs
+
+returns : tie.Need-returns Inv-loop μ-loop
+returns c = counts-from _ _ _ _ _ _ (omega arith) (c .before .before .before .before .loop .inv .3) (c .count-from .ensures)
+
+add-k : tie.Need-add-k Inv-loop μ-loop
+add-k c = search needs
+
+add-i : tie.Need-add-i Inv-loop μ-loop
+add-i c = search needs
+
+loop-less : tie.Need-loop-less Inv-loop μ-loop
+loop-less c = search needs
+
+loop-again : tie.Need-loop-again Inv-loop μ-loop
+loop-again c = (omega arith, omega arith, omega arith, let e : length (sixtyOf (now (c .before .before .before .before .before .args .s)) (c .before .before .before .loop .i)) ≡ 60 = length-sixty (now (c .before .before .before .before .before .args .s)) (c .before .before .before .loop .i) (omega arith) in rw e at (count-run _ _ _ _ _ _ (c .before .usual .ensures .go (not-false _ (c .if1 .left))) (c .before .before .before .loop .inv .3)))
+
+count-from-requires-2 : tie.Need-count-from-requires-2 Inv-loop μ-loop
+count-from-requires-2 c κs = search needs
+
+returns-2 : tie.Need-returns-2 Inv-loop μ-loop
+returns-2 c = counts-from _ _ _ _ _ _ (omega arith) (c .before .before .loop .inv .3) (c .count-from2 .ensures)
+
+pub count-letters-spec : {M : Type 1} → statement M
+count-letters-spec =
+    tie.close
+    (tie.spec
+    Inv-loop
+    μ-loop
+    loop-holds
+    sub-loop
+    usual-requires
+    count-from-requires
+    returns
+    add-k
+    add-i
+    loop-less
+    loop-again
+    count-from-requires-2
+    returns-2)

@@ -1,0 +1,32 @@
+use Prim.Native.Nat.{ℕ, suc, _+_, _-_, _*_, _/_, _%_, _≤_, _<_}
+use mathlib.Core.Path.{_≡_, refl, sym, ap, _∙_}
+use lib.ListN.{length, getD, take, drop, set}
+use native.Mathlib.Omega.{arith}
+use denote.Ref.{now}
+use borrow.Author.Needs.{needs}
+use Rattle.letters.proofs.is_skipped.Statement.{statement}
+use Rattle.letters.proofs.is_skipped.Tie as tie
+use Rattle.letters.proofs.is_skipped.Reads as reads
+use Rattle.letters.proofs.is_skipped.Lts as lts
+use Rattle.chars.proofs.is_digit.Reads as is-digit-reads
+use Rattle.letters.proofs.either.Reads as either-reads
+
+is-digit-requires : tie.Need-is-digit-requires
+is-digit-requires c κs = search needs
+
+either-requires : tie.Need-either-requires
+either-requires c κs = search needs
+
+either-requires-2 : tie.Need-either-requires-2
+either-requires-2 c κs = search needs
+
+either-requires-3 : tie.Need-either-requires-3
+either-requires-3 c κs = search needs
+
+returns : tie.Need-returns
+returns c = rw (c .either3 .ensures, c .before .before .before .is-digit .ensures, c .before .either2 .ensures, c .before .before .either .ensures)
+
+pub is-skipped-spec : {M : Type 1} → statement M
+is-skipped-spec =
+    tie.close
+    (tie.spec is-digit-requires either-requires either-requires-2 either-requires-3 returns)

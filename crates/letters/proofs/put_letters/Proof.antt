@@ -1,0 +1,82 @@
+use borrow.Author.Tests.{not-false}
+use Rattle.letters.specs.Runs.{sifted, sixtyOf}
+use Rattle.letters.proofs.Passing.{left-run}
+use Rattle.pen.specs.Pen.{Left, left-start}
+use Prim.Native.Nat.{ℕ, suc, _+_, _-_, _*_, _/_, _%_, _≤_, _<_}
+use mathlib.Core.Path.{_≡_, refl, sym, ap, _∙_}
+use lib.ListN.{length, getD, take, drop, set}
+use native.Mathlib.Omega.{arith}
+use borrow.Author.Needs.{needs}
+use denote.Ref.{now}
+use Rattle.letters.proofs.put_letters.Statement.{statement}
+use Rattle.letters.proofs.put_letters.Tie as tie
+use Rattle.letters.proofs.put_letters.Reads as reads
+use Rattle.letters.proofs.put_letters.Lts as lts
+use Rattle.letters.proofs.put_from.Reads as put-from-reads
+use Rattle.letters.proofs.put_sixty.Reads as put-sixty-reads
+use Rattle.letters.proofs.usual.Reads as usual-reads
+
+abbrev Inv-loop : tie.InvT-loop
+Inv-loop s at room₀ place p₀ i₀ room p i = (i ≤ length s) × (length room ≡ length room₀) × Left room₀ place (sifted (drop at s)) room p (sifted (drop i s))
+
+abbrev μ-loop : tie.MeasureT-loop
+μ-loop s at room₀ place p₀ i₀ room p i = length s - i
+
+loop-holds : tie.Need-loop-holds Inv-loop μ-loop
+loop-holds c = (search needs, refl, left-start)
+
+sub-loop : tie.Need-sub-loop Inv-loop μ-loop
+sub-loop c = search needs
+
+usual-requires : tie.Need-usual-requires Inv-loop μ-loop
+usual-requires c κs = search needs
+
+put-from-requires : tie.Need-put-from-requires Inv-loop μ-loop
+put-from-requires c κs = search needs
+
+same-length : tie.Need-same-length Inv-loop μ-loop
+same-length c = search needs
+
+returns : tie.Need-returns Inv-loop μ-loop
+returns c = c .before .before .before .before .before .before .before .loop .inv .2 .by _ _ (c .before .before .put-from .ensures)
+
+put-sixty-requires : tie.Need-put-sixty-requires Inv-loop μ-loop
+put-sixty-requires c κs = search needs
+
+add-i : tie.Need-add-i Inv-loop μ-loop
+add-i c = search needs
+
+loop-less : tie.Need-loop-less Inv-loop μ-loop
+loop-less c = search needs
+
+loop-again : tie.Need-loop-again Inv-loop μ-loop
+loop-again c = (search needs, search needs, left-run _ _ _ _ (c .before .before .before .before .before .before .before .loop .inv .2) (c .before .before .before .before .before .usual .ensures .go (not-false _ (c .before .before .before .before .if1 .left))) (c .before .before .put-sixty .ensures))
+
+put-from-requires-2 : tie.Need-put-from-requires-2 Inv-loop μ-loop
+put-from-requires-2 c κs = search needs
+
+same-length-2 : tie.Need-same-length-2 Inv-loop μ-loop
+same-length-2 c = search needs
+
+returns-2 : tie.Need-returns-2 Inv-loop μ-loop
+returns-2 c = c .before .before .before .before .before .loop .inv .2 .by _ _ (c .before .before .put-from2 .ensures)
+
+pub put-letters-spec : {M : Type 1} → statement M
+put-letters-spec =
+    tie.close
+    (tie.spec
+    Inv-loop
+    μ-loop
+    loop-holds
+    sub-loop
+    usual-requires
+    put-from-requires
+    same-length
+    returns
+    put-sixty-requires
+    add-i
+    loop-less
+    loop-again
+    put-from-requires-2
+    same-length-2
+    returns-2)

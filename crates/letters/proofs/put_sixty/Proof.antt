@@ -1,0 +1,41 @@
+use Rattle.pen.specs.Pen.{writes-append}
+use Prim.Native.Nat.{ℕ, suc, _+_, _-_, _*_, _/_, _%_, _≤_, _<_}
+use mathlib.Core.Path.{_≡_, refl, sym, ap, _∙_}
+use lib.ListN.{length, getD, take, drop, set}
+use native.Mathlib.Omega.{arith}
+use denote.Ref.{now}
+use borrow.Author.Needs.{needs}
+use Rattle.letters.proofs.put_sixty.Statement.{statement}
+use Rattle.letters.proofs.put_sixty.Tie as tie
+use Rattle.letters.proofs.put_sixty.Reads as reads
+use Rattle.letters.proofs.put_sixty.Lts as lts
+use Rattle.letters.proofs.put_thirty.Reads as put-thirty-reads
+
+add-put-thirty : tie.Need-add-put-thirty
+add-put-thirty c = search needs
+
+put-thirty-requires : tie.Need-put-thirty-requires
+put-thirty-requires c κs = search needs
+
+add-put-thirty-2 : tie.Need-add-put-thirty-2
+add-put-thirty-2 c = search needs
+
+put-thirty-requires-2 : tie.Need-put-thirty-requires-2
+put-thirty-requires-2 c κs = search needs
+
+same-length : tie.Need-same-length
+same-length c = search needs
+
+returns : tie.Need-returns
+returns c = writes-append (c .before .before .before .before .before .before .put-thirty .ensures) (c .before .before .put-thirty2 .ensures)
+
+pub put-sixty-spec : {M : Type 1} → statement M
+put-sixty-spec =
+    tie.close
+    (tie.spec
+    add-put-thirty
+    put-thirty-requires
+    add-put-thirty-2
+    put-thirty-requires-2
+    same-length
+    returns)
