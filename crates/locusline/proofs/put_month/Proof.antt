@@ -1,0 +1,46 @@
+-- `locusline::put_month` meets its contract.
+use Rattle.pen.specs.Pen.{writes-as}
+use Prim.Native.Nat.{_+_, _-_, _*_}
+use mathlib.Core.Path.{_≡_}
+use Rattle.locusline.specs.Locus.{month-is}
+use native.Mathlib.Omega.{arith}
+use borrow.Author.Needs.{needs}
+use Rattle.locusline.proofs.put_month.Statement.{statement}
+use Rattle.locusline.proofs.put_month.Tie as tie
+
+left-of-requires : tie.Need-left-of-requires
+left-of-requires c κs = search needs
+
+mul-from : tie.Need-mul-from
+mul-from c = search needs
+
+slice-aggregate-put-part : tie.Need-slice-aggregate-put-part
+slice-aggregate-put-part c = search needs
+
+add-put-part : tie.Need-add-put-part
+add-put-part c = search needs
+
+put-part-requires : tie.Need-put-part-requires
+put-part-requires c κs = search needs
+
+same-length : tie.Need-same-length
+same-length c = search needs
+
+returns : tie.Need-returns
+returns c =
+    let m = c .before .before .before .before .before .before .before .args .month in
+    let e : (c .before .before .before .before .before .left-of .result) ≡ m - 1 = c .before .before .before .before .before .left-of .ensures in
+    let y : (m - 1) * 3 + 3 - (m - 1) * 3 ≡ 3 = omega arith in
+    writes-as (rw (e, y) (month-is m (search needs))) (c .before .before .put-part .ensures)
+
+pub put-month-spec : {M : Type 1} → statement M
+put-month-spec =
+    tie.close
+    (tie.spec
+    left-of-requires
+    mul-from
+    slice-aggregate-put-part
+    add-put-part
+    put-part-requires
+    same-length
+    returns)

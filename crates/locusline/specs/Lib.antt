@@ -1,0 +1,2 @@
+-- Parts of the LOCUS line.
+pub mod Locus

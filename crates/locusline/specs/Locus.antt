@@ -1,0 +1,48 @@
+-- Parts of the LOCUS line: the date's three parts, and how long each part can be.
+use mathlib.Core.Path.{_≡_, refl}
+use Prim.Native.Nat.{ℕ, zero, suc, _+_, _-_, _*_, _/_, _%_, _≤_, _<_}
+use native.Mathlib.Omega.{arith}
+use native.Mathlib.Numerals.{add-one}
+use mathlib.Core.Bool.{true}
+use mathlib.Core.List.{List, [], _∷_, _++_}
+use lib.ListN.{length, take, drop}
+use borrow.Author.Tests.{lt-ltb, le-ltb}
+use Rattle.format.specs.Bytes.{bytes, spaces, is, decimal}
+use Rattle.format.specs.Dates.{monthName}
+use Rattle.format.specs.Write.{padded, nameAndLength, moleculeText}
+
+abbrev pub dayText : ℕ → List ℕ
+dayText d = (48 + d / 10) ∷ (48 + d % 10) ∷ 45 ∷ []
+
+abbrev pub yearText : ℕ → List ℕ
+yearText y = 45 ∷ (48 + y / 10 / 10 / 10) ∷ (48 + y / 10 / 10 % 10) ∷ (48 + y / 10 % 10) ∷ (48 + y % 10) ∷ []
+
+-- the months' names one after the other
+abbrev pub monthNames : List ℕ
+monthNames = bytes "JANFEBMARAPRMAYJUNJULAUGSEPOCTNOVDEC"
+
+pub month-is : (m : ℕ) → m ≤ 12 → take 3 (drop ((m - 1) * 3) monthNames) ≡ monthName m
+unfolding monthName
+month-is zero h = refl
+month-is (suc zero) h = refl
+month-is (suc (suc zero)) h = refl
+month-is (suc (suc (suc zero))) h = refl
+month-is (suc (suc (suc (suc zero)))) h = refl
+month-is (suc (suc (suc (suc (suc zero))))) h = refl
+month-is (suc (suc (suc (suc (suc (suc zero)))))) h = refl
+month-is (suc (suc (suc (suc (suc (suc (suc zero))))))) h = refl
+month-is (suc (suc (suc (suc (suc (suc (suc (suc zero)))))))) h = refl
+month-is (suc (suc (suc (suc (suc (suc (suc (suc (suc zero))))))))) h = refl
+month-is (suc (suc (suc (suc (suc (suc (suc (suc (suc (suc zero)))))))))) h = refl
+month-is (suc (suc (suc (suc (suc (suc (suc (suc (suc (suc (suc zero))))))))))) h = refl
+month-is (suc (suc (suc (suc (suc (suc (suc (suc (suc (suc (suc (suc zero)))))))))))) h = refl
+month-is (suc (suc (suc (suc (suc (suc (suc (suc (suc (suc (suc (suc (suc m))))))))))))) h = absurd (omega arith)
+
+pub name-is : (name : List ℕ) (n d a : ℕ) → d ≡ length (decimal n) → a ≡ 27 - (length name + d) → name ++ spaces (a + 1) ++ decimal n ≡ nameAndLength name (decimal n)
+name-is name n d a e f = rw (f, e, add-one (27 - (length name + length (decimal n))))
+
+pub molecule-long : (m : List ℕ) → 7 < length m → spaces 7 ≡ padded 7 (moleculeText true (is m))
+molecule-long m h = rw (lt-ltb 7 (length m) h)
+
+pub molecule-short : (m : List ℕ) → length m ≤ 7 → padded 7 m ≡ padded 7 (moleculeText true (is m))
+molecule-short m h = rw (le-ltb 7 (length m) h)
