@@ -1,0 +1,55 @@
+use Prim.Native.Nat.{ℕ, suc, _+_, _-_, _*_, _/_, _%_, _≤_, _<_}
+use mathlib.Core.Path.{_≡_, refl, sym, ap, _∙_}
+use lib.ListN.{length, getD, take, drop, set}
+use native.Mathlib.Omega.{arith}
+use denote.Ref.{now}
+use borrow.Author.Needs.{needs}
+use Rattle.chars.specs.Sequence.{sequence}
+use Rattle.bares.proofs.Bares.{texts}
+use Rattle.bares.proofs.bare_value_at.Statement.{statement}
+use Rattle.bares.proofs.bare_value_at.Tie as tie
+use Rattle.bares.proofs.bare_value_at.Reads as reads
+use Rattle.bares.proofs.bare_value_at.Lts as lts
+use Rattle.bares.proofs.bare_at.Reads as bare-at-reads
+use Rattle.utf8.proofs.utf8_ends.Reads as utf8-ends-reads
+
+bare-at-requires : tie.Need-bare-at-requires
+bare-at-requires c κs = search (texts, needs)
+
+enum-known-length : tie.Need-enum-known-length
+enum-known-length c = search (texts, needs)
+
+utf8-ends-requires : tie.Need-utf8-ends-requires
+utf8-ends-requires c κs = search (texts, needs)
+
+returns : tie.Need-returns
+returns c = search (texts, needs)
+
+enum-told : tie.Need-enum-told
+enum-told c = search (texts, needs)
+
+enum-told-2 : tie.Need-enum-told-2
+enum-told-2 c = search (texts, needs)
+
+returns-2 : tie.Need-returns-2
+returns-2 c = search (texts, needs)
+
+returns-3 : tie.Need-returns-3
+returns-3 c = search (texts, needs)
+
+returns-4 : tie.Need-returns-4
+returns-4 c = search (texts, needs)
+
+pub bare-value-at-spec : {M : Type 1} → statement M
+bare-value-at-spec =
+    tie.close
+    (tie.spec
+    bare-at-requires
+    enum-known-length
+    utf8-ends-requires
+    returns
+    enum-told
+    enum-told-2
+    returns-2
+    returns-3
+    returns-4)

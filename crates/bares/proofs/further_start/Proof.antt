@@ -1,0 +1,58 @@
+use Prim.Native.Nat.{ℕ, suc, _+_, _-_, _*_, _/_, _%_, _≤_, _<_}
+use mathlib.Core.Path.{_≡_, refl, sym, ap, _∙_}
+use lib.ListN.{length, getD, take, drop, set}
+use native.Mathlib.Omega.{arith}
+use denote.Ref.{now}
+use borrow.Author.Needs.{needs}
+use Rattle.chars.specs.Sequence.{sequence}
+use Rattle.bares.proofs.Lines.{slashes}
+use Rattle.bares.proofs.further_start.Statement.{statement}
+use Rattle.bares.proofs.further_start.Tie as tie
+use Rattle.bares.proofs.further_start.Reads as reads
+use Rattle.bares.proofs.further_start.Lts as lts
+use Rattle.chars.proofs.indent.Reads as indent-reads
+
+indent-requires : tie.Need-indent-requires
+indent-requires c κs = search (sequence, slashes, needs)
+
+enum-known-i : tie.Need-enum-known-i
+enum-known-i c = search (sequence, slashes, needs)
+
+returns : tie.Need-returns
+returns c = search (sequence, slashes, needs)
+
+shared-slice-read-if2 : tie.Need-shared-slice-read-if2
+shared-slice-read-if2 c = search (sequence, slashes, needs)
+
+returns-2 : tie.Need-returns-2
+returns-2 c = search (sequence, slashes, needs)
+
+enum-told : tie.Need-enum-told
+enum-told c = search (sequence, slashes, needs)
+
+enum-told-2 : tie.Need-enum-told-2
+enum-told-2 c = search (sequence, slashes, needs)
+
+returns-3 : tie.Need-returns-3
+returns-3 c = search (sequence, slashes, needs)
+
+returns-4 : tie.Need-returns-4
+returns-4 c = search (sequence, slashes, needs)
+
+returns-5 : tie.Need-returns-5
+returns-5 c = search (sequence, slashes, needs)
+
+pub further-start-spec : {M : Type 1} → statement M
+further-start-spec =
+    tie.close
+    (tie.spec
+    indent-requires
+    enum-known-i
+    returns
+    shared-slice-read-if2
+    returns-2
+    enum-told
+    enum-told-2
+    returns-3
+    returns-4
+    returns-5)

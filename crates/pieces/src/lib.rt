@@ -1,0 +1,35 @@
+// What a scan of a joined text answers; specs/ has the laws of texts that are joined from several pieces.
+ghost use mathlib.Core.Path.{_≡_};
+ghost use Prim.Native.Nat.{_≤_};
+ghost use mathlib.Core.Bool.{_&&_};
+ghost use lib.ListN.{length};
+ghost use Rattle.format.specs.Bytes.{all, visible};
+ghost use Rattle.chars.specs.Places.{part};
+
+// The text's length and the place after it; or no, or that the slice ended before that was clear.
+pub enum Value {
+    Got { length: usize, next: usize },
+    No,
+    Cut,
+}
+
+// Both, without a branch: the compiler then tests many bytes at once.
+fn both(a: bool, b: bool) -> bool
+    ensures { λ r. ⌜ r ≡ a && b ⌝ }
+{
+    if a { b } else { false }
+}
+
+// Whether `before` holds and each byte of a piece is visible.
+pub fn visible_on(before: bool, s: &[u8], from: usize, to: usize) -> bool
+    requires { ⌜ (from ≤ to) × (to ≤ length (now s)) ⌝ }
+    ensures { λ r. ⌜ r ≡ before && all visible (part from to (now (s .entry))) ⌝ }
+{
+    let mut ok = before;
+    let mut i = from;
+    while i < to {
+        ok = both(ok, chars::is_visible(s[i]));
+        i += 1;
+    }
+    ok
+}
