@@ -14,7 +14,7 @@ use Rattle.chars.specs.Sequence.{line-is}
 use Rattle.pen.specs.Pen.{Writes, Left, writes-append, writes-as, left-step, left-as, left-end}
 use Rattle.field.specs.Texts.{further}
 use Rattle.field.specs.Lines.{further-more, further-stop, further-cut, text-further}
-use Rattle.entries.specs.Texts.{textIn, Gets}
+use Rattle.entrytexts.specs.Texts.{textIn, Gets}
 
 pub line-kept : {l m n : List ℕ} {i j k : ℕ} (keep : Bool) (t : List ℕ) → keep ≡ true → Writes l i (10 ∷ []) m j → Writes m j t n k → Writes l i (lineAfter keep t) n k
 line-kept keep t e p q = rw e (writes-append p q)

@@ -8,7 +8,7 @@ ghost use Rattle.format.specs.Header.{lineAfter, fieldText};
 ghost use Rattle.chars.specs.Places.{part};
 ghost use Rattle.pen.specs.Pen.{Writes};
 ghost use Rattle.field.specs.Texts.{further};
-ghost use Rattle.entries.specs.Texts.{textIn, Gets};
+ghost use Rattle.entrytexts.specs.Texts.{textIn, Gets};
 
 // A further line from `from` to `to`.
 fn put_line(s: &[u8], from: usize, to: usize, keep: bool, room: &mut [u8], place: usize) -> usize

@@ -1,8 +1,8 @@
--- `entries::put_line` meets its contract. Assumes nothing.
+-- `entrytexts::put_line` meets its contract. Assumes nothing.
 use borrow.Author.Needs.{needs}
-use Rattle.entries.proofs.Putting.{line-kept, line-plain}
-use Rattle.entries.proofs.put_line.Statement.{statement}
-use Rattle.entries.proofs.put_line.Tie as tie
+use Rattle.entrytexts.proofs.Putting.{line-kept, line-plain}
+use Rattle.entrytexts.proofs.put_line.Statement.{statement}
+use Rattle.entrytexts.proofs.put_line.Tie as tie
 
 put-byte-requires : tie.Need-put-byte-requires
 put-byte-requires c κs = search needs

@@ -1,4 +1,4 @@
--- `entries::put_further` meets its contract. Assumes nothing.
+-- `entrytexts::put_further` meets its contract. Assumes nothing.
 use Prim.Native.Nat.{_-_, _≤_}
 use mathlib.Core.Path.{_≡_, refl}
 use lib.ListN.{length, drop}
@@ -8,10 +8,10 @@ use denote.Ref.{now}
 use Rattle.field.specs.Lines.{piece-places, piece-is, piece-is-no, piece-is-cut}
 use Rattle.field.specs.Texts.{further}
 use Rattle.pen.specs.Pen.{left-start}
-use Rattle.entries.specs.Texts.{textIn}
-use Rattle.entries.proofs.Putting.{Putting, putting-more, putting-stop, putting-cut}
-use Rattle.entries.proofs.put_further.Statement.{statement}
-use Rattle.entries.proofs.put_further.Tie as tie
+use Rattle.entrytexts.specs.Texts.{textIn}
+use Rattle.entrytexts.proofs.Putting.{Putting, putting-more, putting-stop, putting-cut}
+use Rattle.entrytexts.proofs.put_further.Statement.{statement}
+use Rattle.entrytexts.proofs.put_further.Tie as tie
 
 abbrev Inv-loop : tie.InvT-loop
 Inv-loop s at columns keep room₀ place i₀ p₀ room i p =

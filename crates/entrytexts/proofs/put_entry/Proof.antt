@@ -1,10 +1,10 @@
--- `entries::put_entry` meets its contract. Assumes nothing.
+-- `entrytexts::put_entry` meets its contract. Assumes nothing.
 use denote.Ref.{now}
 use borrow.Author.Needs.{needs}
 use Rattle.chars.specs.Sequence.{line-places}
-use Rattle.entries.proofs.Putting.{never-no, never-cut, rest-gets, whole-put}
-use Rattle.entries.proofs.put_entry.Statement.{statement}
-use Rattle.entries.proofs.put_entry.Tie as tie
+use Rattle.entrytexts.proofs.Putting.{never-no, never-cut, rest-gets, whole-put}
+use Rattle.entrytexts.proofs.put_entry.Statement.{statement}
+use Rattle.entrytexts.proofs.put_entry.Tie as tie
 
 line-at-requires : tie.Need-line-at-requires
 line-at-requires c κs = search needs
