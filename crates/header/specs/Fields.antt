@@ -1,0 +1,47 @@
+-- Fields of the header as the code answers them.
+use Prim.Native.Nat.{ℕ, _+_, _≤_, _<_}
+use mathlib.Core.Path.{_≡_}
+use mathlib.Core.Bool.{Bool}
+use mathlib.Core.List.{List}
+use lib.ListN.{length, drop}
+use Rattle.format.specs.Bytes.{May, absent, is, bytes}
+use Rattle.format.specs.Readers.{Ans, Got, Cut, orElse, tag}
+use Rattle.format.specs.Header.{fieldText}
+use Rattle.field.specs.declared.Entry.{Entry}
+use Rattle.header.specs.declared.MayEntry.{MayEntry}
+use Rattle.header.specs.declared.MayEntry.the-variants as may
+use Rattle.header.specs.declared.MayEntryAt.{MayEntryAt}
+use Rattle.header.specs.declared.MayEntryAt.the-variants as may-at
+
+-- a word at which no line is dropped, tried in the Rust's order
+unfoldable pub sectionWord : List ℕ → Ans Unit
+sectionWord s = orElse (orElse (tag (bytes "ORIGIN") s) (tag (bytes "CONTIG") s)) (orElse (tag (bytes "FEATURES") s) (tag (bytes "//") s))
+
+-- the text t stands where the entry says
+pub record Stands (s : List ℕ) (at : ℕ) (keep : Bool) (t : List ℕ) (e : Entry) : Type 0 where
+  pub again : fieldText (e .columns) keep (drop (e .text) s) ≡ Got t (drop (e .next) s)
+  pub sized : e .length ≡ length t
+  pub from : at ≤ e .text
+  pub ahead : e .text < e .next
+  pub within : e .next ≤ length s
+  pub small : e .length + e .text ≤ e .next
+
+abbrev pub MayStand : List ℕ → ℕ → Bool → May (List ℕ) → MayEntry → Type 0
+MayStand s at keep absent may.Absent = Unit
+MayStand s at keep absent (may.Is e) = ⊥
+MayStand s at keep (is t) may.Absent = ⊥
+MayStand s at keep (is t) (may.Is e) = Stands s at keep t e
+
+pub record MayKnown (s : List ℕ) (at : ℕ) (keep : Bool) (o : Ans (May (List ℕ))) (e : MayEntry) (next : ℕ) : Type 0 where
+  pub the : May (List ℕ)
+  pub is : o ≡ Got the (drop next s)
+  pub stands : MayStand s at keep the e
+  pub from : at ≤ next
+  pub within : next ≤ length s
+
+abbrev pub MayEnterAs : List ℕ → ℕ → Bool → Ans (May (List ℕ)) → MayEntryAt → Type 0
+MayEnterAs s at keep o (may-at.Got e next) = MayKnown s at keep o e next
+MayEnterAs s at keep o may-at.Cut = o ≡ Cut
+
+pub record MayEnter (s : List ℕ) (at : ℕ) (keep : Bool) (o : Ans (May (List ℕ))) (r : MayEntryAt) : Type 0 where
+  pub is : MayEnterAs s at keep o r

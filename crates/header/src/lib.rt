@@ -1,0 +1,93 @@
+// The header's fields (field.rs): entries that may be missing, and lines that are dropped.
+use chars::Line;
+use chars::Step;
+use field::Entry;
+use field::EntryAt;
+ghost use mathlib.Core.Path.{_≡_};
+ghost use Prim.Native.Nat.{_≤_, _<_};
+ghost use lib.ListN.{length, drop};
+ghost use Rattle.format.specs.Bytes.{bytes};
+ghost use Rattle.format.specs.Readers.{orElse, tag, line, utf8Of};
+ghost use Rattle.format.specs.Header.{maybeField, ignoredLine};
+ghost use Rattle.chars.specs.Views.{Stepped, Lined};
+ghost use Rattle.header.specs.Fields.{sectionWord, MayEnter};
+
+// An entry that may be missing.
+pub enum MayEntry {
+    Absent,
+    Is(Entry),
+}
+
+pub enum MayEntryAt {
+    Got { entry: MayEntry, next: usize },
+    Cut,
+}
+
+// One word or else the other.
+fn either_word(s: &[u8], at: usize, a: &[u8], b: &[u8]) -> Step
+    requires { ⌜ at ≤ length (now s) ⌝ }
+    ensures { λ r. ⌜ Stepped (now (s .entry)) at (orElse (tag (now (a .entry)) (drop at (now (s .entry)))) (tag (now (b .entry)) (drop at (now (s .entry))))) r ⌝ }
+{
+    match chars::tag(s, at, a) {
+        Step::Got(n) => Step::Got(n),
+        Step::Cut => Step::Cut,
+        Step::No => chars::tag(s, at, b),
+    }
+}
+
+// A word that ends the header.
+fn section_word(s: &[u8], at: usize) -> Step
+    requires { ⌜ at ≤ length (now s) ⌝ }
+    ensures { λ r. ⌜ Stepped (now (s .entry)) at (sectionWord (drop at (now (s .entry)))) r ⌝ }
+{
+    match either_word(s, at, b"ORIGIN", b"CONTIG") {
+        Step::Got(n) => Step::Got(n),
+        Step::Cut => Step::Cut,
+        Step::No => either_word(s, at, b"FEATURES", b"//"),
+    }
+}
+
+fn utf8_line(s: &[u8], at: usize) -> Line
+    requires { ⌜ at ≤ length (now s) ⌝ }
+    ensures { λ r. ⌜ Lined (now (s .entry)) at (utf8Of (line (drop at (now (s .entry))))) r ⌝ }
+{
+    match chars::line_at(s, at) {
+        Line::No => Line::No,
+        Line::Cut => Line::Cut,
+        Line::Got { end, next } => {
+            if utf8::utf8_ok(s, at, end) {
+                return Line::Got { end, next };
+            }
+            Line::No
+        }
+    }
+}
+
+// A line that is dropped.
+pub fn dropped_at(s: &[u8], at: usize) -> Line
+    requires { ⌜ at ≤ length (now s) ⌝ }
+    ensures { λ r. ⌜ Lined (now (s .entry)) at (ignoredLine (drop at (now (s .entry)))) r ⌝ }
+{
+    match section_word(s, at) {
+        Step::Got(_) => Line::No,
+        Step::Cut => Line::Cut,
+        Step::No => utf8_line(s, at),
+    }
+}
+
+pub fn may_field_at(s: &[u8], at: usize, indent: usize, word: &[u8], keep: bool) -> MayEntryAt
+    requires { ⌜ (at ≤ length (now s)) × (indent < 4096) × (length (now word) < 4096) ⌝ }
+    ensures { λ r. ⌜ MayEnter (now (s .entry)) at keep (maybeField indent (now (word .entry)) keep (drop at (now (s .entry)))) r ⌝ }
+{
+    match field::field_at(s, at, indent, word, keep) {
+        EntryAt::Cut => MayEntryAt::Cut,
+        EntryAt::No => MayEntryAt::Got {
+            entry: MayEntry::Absent,
+            next: at,
+        },
+        EntryAt::Got(entry) => MayEntryAt::Got {
+            entry: MayEntry::Is(entry),
+            next: entry.next,
+        },
+    }
+}
