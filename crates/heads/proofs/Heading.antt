@@ -1,15 +1,14 @@
 -- The steps of the readers of heads.
 use Prim.Native.Nat.{ℕ, _+_, _-_, _≤_, _<_}
-use mathlib.Core.Path.{_≡_, refl, sym, ap, _∙_}
-use mathlib.Core.Bool.{Bool, true, false, not, _&&_, and-true, and-false}
-use mathlib.Core.List.{List, [], _∷_}
+use mathlib.Core.Path.{_≡_, sym, ap, _∙_}
+use mathlib.Core.Bool.{Bool, true, false, not, and-true, and-false}
+use mathlib.Core.List.{List, _∷_}
 use native.Mathlib.Omega.{arith}
 use borrow.Author.Tests.{eq-eqb, ne-eqb, not-true, not-false}
 use native.Mathlib.Numerals.{add-one}
 use lib.ListN.{length, drop, getD, drop-of-length-le}
 use lib.Seq.{drop-cons}
-use Rattle.format.specs.Bytes.{pick, all, some, starts, slash, visible, space}
-use Rattle.format.specs.Table.{Feature}
+use Rattle.format.specs.Bytes.{all, visible}
 use Rattle.format.specs.Readers.{Ans, Got, No, Cut, passing, tag}
 use Rattle.format.specs.Features.{kindText, featureFrom}
 use Rattle.chars.specs.Places.{part}

@@ -1,12 +1,12 @@
 -- Heads of features and qualifiers in a slice, and what their readers promise: the feature from its location on, the qualifier from its value on.
 use Prim.Native.Nat.{ℕ, _+_, _-_, _≤_, _<_}
 use mathlib.Core.Path.{_≡_, refl}
-use mathlib.Core.List.{List, []}
+use mathlib.Core.List.{List}
 use lib.ListN.{length, drop}
 use Rattle.format.specs.Bytes.{bytes, spaces, space, notBlank}
 use Rattle.format.specs.Table.{Qualifier, Feature}
 use Rattle.format.specs.Readers.{Ans, Got, No, Cut, bind, passing, tag, until1, spaces1, lineEnd, utf8Of}
-use Rattle.format.specs.Features.{keyEnd, kindText, valueOf, qualifier, featureFrom, feature}
+use Rattle.format.specs.Features.{keyEnd, kindText, valueOf, qualifier, featureFrom}
 use Rattle.chars.specs.Places.{part}
 use Rattle.heads.specs.declared.Kind.{Kind}
 use Rattle.heads.specs.declared.Kind.the-variants as kind

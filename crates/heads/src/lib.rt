@@ -1,7 +1,7 @@
 // The heads of the feature table: its first line, a feature up to its location, a qualifier up to its value (feature_table.rs). Nothing is written.
 use chars::Step;
 ghost use mathlib.Core.Path.{_≡_};
-ghost use Prim.Native.Nat.{_+_, _-_, _≤_, _<_};
+ghost use Prim.Native.Nat.{_-_, _≤_, _<_};
 ghost use lib.ListN.{length, drop};
 ghost use Rattle.format.specs.Bytes.{all, visible};
 ghost use Rattle.format.specs.Features.{featuresHeader, kindText, feature};

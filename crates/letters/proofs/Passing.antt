@@ -1,20 +1,20 @@
 -- Bytes that are letters or skipped, one at a time and in groups: the steps of the loops over them.
-use Prim.Native.Nat.{ℕ, suc, _+_, _-_, _≤_, _<_}
+use Prim.Native.Nat.{ℕ, _+_, _-_, _≤_, _<_}
 use mathlib.Core.Path.{_≡_, refl, sym, ap, _∙_}
 use mathlib.Core.Bool.{Bool, true, false, not, _&&_, _||_}
 use mathlib.Core.Logic.{_⊎_, ⊎-elim, inl, inr}
 use mathlib.Core.List.{List, [], _∷_, _++_, append-nil}
 use native.Mathlib.Numerals.{add-one}
-use native.Mathlib.Nat.{add-zero, le-trans}
+use native.Mathlib.Nat.{add-zero}
 use native.Mathlib.Omega.{arith}
 use borrow.Author.Tests.{eq-eqb, ne-eqb, lt-leb, leb-true, eqb-true, not-true, not-false}
 use lib.Dec.{eqb, leb, lit<}
 use lib.ListN.{length, take, drop, getD, length-append, length-drop, drop-of-length-le}
 use lib.Seq.{drop-cons, take-suc, getD-drop, length-take-le}
 use Rattle.format.specs.Bytes.{letter, digit}
-use Rattle.format.specs.Origin.{Letters, AtSlash, AtEnd, Bad, keep, skipped, letters}
+use Rattle.format.specs.Origin.{AtSlash, AtEnd, Bad, skipped, letters}
 use Rattle.pen.specs.Pen.{Writes, Left, left-step, left-as, left-end}
-use Rattle.letters.specs.Runs.{Tally, slash, end, bad, tally, plus, sifted, keeps, Run, Runs, run-none, run-append, tally-keeps, Counts, PastCounted, ten, thirtyOf, sixtyOf}
+use Rattle.letters.specs.Runs.{Tally, slash, end, bad, tally, plus, sifted, Run, Runs, run-none, run-append, tally-keeps, Counts, PastCounted, ten, thirtyOf, sixtyOf}
 use Rattle.letters.specs.declared.Counted.{Counted}
 use Rattle.letters.specs.declared.Counted.the-variants as counted
 

@@ -1,11 +1,11 @@
 -- What the functions over the letters promise, and the laws by which a run of bytes adds its letters.
-use Prim.Native.Nat.{ℕ, suc, _+_, _≤_, _<_}
+use Prim.Native.Nat.{ℕ, suc, _+_, _≤_}
 use mathlib.Core.Path.{_≡_, refl, sym, ap, _∙_}
 use mathlib.Core.Bool.{Bool, true, false}
 use mathlib.Core.List.{List, [], _∷_, _++_, append-assoc}
 use native.Mathlib.Omega.{arith}
 use lib.Dec.{eqb}
-use lib.ListN.{length, take, drop, getD, length-append}
+use lib.ListN.{length, take, drop}
 use Rattle.format.specs.Bytes.{letter}
 use Rattle.format.specs.Origin.{Letters, AtSlash, AtEnd, Bad, keep, skipped, letters}
 use Rattle.letters.specs.declared.Counted.{Counted}

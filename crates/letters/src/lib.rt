@@ -3,9 +3,8 @@
 ghost use mathlib.Core.Path.{_≡_};
 ghost use mathlib.Core.Bool.{_&&_, _||_};
 ghost use mathlib.Core.List.{[]};
-ghost use Prim.Native.Nat.{_+_, _-_, _≤_, _<_};
+ghost use Prim.Native.Nat.{_+_, _-_, _≤_};
 ghost use lib.ListN.{length, drop};
-ghost use Rattle.format.specs.Bytes.{letter};
 ghost use Rattle.format.specs.Origin.{letters, skipped};
 ghost use Rattle.pen.specs.Pen.{Writes};
 ghost use Rattle.letters.specs.Runs.{tally, plus, Counts, sifted, Runs, ten, thirtyOf, sixtyOf};

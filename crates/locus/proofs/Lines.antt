@@ -1,14 +1,14 @@
 -- A LOCUS line from its tokens: how many there are, and each test on one.
-use Prim.Native.Nat.{ℕ, zero, suc, _+_, _-_, _*_, _≤_, _<_}
+use Prim.Native.Nat.{ℕ, _-_, _≤_, _<_}
 use mathlib.Core.Path.{_≡_, refl, sym, ap, _∙_}
 use mathlib.Core.Bool.{Bool, true, false, not, _&&_, _||_}
 use mathlib.Core.List.{List, [], _∷_}
 use native.Mathlib.Nat.{le-trans}
 use native.Mathlib.Omega.{arith}
 use borrow.Author.Tests.{ne-eqb, not-true, not-false}
-use lib.Dec.{eqb, leb}
-use lib.ListN.{length, getD, take, drop}
-use Rattle.format.specs.Bytes.{pick, May, absent, is, bytes, all, same, visible, digit, but, number}
+use lib.Dec.{leb}
+use lib.ListN.{length}
+use Rattle.format.specs.Bytes.{pick, May, absent, is, bytes, all, same, digit, but, number}
 use Rattle.format.specs.Table.{Locus}
 use Rattle.format.specs.Dates.{isDate}
 use Rattle.format.specs.Locus.{tokens, dateToken, unknown, locusFrom, locusOf, locusLine}

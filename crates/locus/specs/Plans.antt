@@ -1,7 +1,6 @@
 -- What the plan of a LOCUS line stands for, and what its makers promise.
-use Prim.Native.Nat.{ℕ, _+_, _≤_}
+use Prim.Native.Nat.{ℕ}
 use mathlib.Core.Path.{_≡_}
-use mathlib.Core.Bool.{Bool}
 use mathlib.Core.List.{List, _∷_}
 use lib.ListN.{length}
 use Rattle.format.specs.Bytes.{May, absent, is}

@@ -5,7 +5,6 @@ use format::Length;
 use format::Span;
 use format::Text;
 use tokens::Token;
-ghost use mathlib.Core.Path.{_≡_};
 ghost use Prim.Native.Nat.{_-_, _≤_};
 ghost use lib.ListN.{length, take, drop};
 ghost use Rattle.format.specs.Locus.{tokens, locusOf, locusLine};

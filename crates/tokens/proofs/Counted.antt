@@ -1,12 +1,12 @@
 -- The number of bases, a date and its parts: each way by which the code answers is the definition's.
-use Prim.Native.Nat.{ℕ, zero, suc, _+_, _-_, _*_, _≤_, _<_, _^_}
-use mathlib.Core.Path.{_≡_, refl, sym, ap, _∙_}
-use mathlib.Core.Bool.{Bool, true, false, _&&_, and-false}
+use Prim.Native.Nat.{ℕ, zero, suc, _+_, _-_, _≤_, _<_, _^_}
+use mathlib.Core.Path.{_≡_, refl, sym, _∙_}
+use mathlib.Core.Bool.{Bool, true, false, and-false}
 use mathlib.Core.List.{List, [], _∷_}
 use native.Mathlib.Nat.{add-zero, pow-le-pow-right}
 use native.Mathlib.Omega.{arith}
 use borrow.Author.Tests.{ne-eqb, eq-eqb, le-leb, lt-leb}
-use lib.Dec.{eqb, leb, lit<}
+use lib.Dec.{eqb, lit<}
 use lib.ListN.{length, getD, take, drop, length-drop}
 use lib.Seq.{length-take-le, getD-drop, drop-drop, take-all}
 use Rattle.format.specs.Bytes.{pick, all, some, digit, number}
@@ -14,9 +14,8 @@ use Rattle.format.specs.Dates.{made, months}
 use Rattle.format.specs.Locus.{placeIn, dateOf, dateToken}
 use Rattle.format.specs.declared.Dated.{Dated}
 use Rattle.format.specs.declared.Dated.the-variants as dated
-use Rattle.format.specs.declared.Length.{Length}
 use Rattle.format.specs.declared.Length.the-variants as bases
-use Rattle.tokens.specs.Parts.{Valued, Below, digitsAfter, basesOf, dateOfParts}
+use Rattle.tokens.specs.Parts.{Valued, basesOf, dateOfParts}
 use Rattle.tokens.specs.declared.Decimal.{Decimal}
 use Rattle.tokens.specs.declared.Decimal.the-variants as decimal
 

@@ -1,13 +1,13 @@
 -- A part of a slice, byte by byte, and the loops that walk one while a test holds.
 use Prim.Native.Nat.{ℕ, zero, suc, _+_, _-_, _≤_, _<_}
-use mathlib.Core.Path.{_≡_, refl, sym, ap, _∙_}
-use mathlib.Core.Bool.{Bool, true, false, not, _&&_}
+use mathlib.Core.Path.{_≡_, sym, ap, _∙_}
+use mathlib.Core.Bool.{Bool, true, false, not}
 use mathlib.Core.List.{List, [], _∷_}
 use native.Mathlib.Numerals.{add-one}
 use native.Mathlib.Nat.{add-zero, sub-zero, zero-sub, suc-sub-suc}
 use native.Mathlib.Omega.{arith}
 use borrow.Author.Tests.{not-true, not-false}
-use lib.ListN.{length, getD, take, drop, length-drop}
+use lib.ListN.{length, getD, take, drop}
 use lib.Seq.{drop-cons, drop-drop, take-take, take-nil}
 use Rattle.format.specs.Bytes.{all, blank, notBlank}
 use Rattle.tokens.specs.Parts.{cut, passed}

@@ -1,17 +1,17 @@
 -- The loops that compare two texts and that read a number.
-use Prim.Native.Nat.{ℕ, zero, suc, _+_, _-_, _*_, _≤_, _<_, _^_}
+use Prim.Native.Nat.{ℕ, suc, _+_, _-_, _*_, _≤_, _<_, _^_}
 use mathlib.Core.Path.{_≡_, refl, sym, ap, _∙_}
-use mathlib.Core.Bool.{Bool, true, false, _&&_, and-false}
+use mathlib.Core.Bool.{Bool, true, false, and-false}
 use mathlib.Core.List.{List, [], _∷_}
 use native.Mathlib.Numerals.{add-one}
 use native.Mathlib.Nat.{pow-suc, pow-le-pow-right}
 use native.Mathlib.Omega.{arith}
 use borrow.Author.Tests.{eq-eqb, ne-eqb, le-leb, lt-leb}
-use lib.Dec.{eqb, lit<, lit≤}
-use lib.ListN.{length, getD, take, drop, drop-of-length-le}
+use lib.Dec.{eqb, lit<}
+use lib.ListN.{length, getD, drop, drop-of-length-le}
 use lib.Seq.{drop-cons}
-use Rattle.format.specs.Bytes.{all, same, digit, number}
-use Rattle.tokens.specs.Parts.{digitsAfter, Below}
+use Rattle.format.specs.Bytes.{same, number}
+use Rattle.tokens.specs.Parts.{digitsAfter}
 use Rattle.tokens.specs.declared.Decimal.{Decimal}
 use Rattle.tokens.specs.declared.Decimal.the-variants as decimal
 

@@ -1,10 +1,10 @@
 -- The tokens of a list: blanks before one are skipped, and one reaches up to the next blank.
-use Prim.Native.Nat.{ℕ, zero, suc, _+_, _-_, _≤_, _<_}
+use Prim.Native.Nat.{ℕ, suc, _-_, _≤_, _<_}
 use mathlib.Core.Path.{_≡_, refl, sym, ap, _∙_}
-use mathlib.Core.Bool.{Bool, true, false, not, _&&_, _||_, and-assoc, and-true}
+use mathlib.Core.Bool.{Bool, true, false, not, _&&_, and-assoc, and-true}
 use mathlib.Core.List.{List, [], _∷_}
 use native.Mathlib.Omega.{arith}
-use lib.ListN.{length, getD, take, drop}
+use lib.ListN.{take, drop}
 use Rattle.format.specs.Bytes.{all, starts, blank, notBlank, visible}
 use Rattle.format.specs.Locus.{tokens, ahead}
 use Rattle.tokens.specs.Parts.{cut, passed, plainByte, Scanned}

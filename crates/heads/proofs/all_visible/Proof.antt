@@ -1,17 +1,12 @@
+-- `heads::all_visible` meets its contract. The invariant: the answer of the whole is the answer from here. Assumes nothing.
 use Rattle.chars.specs.Places.{part}
 use Rattle.format.specs.Bytes.{all, visible}
 use Rattle.heads.proofs.Heading.{passing-all}
-use Prim.Native.Nat.{ℕ, suc, _+_, _-_, _*_, _/_, _%_, _≤_, _<_}
-use mathlib.Core.Path.{_≡_, refl, sym, ap, _∙_}
-use lib.ListN.{length, getD, take, drop, set}
-use native.Mathlib.Omega.{arith}
+use Prim.Native.Nat.{_-_, _≤_}
+use mathlib.Core.Path.{_≡_}
 use borrow.Author.Needs.{needs}
-use denote.Ref.{now}
 use Rattle.heads.proofs.all_visible.Statement.{statement}
 use Rattle.heads.proofs.all_visible.Tie as tie
-use Rattle.heads.proofs.all_visible.Reads as reads
-use Rattle.heads.proofs.all_visible.Lts as lts
-use Rattle.chars.proofs.is_visible.Reads as is-visible-reads
 
 abbrev Inv-loop : tie.InvT-loop
 Inv-loop s from to i₀ i = (i ≤ to) × (all visible (part from to s) ≡ all visible (part i to s))

@@ -1,17 +1,10 @@
+-- `heads::features_header` meets its contract. Assumes nothing.
 use Rattle.format.specs.Features.{featuresHeader}
 use Rattle.chars.specs.Sequence.{step-no, step-cut, step-is, step-places}
-use Prim.Native.Nat.{ℕ, suc, _+_, _-_, _*_, _/_, _%_, _≤_, _<_}
-use mathlib.Core.Path.{_≡_, refl, sym, ap, _∙_}
-use lib.ListN.{length, getD, take, drop, set}
-use native.Mathlib.Omega.{arith}
-use denote.Ref.{now}
+use Prim.Native.Nat.{_-_}
 use borrow.Author.Needs.{needs}
 use Rattle.heads.proofs.features_header.Statement.{statement}
 use Rattle.heads.proofs.features_header.Tie as tie
-use Rattle.heads.proofs.features_header.Reads as reads
-use Rattle.heads.proofs.features_header.Lts as lts
-use Rattle.chars.proofs.tag.Reads as tag-reads
-use Rattle.heads.proofs.header_gap.Reads as header-gap-reads
 
 slice-aggregate-tag : tie.Need-slice-aggregate-tag
 slice-aggregate-tag c = search needs

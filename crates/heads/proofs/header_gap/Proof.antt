@@ -1,17 +1,10 @@
+-- `heads::header_gap` meets its contract. Assumes nothing.
 use native.Mathlib.Nat.{le-trans}
 use Rattle.chars.specs.Sequence.{text-no, text-cut, text-is, text-places}
-use Prim.Native.Nat.{ℕ, suc, _+_, _-_, _*_, _/_, _%_, _≤_, _<_}
-use mathlib.Core.Path.{_≡_, refl, sym, ap, _∙_}
-use lib.ListN.{length, getD, take, drop, set}
-use native.Mathlib.Omega.{arith}
-use denote.Ref.{now}
+use Prim.Native.Nat.{_-_}
 use borrow.Author.Needs.{needs}
 use Rattle.heads.proofs.header_gap.Statement.{statement}
 use Rattle.heads.proofs.header_gap.Tie as tie
-use Rattle.heads.proofs.header_gap.Reads as reads
-use Rattle.heads.proofs.header_gap.Lts as lts
-use Rattle.chars.proofs.blanks1.Reads as blanks1-reads
-use Rattle.heads.proofs.header_words.Reads as header-words-reads
 
 blanks1-requires : tie.Need-blanks1-requires
 blanks1-requires c κs = search needs

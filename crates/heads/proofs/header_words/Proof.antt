@@ -1,18 +1,11 @@
+-- `heads::header_words` meets its contract. Assumes nothing.
 use native.Mathlib.Nat.{le-trans}
 use Rattle.chars.specs.Sequence.{step-no, step-cut, step-is, step-places}
 use Rattle.heads.proofs.Heading.{emptied-from}
-use Prim.Native.Nat.{ℕ, suc, _+_, _-_, _*_, _/_, _%_, _≤_, _<_}
-use mathlib.Core.Path.{_≡_, refl, sym, ap, _∙_}
-use lib.ListN.{length, getD, take, drop, set}
-use native.Mathlib.Omega.{arith}
-use denote.Ref.{now}
+use Prim.Native.Nat.{_-_}
 use borrow.Author.Needs.{needs}
 use Rattle.heads.proofs.header_words.Statement.{statement}
 use Rattle.heads.proofs.header_words.Tie as tie
-use Rattle.heads.proofs.header_words.Reads as reads
-use Rattle.heads.proofs.header_words.Lts as lts
-use Rattle.chars.proofs.line_end.Reads as line-end-reads
-use Rattle.chars.proofs.tag.Reads as tag-reads
 
 slice-aggregate-tag : tie.Need-slice-aggregate-tag
 slice-aggregate-tag c = search needs

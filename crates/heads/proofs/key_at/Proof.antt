@@ -1,16 +1,9 @@
+-- `heads::key_at` meets its contract. Assumes nothing.
 use Rattle.chars.specs.Sequence.{step-no, step-cut, step-is, step-places}
-use Prim.Native.Nat.{ℕ, suc, _+_, _-_, _*_, _/_, _%_, _≤_, _<_}
-use mathlib.Core.Path.{_≡_, refl, sym, ap, _∙_}
-use lib.ListN.{length, getD, take, drop, set}
-use native.Mathlib.Omega.{arith}
-use denote.Ref.{now}
+use Prim.Native.Nat.{_-_}
 use borrow.Author.Needs.{needs}
 use Rattle.heads.proofs.key_at.Statement.{statement}
 use Rattle.heads.proofs.key_at.Tie as tie
-use Rattle.heads.proofs.key_at.Reads as reads
-use Rattle.heads.proofs.key_at.Lts as lts
-use Rattle.chars.proofs.indent.Reads as indent-reads
-use Rattle.heads.proofs.key_slash.Reads as key-slash-reads
 
 indent-requires : tie.Need-indent-requires
 indent-requires c κs = search needs

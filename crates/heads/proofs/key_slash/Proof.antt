@@ -1,15 +1,9 @@
+-- `heads::key_slash` meets its contract. Assumes nothing.
 use Rattle.heads.proofs.Heading.{slash-cut, slash-no, slash-got}
-use Prim.Native.Nat.{ℕ, suc, _+_, _-_, _*_, _/_, _%_, _≤_, _<_}
-use mathlib.Core.Path.{_≡_, refl, sym, ap, _∙_}
-use lib.ListN.{length, getD, take, drop, set}
-use native.Mathlib.Omega.{arith}
-use denote.Ref.{now}
+use Prim.Native.Nat.{_-_}
 use borrow.Author.Needs.{needs}
 use Rattle.heads.proofs.key_slash.Statement.{statement}
 use Rattle.heads.proofs.key_slash.Tie as tie
-use Rattle.heads.proofs.key_slash.Reads as reads
-use Rattle.heads.proofs.key_slash.Lts as lts
-use Rattle.heads.proofs.key_text.Reads as key-text-reads
 
 returns : tie.Need-returns
 returns c = record { is = slash-cut _ _ (c .if1 .taken); place = tt }

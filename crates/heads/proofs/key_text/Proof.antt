@@ -1,20 +1,16 @@
+-- `heads::key_text` meets its contract. Assumes nothing.
 use Rattle.format.specs.Features.{keyEnd}
 use Rattle.format.specs.Utf8.{utf8}
 use Rattle.format.specs.Readers.{until}
 use Rattle.chars.specs.Sequence.{text-some, text-places}
 use Rattle.heads.proofs.Heading.{pass-no, pass-cut, pass-bad, pass-got}
-use Prim.Native.Nat.{ℕ, suc, _+_, _-_, _*_, _/_, _%_, _≤_, _<_}
-use mathlib.Core.Path.{_≡_, refl, sym, ap, _∙_}
-use lib.ListN.{length, getD, take, drop, set}
-use native.Mathlib.Omega.{arith}
+use Prim.Native.Nat.{_-_}
+use mathlib.Core.Path.{sym}
+use lib.ListN.{drop}
 use denote.Ref.{now}
 use borrow.Author.Needs.{needs}
 use Rattle.heads.proofs.key_text.Statement.{statement}
 use Rattle.heads.proofs.key_text.Tie as tie
-use Rattle.heads.proofs.key_text.Reads as reads
-use Rattle.heads.proofs.key_text.Lts as lts
-use Rattle.chars.proofs.until_key_end.Reads as until-key-end-reads
-use Rattle.utf8.proofs.utf8_ok.Reads as utf8-ok-reads
 
 until-key-end-requires : tie.Need-until-key-end-requires
 until-key-end-requires c κs = search needs

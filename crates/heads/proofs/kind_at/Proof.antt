@@ -1,20 +1,15 @@
+-- `heads::kind_at` meets its contract. Assumes nothing.
 use Rattle.chars.specs.Parts.{length-part}
 use Rattle.format.specs.Features.{feature}
 use Rattle.format.specs.Bytes.{but}
 use Rattle.format.specs.Readers.{until}
 use Rattle.chars.specs.Sequence.{text-no, text-cut, text-is, text-some, text-places}
-use Prim.Native.Nat.{ℕ, suc, _+_, _-_, _*_, _/_, _%_, _≤_, _<_}
-use mathlib.Core.Path.{_≡_, refl, sym, ap, _∙_}
-use lib.ListN.{length, getD, take, drop, set}
-use native.Mathlib.Omega.{arith}
+use Prim.Native.Nat.{_-_}
+use lib.ListN.{drop}
 use denote.Ref.{now}
 use borrow.Author.Needs.{needs}
 use Rattle.heads.proofs.kind_at.Statement.{statement}
 use Rattle.heads.proofs.kind_at.Tie as tie
-use Rattle.heads.proofs.kind_at.Reads as reads
-use Rattle.heads.proofs.kind_at.Lts as lts
-use Rattle.chars.proofs.spaces1.Reads as spaces1-reads
-use Rattle.heads.proofs.kind_from.Reads as kind-from-reads
 
 spaces1-requires : tie.Need-spaces1-requires
 spaces1-requires c κs = search needs

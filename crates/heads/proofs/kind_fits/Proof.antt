@@ -1,15 +1,9 @@
+-- `heads::kind_fits` meets its contract. Assumes nothing.
 use Rattle.heads.proofs.Heading.{kind-slash, kind-plain}
-use Prim.Native.Nat.{ℕ, suc, _+_, _-_, _*_, _/_, _%_, _≤_, _<_}
-use mathlib.Core.Path.{_≡_, refl, sym, ap, _∙_}
-use lib.ListN.{length, getD, take, drop, set}
-use native.Mathlib.Omega.{arith}
-use denote.Ref.{now}
+use Prim.Native.Nat.{_-_}
 use borrow.Author.Needs.{needs}
 use Rattle.heads.proofs.kind_fits.Statement.{statement}
 use Rattle.heads.proofs.kind_fits.Tie as tie
-use Rattle.heads.proofs.kind_fits.Reads as reads
-use Rattle.heads.proofs.kind_fits.Lts as lts
-use Rattle.heads.proofs.all_visible.Reads as all-visible-reads
 
 shared-slice-read-if1 : tie.Need-shared-slice-read-if1
 shared-slice-read-if1 c = search needs

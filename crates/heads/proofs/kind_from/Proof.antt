@@ -1,22 +1,16 @@
+-- `heads::kind_from` meets its contract. Assumes nothing.
 use borrow.Author.Tests.{not-true, not-false}
 use Rattle.format.specs.Features.{kindText}
 use Rattle.format.specs.Bytes.{space}
 use Rattle.format.specs.Readers.{until}
 use Rattle.chars.specs.Sequence.{text-some, text-places}
 use Rattle.heads.proofs.Heading.{pass-no, pass-cut, pass-bad, pass-got}
-use Prim.Native.Nat.{ℕ, suc, _+_, _-_, _*_, _/_, _%_, _≤_, _<_}
-use mathlib.Core.Path.{_≡_, refl, sym, ap, _∙_}
-use lib.ListN.{length, getD, take, drop, set}
-use native.Mathlib.Omega.{arith}
+use Prim.Native.Nat.{_-_}
+use lib.ListN.{drop}
 use denote.Ref.{now}
 use borrow.Author.Needs.{needs}
 use Rattle.heads.proofs.kind_from.Statement.{statement}
 use Rattle.heads.proofs.kind_from.Tie as tie
-use Rattle.heads.proofs.kind_from.Reads as reads
-use Rattle.heads.proofs.kind_from.Lts as lts
-use Rattle.chars.proofs.until_space.Reads as until-space-reads
-use Rattle.heads.proofs.kind_fits.Reads as kind-fits-reads
-use Rattle.heads.proofs.kind_gap.Reads as kind-gap-reads
 
 until-space-requires : tie.Need-until-space-requires
 until-space-requires c κs = search needs

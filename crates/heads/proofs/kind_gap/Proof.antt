@@ -1,18 +1,14 @@
+-- `heads::kind_gap` meets its contract. Assumes nothing.
 use Rattle.format.specs.Bytes.{but}
 use Rattle.format.specs.Readers.{until}
 use Rattle.heads.proofs.Heading.{gap-indent}
-use Rattle.chars.specs.Sequence.{text-no, text-cut, text-got, text-is, text-some, text-places}
-use Prim.Native.Nat.{ℕ, suc, _+_, _-_, _*_, _/_, _%_, _≤_, _<_}
-use mathlib.Core.Path.{_≡_, refl, sym, ap, _∙_}
-use lib.ListN.{length, getD, take, drop, set}
-use native.Mathlib.Omega.{arith}
+use Rattle.chars.specs.Sequence.{text-no, text-cut, text-got, text-some, text-places}
+use Prim.Native.Nat.{_-_}
+use lib.ListN.{drop}
 use denote.Ref.{now}
 use borrow.Author.Needs.{needs}
 use Rattle.heads.proofs.kind_gap.Statement.{statement}
 use Rattle.heads.proofs.kind_gap.Tie as tie
-use Rattle.heads.proofs.kind_gap.Reads as reads
-use Rattle.heads.proofs.kind_gap.Lts as lts
-use Rattle.chars.proofs.spaces1.Reads as spaces1-reads
 
 spaces1-requires : tie.Need-spaces1-requires
 spaces1-requires c κs = search needs

@@ -1,18 +1,13 @@
+-- `letters::count_from` meets its contract. The invariant: the answer of the whole is the answer from here. Assumes nothing.
 use Rattle.format.specs.Origin.{letters}
 use Rattle.letters.specs.Runs.{tally, plus}
 use Rattle.letters.proofs.Passing.{counting}
-use Prim.Native.Nat.{ℕ, suc, _+_, _-_, _*_, _/_, _%_, _≤_, _<_}
-use mathlib.Core.Path.{_≡_, refl, sym, ap, _∙_}
-use lib.ListN.{length, getD, take, drop, set}
-use native.Mathlib.Omega.{arith}
+use Prim.Native.Nat.{_+_, _-_, _≤_}
+use mathlib.Core.Path.{_≡_}
+use lib.ListN.{length, drop}
 use borrow.Author.Needs.{needs}
-use denote.Ref.{now}
 use Rattle.letters.proofs.count_from.Statement.{statement}
 use Rattle.letters.proofs.count_from.Tie as tie
-use Rattle.letters.proofs.count_from.Reads as reads
-use Rattle.letters.proofs.count_from.Lts as lts
-use Rattle.chars.proofs.is_letter.Reads as is-letter-reads
-use Rattle.letters.proofs.is_skipped.Reads as is-skipped-reads
 
 abbrev Inv-loop : tie.InvT-loop
 Inv-loop s at n k₀ i₀ k i = (at ≤ i) × (i ≤ length s) × (k + (at - n) ≤ i) × (plus n (tally (letters (drop at s))) ≡ plus k (tally (letters (drop i s))))

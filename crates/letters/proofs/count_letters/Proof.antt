@@ -1,19 +1,16 @@
+-- `letters::count_letters` meets its contract. The invariant: the answer of the whole is the answer from here. Assumes nothing.
 use borrow.Author.Tests.{not-false}
 use Rattle.format.specs.Origin.{letters}
 use Rattle.letters.specs.Runs.{tally, plus, sixtyOf}
 use Rattle.letters.proofs.Passing.{count-run, counts-from, plus-none, length-sixty}
-use Prim.Native.Nat.{ℕ, suc, _+_, _-_, _*_, _/_, _%_, _≤_, _<_}
-use mathlib.Core.Path.{_≡_, refl, sym, ap, _∙_}
-use lib.ListN.{length, getD, take, drop, set}
+use Prim.Native.Nat.{_+_, _-_, _≤_}
+use mathlib.Core.Path.{_≡_}
+use lib.ListN.{length, drop}
 use native.Mathlib.Omega.{arith}
 use borrow.Author.Needs.{needs}
 use denote.Ref.{now}
 use Rattle.letters.proofs.count_letters.Statement.{statement}
 use Rattle.letters.proofs.count_letters.Tie as tie
-use Rattle.letters.proofs.count_letters.Reads as reads
-use Rattle.letters.proofs.count_letters.Lts as lts
-use Rattle.letters.proofs.count_from.Reads as count-from-reads
-use Rattle.letters.proofs.usual.Reads as usual-reads
 
 abbrev Inv-loop : tie.InvT-loop
 Inv-loop s at k₀ i₀ k i = (at ≤ i) × (i ≤ length s) × (k + at ≤ i) × (tally (letters (drop at s)) ≡ plus k (tally (letters (drop i s))))

@@ -1,17 +1,11 @@
+-- `letters::group` meets its contract. Assumes nothing.
 use Rattle.letters.proofs.Passing.{runs-both}
-use Prim.Native.Nat.{ℕ, suc, _+_, _-_, _*_, _/_, _%_, _≤_, _<_}
-use mathlib.Core.Path.{_≡_, refl, sym, ap, _∙_}
-use lib.ListN.{length, getD, take, drop, set}
+use Prim.Native.Nat.{_+_, _-_}
+use mathlib.Core.Path.{_≡_}
 use native.Mathlib.Omega.{arith}
-use denote.Ref.{now}
 use borrow.Author.Needs.{needs}
 use Rattle.letters.proofs.group.Statement.{statement}
 use Rattle.letters.proofs.group.Tie as tie
-use Rattle.letters.proofs.group.Reads as reads
-use Rattle.letters.proofs.group.Lts as lts
-use Rattle.letters.proofs.both.Reads as both-reads
-use Rattle.letters.proofs.skips.Reads as skips-reads
-use Rattle.letters.proofs.ten_letters.Reads as ten-letters-reads
 
 skips-requires : tie.Need-skips-requires
 skips-requires c κs = search needs

@@ -1,15 +1,8 @@
-use Prim.Native.Nat.{ℕ, suc, _+_, _-_, _*_, _/_, _%_, _≤_, _<_}
-use mathlib.Core.Path.{_≡_, refl, sym, ap, _∙_}
-use lib.ListN.{length, getD, take, drop, set}
-use native.Mathlib.Omega.{arith}
-use denote.Ref.{now}
+-- `letters::is_skipped` meets its contract. Assumes nothing.
+use Prim.Native.Nat.{_-_}
 use borrow.Author.Needs.{needs}
 use Rattle.letters.proofs.is_skipped.Statement.{statement}
 use Rattle.letters.proofs.is_skipped.Tie as tie
-use Rattle.letters.proofs.is_skipped.Reads as reads
-use Rattle.letters.proofs.is_skipped.Lts as lts
-use Rattle.chars.proofs.is_digit.Reads as is-digit-reads
-use Rattle.letters.proofs.either.Reads as either-reads
 
 is-digit-requires : tie.Need-is-digit-requires
 is-digit-requires c κs = search needs

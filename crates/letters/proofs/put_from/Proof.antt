@@ -1,19 +1,13 @@
+-- `letters::put_from` meets its contract. The invariant: the answer of the whole is the answer from here. Assumes nothing.
 use Rattle.letters.specs.Runs.{sifted}
 use Rattle.letters.proofs.Passing.{left-letter, left-skip, left-stop, left-over}
 use Rattle.pen.specs.Pen.{Left, left-start}
-use Prim.Native.Nat.{ℕ, suc, _+_, _-_, _*_, _/_, _%_, _≤_, _<_}
-use mathlib.Core.Path.{_≡_, refl, sym, ap, _∙_}
-use lib.ListN.{length, getD, take, drop, set}
-use native.Mathlib.Omega.{arith}
+use Prim.Native.Nat.{_-_, _≤_}
+use mathlib.Core.Path.{_≡_, refl}
+use lib.ListN.{length, drop}
 use borrow.Author.Needs.{needs}
-use denote.Ref.{now}
 use Rattle.letters.proofs.put_from.Statement.{statement}
 use Rattle.letters.proofs.put_from.Tie as tie
-use Rattle.letters.proofs.put_from.Reads as reads
-use Rattle.letters.proofs.put_from.Lts as lts
-use Rattle.chars.proofs.is_letter.Reads as is-letter-reads
-use Rattle.letters.proofs.is_skipped.Reads as is-skipped-reads
-use Rattle.pen.proofs.put_byte.Reads as put-byte-reads
 
 abbrev Inv-loop : tie.InvT-loop
 Inv-loop s at room₀ place p₀ i₀ room p i = (i ≤ length s) × (length room ≡ length room₀) × Left room₀ place (sifted (drop at s)) room p (sifted (drop i s))

@@ -1,20 +1,14 @@
+-- `letters::put_letters` meets its contract. The invariant: the answer of the whole is the answer from here. Assumes nothing.
 use borrow.Author.Tests.{not-false}
-use Rattle.letters.specs.Runs.{sifted, sixtyOf}
+use Rattle.letters.specs.Runs.{sifted}
 use Rattle.letters.proofs.Passing.{left-run}
 use Rattle.pen.specs.Pen.{Left, left-start}
-use Prim.Native.Nat.{ℕ, suc, _+_, _-_, _*_, _/_, _%_, _≤_, _<_}
-use mathlib.Core.Path.{_≡_, refl, sym, ap, _∙_}
-use lib.ListN.{length, getD, take, drop, set}
-use native.Mathlib.Omega.{arith}
+use Prim.Native.Nat.{_-_, _≤_}
+use mathlib.Core.Path.{_≡_, refl}
+use lib.ListN.{length, drop}
 use borrow.Author.Needs.{needs}
-use denote.Ref.{now}
 use Rattle.letters.proofs.put_letters.Statement.{statement}
 use Rattle.letters.proofs.put_letters.Tie as tie
-use Rattle.letters.proofs.put_letters.Reads as reads
-use Rattle.letters.proofs.put_letters.Lts as lts
-use Rattle.letters.proofs.put_from.Reads as put-from-reads
-use Rattle.letters.proofs.put_sixty.Reads as put-sixty-reads
-use Rattle.letters.proofs.usual.Reads as usual-reads
 
 abbrev Inv-loop : tie.InvT-loop
 Inv-loop s at room₀ place p₀ i₀ room p i = (i ≤ length s) × (length room ≡ length room₀) × Left room₀ place (sifted (drop at s)) room p (sifted (drop i s))

@@ -1,15 +1,9 @@
+-- `letters::put_sixty` meets its contract. Assumes nothing.
 use Rattle.pen.specs.Pen.{writes-append}
-use Prim.Native.Nat.{ℕ, suc, _+_, _-_, _*_, _/_, _%_, _≤_, _<_}
-use mathlib.Core.Path.{_≡_, refl, sym, ap, _∙_}
-use lib.ListN.{length, getD, take, drop, set}
-use native.Mathlib.Omega.{arith}
-use denote.Ref.{now}
+use Prim.Native.Nat.{_-_}
 use borrow.Author.Needs.{needs}
 use Rattle.letters.proofs.put_sixty.Statement.{statement}
 use Rattle.letters.proofs.put_sixty.Tie as tie
-use Rattle.letters.proofs.put_sixty.Reads as reads
-use Rattle.letters.proofs.put_sixty.Lts as lts
-use Rattle.letters.proofs.put_thirty.Reads as put-thirty-reads
 
 add-put-thirty : tie.Need-add-put-thirty
 add-put-thirty c = search needs

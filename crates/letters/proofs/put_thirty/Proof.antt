@@ -1,15 +1,11 @@
+-- `letters::put_thirty` meets its contract. Assumes nothing.
 use Rattle.pen.specs.Pen.{writes-append}
-use Prim.Native.Nat.{ℕ, suc, _+_, _-_, _*_, _/_, _%_, _≤_, _<_}
-use mathlib.Core.Path.{_≡_, refl, sym, ap, _∙_}
-use lib.ListN.{length, getD, take, drop, set}
+use Prim.Native.Nat.{_+_, _-_}
+use mathlib.Core.Path.{_≡_}
 use native.Mathlib.Omega.{arith}
-use denote.Ref.{now}
 use borrow.Author.Needs.{needs}
 use Rattle.letters.proofs.put_thirty.Statement.{statement}
 use Rattle.letters.proofs.put_thirty.Tie as tie
-use Rattle.letters.proofs.put_thirty.Reads as reads
-use Rattle.letters.proofs.put_thirty.Lts as lts
-use Rattle.pen.proofs.put_part.Reads as put-part-reads
 
 add-put-part : tie.Need-add-put-part
 add-put-part c = search needs

@@ -1,18 +1,13 @@
+-- `letters::skips` meets its contract. The invariant: the answer of the whole is the answer from here. Assumes nothing.
 use mathlib.Core.List.{[]}
 use Rattle.letters.specs.Runs.{Runs}
 use Rattle.letters.proofs.Passing.{runs-none, skips-more}
-use Prim.Native.Nat.{ℕ, suc, _+_, _-_, _*_, _/_, _%_, _≤_, _<_}
-use mathlib.Core.Path.{_≡_, refl, sym, ap, _∙_}
-use lib.ListN.{length, getD, take, drop, set}
+use Prim.Native.Nat.{_+_, _-_, _≤_}
+use mathlib.Core.Path.{_≡_}
 use native.Mathlib.Omega.{arith}
 use borrow.Author.Needs.{needs}
-use denote.Ref.{now}
 use Rattle.letters.proofs.skips.Statement.{statement}
 use Rattle.letters.proofs.skips.Tie as tie
-use Rattle.letters.proofs.skips.Reads as reads
-use Rattle.letters.proofs.skips.Lts as lts
-use Rattle.letters.proofs.both.Reads as both-reads
-use Rattle.letters.proofs.is_skipped.Reads as is-skipped-reads
 
 abbrev Inv-loop : tie.InvT-loop
 Inv-loop s at n ok₀ j₀ ok j = (j ≤ n) × Runs s at (at + j) [] ok

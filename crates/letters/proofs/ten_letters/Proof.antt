@@ -1,17 +1,13 @@
+-- `letters::ten_letters` meets its contract. The invariant: the answer of the whole is the answer from here. Assumes nothing.
 use Rattle.letters.specs.Runs.{Runs}
 use Rattle.letters.proofs.Passing.{runs-none, letters-more}
-use Prim.Native.Nat.{ℕ, suc, _+_, _-_, _*_, _/_, _%_, _≤_, _<_}
-use mathlib.Core.Path.{_≡_, refl, sym, ap, _∙_}
-use lib.ListN.{length, getD, take, drop, set}
+use Prim.Native.Nat.{_+_, _-_, _≤_}
+use mathlib.Core.Path.{_≡_}
+use lib.ListN.{take, drop}
 use native.Mathlib.Omega.{arith}
 use borrow.Author.Needs.{needs}
-use denote.Ref.{now}
 use Rattle.letters.proofs.ten_letters.Statement.{statement}
 use Rattle.letters.proofs.ten_letters.Tie as tie
-use Rattle.letters.proofs.ten_letters.Reads as reads
-use Rattle.letters.proofs.ten_letters.Lts as lts
-use Rattle.chars.proofs.is_letter.Reads as is-letter-reads
-use Rattle.letters.proofs.both.Reads as both-reads
 
 abbrev Inv-loop : tie.InvT-loop
 Inv-loop s at ok₀ j₀ ok j = (j ≤ 10) × Runs s at (at + j) (take j (drop at s)) ok

@@ -1,16 +1,9 @@
+-- `letters::thirty` meets its contract. Assumes nothing.
 use Rattle.letters.proofs.Passing.{thirty-law}
-use Prim.Native.Nat.{ℕ, suc, _+_, _-_, _*_, _/_, _%_, _≤_, _<_}
-use mathlib.Core.Path.{_≡_, refl, sym, ap, _∙_}
-use lib.ListN.{length, getD, take, drop, set}
-use native.Mathlib.Omega.{arith}
-use denote.Ref.{now}
+use Prim.Native.Nat.{_-_}
 use borrow.Author.Needs.{needs}
 use Rattle.letters.proofs.thirty.Statement.{statement}
 use Rattle.letters.proofs.thirty.Tie as tie
-use Rattle.letters.proofs.thirty.Reads as reads
-use Rattle.letters.proofs.thirty.Lts as lts
-use Rattle.letters.proofs.both.Reads as both-reads
-use Rattle.letters.proofs.group.Reads as group-reads
 
 group-requires : tie.Need-group-requires
 group-requires c κs = search needs

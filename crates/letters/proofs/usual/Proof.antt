@@ -1,17 +1,9 @@
+-- `letters::usual` meets its contract. Assumes nothing.
 use Rattle.letters.proofs.Passing.{runs-false, usual-law}
-use Prim.Native.Nat.{ℕ, suc, _+_, _-_, _*_, _/_, _%_, _≤_, _<_}
-use mathlib.Core.Path.{_≡_, refl, sym, ap, _∙_}
-use lib.ListN.{length, getD, take, drop, set}
-use native.Mathlib.Omega.{arith}
-use denote.Ref.{now}
+use Prim.Native.Nat.{_-_}
 use borrow.Author.Needs.{needs}
 use Rattle.letters.proofs.usual.Statement.{statement}
 use Rattle.letters.proofs.usual.Tie as tie
-use Rattle.letters.proofs.usual.Reads as reads
-use Rattle.letters.proofs.usual.Lts as lts
-use Rattle.letters.proofs.both.Reads as both-reads
-use Rattle.letters.proofs.skips.Reads as skips-reads
-use Rattle.letters.proofs.thirty.Reads as thirty-reads
 
 skips-requires : tie.Need-skips-requires
 skips-requires c κs = search needs

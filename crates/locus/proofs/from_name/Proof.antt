@@ -1,15 +1,10 @@
+-- `locus::from_name` meets its contract. Assumes nothing.
 use Rattle.locus.proofs.Lines.{next-none, next-is, next-end, next-in, few}
-use Prim.Native.Nat.{ℕ, suc, _+_, _-_, _*_, _/_, _%_, _≤_, _<_}
-use mathlib.Core.Path.{_≡_, refl, sym, ap, _∙_}
-use lib.ListN.{length, getD, take, drop, set}
+use Prim.Native.Nat.{_-_}
 use native.Mathlib.Omega.{arith}
-use denote.Ref.{now}
 use borrow.Author.Needs.{needs}
 use Rattle.locus.proofs.from_name.Statement.{statement}
 use Rattle.locus.proofs.from_name.Tie as tie
-use Rattle.locus.proofs.from_name.Reads as reads
-use Rattle.locus.proofs.from_name.Lts as lts
-use Rattle.locus.proofs.from_third.Reads as from-third-reads
 
 token-at-requires : tie.Need-token-at-requires
 token-at-requires c κs = search needs

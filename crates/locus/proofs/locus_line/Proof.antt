@@ -1,15 +1,9 @@
+-- `locus::locus_line` meets its contract. Assumes nothing.
 use Rattle.locus.proofs.Lines.{not-plain, is-plain}
-use Prim.Native.Nat.{ℕ, suc, _+_, _-_, _*_, _/_, _%_, _≤_, _<_}
-use mathlib.Core.Path.{_≡_, refl, sym, ap, _∙_}
-use lib.ListN.{length, getD, take, drop, set}
-use native.Mathlib.Omega.{arith}
-use denote.Ref.{now}
+use Prim.Native.Nat.{_-_}
 use borrow.Author.Needs.{needs}
 use Rattle.locus.proofs.locus_line.Statement.{statement}
 use Rattle.locus.proofs.locus_line.Tie as tie
-use Rattle.locus.proofs.locus_line.Reads as reads
-use Rattle.locus.proofs.locus_line.Lts as lts
-use Rattle.locus.proofs.from_name.Reads as from-name-reads
 
 plain-requires : tie.Need-plain-requires
 plain-requires c κs = search needs

@@ -1,14 +1,10 @@
+-- `locus::values` meets its contract. Assumes nothing.
 use Rattle.locus.proofs.Lines.{no-name, no-bases, no-unit, no-date, is-circular, is-linear, is-neither}
-use Prim.Native.Nat.{ℕ, suc, _+_, _-_, _*_, _/_, _%_, _≤_, _<_}
-use mathlib.Core.Path.{_≡_, refl, sym, ap, _∙_}
-use lib.ListN.{length, getD, take, drop, set}
-use native.Mathlib.Omega.{arith}
-use denote.Ref.{now}
+use Prim.Native.Nat.{_-_}
+use lib.ListN.{length}
 use borrow.Author.Needs.{needs}
 use Rattle.locus.proofs.values.Statement.{statement}
 use Rattle.locus.proofs.values.Tie as tie
-use Rattle.locus.proofs.values.Reads as reads
-use Rattle.locus.proofs.values.Lts as lts
 
 span-named-requires : tie.Need-span-named-requires
 span-named-requires c κs = search needs

@@ -1,15 +1,10 @@
+-- `tokens::bases_in` meets its contract. Assumes nothing.
 use Rattle.tokens.proofs.Counted.{bases-not, bases-much, bases-some, bases-long}
-use Prim.Native.Nat.{ℕ, suc, _+_, _-_, _*_, _/_, _%_, _≤_, _<_}
-use mathlib.Core.Path.{_≡_, refl, sym, ap, _∙_}
-use lib.ListN.{length, getD, take, drop, set}
-use native.Mathlib.Omega.{arith}
+use Prim.Native.Nat.{_-_}
 use denote.Ref.{now}
 use borrow.Author.Needs.{needs}
 use Rattle.tokens.proofs.bases_in.Statement.{statement}
 use Rattle.tokens.proofs.bases_in.Tie as tie
-use Rattle.tokens.proofs.bases_in.Reads as reads
-use Rattle.tokens.proofs.bases_in.Lts as lts
-use Rattle.tokens.proofs.decimal_in.Reads as decimal-in-reads
 
 returns : tie.Need-returns
 returns c = bases-long (now (c .before .before .args .t)) (c .if1 .taken)

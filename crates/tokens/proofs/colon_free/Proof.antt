@@ -1,17 +1,12 @@
+-- `tokens::colon_free` meets its contract. The invariant: the answer of the whole is the answer from here. Assumes nothing.
 use Rattle.format.specs.Bytes.{all, but}
 use Rattle.tokens.specs.Parts.{cut}
 use Rattle.tokens.proofs.Cuts.{cutting}
-use Prim.Native.Nat.{ℕ, suc, _+_, _-_, _*_, _/_, _%_, _≤_, _<_}
-use mathlib.Core.Path.{_≡_, refl, sym, ap, _∙_}
-use lib.ListN.{length, getD, take, drop, set}
-use native.Mathlib.Omega.{arith}
+use Prim.Native.Nat.{_-_, _≤_}
+use mathlib.Core.Path.{_≡_}
 use borrow.Author.Needs.{needs}
-use denote.Ref.{now}
 use Rattle.tokens.proofs.colon_free.Statement.{statement}
 use Rattle.tokens.proofs.colon_free.Tie as tie
-use Rattle.tokens.proofs.colon_free.Reads as reads
-use Rattle.tokens.proofs.colon_free.Lts as lts
-use Rattle.tokens.proofs.not_colon.Reads as not-colon-reads
 
 abbrev Inv-loop : tie.InvT-loop
 Inv-loop s from to i₀ i = (i ≤ to) × (all (but 58) (cut s from to) ≡ all (but 58) (cut s i to))

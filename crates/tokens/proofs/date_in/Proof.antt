@@ -1,17 +1,14 @@
+-- `tokens::date_in` meets its contract. Assumes nothing.
 use lib.ListN.{length-take, length-drop}
 use lib.Seq.{length-take-le}
 use Rattle.tokens.proofs.Counted.{date-short, date-long, date-dash, date-dashes, date-parts}
-use Prim.Native.Nat.{ℕ, suc, _+_, _-_, _*_, _/_, _%_, _≤_, _<_}
-use mathlib.Core.Path.{_≡_, refl, sym, ap, _∙_}
-use lib.ListN.{length, getD, take, drop, set}
+use Prim.Native.Nat.{_-_}
+use mathlib.Core.Path.{sym}
 use native.Mathlib.Omega.{arith}
 use denote.Ref.{now}
 use borrow.Author.Needs.{needs}
 use Rattle.tokens.proofs.date_in.Statement.{statement}
 use Rattle.tokens.proofs.date_in.Tie as tie
-use Rattle.tokens.proofs.date_in.Reads as reads
-use Rattle.tokens.proofs.date_in.Lts as lts
-use Rattle.tokens.proofs.date_of_parts.Reads as date-of-parts-reads
 
 returns : tie.Need-returns
 returns c = date-short _ (c .if1 .taken)

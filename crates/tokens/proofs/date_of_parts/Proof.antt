@@ -1,17 +1,11 @@
+-- `tokens::date_of_parts` meets its contract. Assumes nothing.
 use Rattle.tokens.proofs.Counted.{date-no-day, date-no-year, date-made, value-below}
-use Prim.Native.Nat.{ℕ, suc, _+_, _-_, _*_, _/_, _%_, _≤_, _<_}
-use mathlib.Core.Path.{_≡_, refl, sym, ap, _∙_}
-use lib.ListN.{length, getD, take, drop, set}
+use Prim.Native.Nat.{_-_}
 use native.Mathlib.Omega.{arith}
 use denote.Ref.{now}
 use borrow.Author.Needs.{needs}
 use Rattle.tokens.proofs.date_of_parts.Statement.{statement}
 use Rattle.tokens.proofs.date_of_parts.Tie as tie
-use Rattle.tokens.proofs.date_of_parts.Reads as reads
-use Rattle.tokens.proofs.date_of_parts.Lts as lts
-use Rattle.format.proofs.Date.from.Reads as from-reads
-use Rattle.tokens.proofs.decimal_in.Reads as decimal-in-reads
-use Rattle.tokens.proofs.month_in.Reads as month-in-reads
 
 decimal-in-requires : tie.Need-decimal-in-requires
 decimal-in-requires c κs = search needs

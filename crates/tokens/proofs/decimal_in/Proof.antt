@@ -1,16 +1,14 @@
-use Prim.Native.Nat.{_^_}
+-- `tokens::decimal_in` meets its contract. The invariant: the answer of the whole is the answer from here. Assumes nothing.
+use Prim.Native.Nat.{_^_, _-_, _≤_, _<_}
 use Rattle.tokens.specs.Parts.{digitsAfter}
 use Rattle.tokens.proofs.Digits.{deciding, ten-more, ten-billion}
-use Prim.Native.Nat.{ℕ, suc, _+_, _-_, _*_, _/_, _%_, _≤_, _<_}
-use mathlib.Core.Path.{_≡_, refl, sym, ap, _∙_}
-use lib.ListN.{length, getD, take, drop, set}
+use mathlib.Core.Path.{_≡_}
+use lib.ListN.{length, drop}
 use native.Mathlib.Omega.{arith}
 use borrow.Author.Needs.{needs}
 use denote.Ref.{now}
 use Rattle.tokens.proofs.decimal_in.Statement.{statement}
 use Rattle.tokens.proofs.decimal_in.Tie as tie
-use Rattle.tokens.proofs.decimal_in.Reads as reads
-use Rattle.tokens.proofs.decimal_in.Lts as lts
 
 abbrev Inv-loop : tie.InvT-loop
 Inv-loop t v₀ i₀ v i = (i ≤ length t) × (v < 10 ^ i) × (digitsAfter 0 t ≡ digitsAfter v (drop i t))

@@ -1,15 +1,12 @@
+-- `tokens::equal` meets its contract. The invariant: the answer of the whole is the answer from here. Assumes nothing.
 use Rattle.format.specs.Bytes.{same}
 use Rattle.tokens.proofs.Digits.{deciding}
-use Prim.Native.Nat.{ℕ, suc, _+_, _-_, _*_, _/_, _%_, _≤_, _<_}
-use mathlib.Core.Path.{_≡_, refl, sym, ap, _∙_}
-use lib.ListN.{length, getD, take, drop, set}
-use native.Mathlib.Omega.{arith}
+use Prim.Native.Nat.{_-_, _≤_}
+use mathlib.Core.Path.{_≡_}
+use lib.ListN.{length, drop}
 use borrow.Author.Needs.{needs}
-use denote.Ref.{now}
 use Rattle.tokens.proofs.equal.Statement.{statement}
 use Rattle.tokens.proofs.equal.Tie as tie
-use Rattle.tokens.proofs.equal.Reads as reads
-use Rattle.tokens.proofs.equal.Lts as lts
 
 abbrev Inv-loop : tie.InvT-loop
 Inv-loop t w i₀ i = (i ≤ length t) × (length t ≡ length w) × (same t w ≡ same (drop i t) (drop i w))

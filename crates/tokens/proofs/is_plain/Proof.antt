@@ -1,15 +1,9 @@
+-- `tokens::is_plain` meets its contract. Assumes nothing.
 use borrow.Author.Tests.{le-leb, lt-leb}
-use Prim.Native.Nat.{ℕ, suc, _+_, _-_, _*_, _/_, _%_, _≤_, _<_}
-use mathlib.Core.Path.{_≡_, refl, sym, ap, _∙_}
-use lib.ListN.{length, getD, take, drop, set}
-use native.Mathlib.Omega.{arith}
-use denote.Ref.{now}
+use Prim.Native.Nat.{_-_}
 use borrow.Author.Needs.{needs}
 use Rattle.tokens.proofs.is_plain.Statement.{statement}
 use Rattle.tokens.proofs.is_plain.Tie as tie
-use Rattle.tokens.proofs.is_plain.Reads as reads
-use Rattle.tokens.proofs.is_plain.Lts as lts
-use Rattle.tokens.proofs.is_blank.Reads as is-blank-reads
 
 is-blank-requires : tie.Need-is-blank-requires
 is-blank-requires c κs = search needs

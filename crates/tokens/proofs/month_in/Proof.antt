@@ -1,14 +1,9 @@
-use Prim.Native.Nat.{ℕ, suc, _+_, _-_, _*_, _/_, _%_, _≤_, _<_}
-use mathlib.Core.Path.{_≡_, refl, sym, ap, _∙_}
-use lib.ListN.{length, getD, take, drop, set}
-use native.Mathlib.Omega.{arith}
-use denote.Ref.{now}
+-- `tokens::month_in` meets its contract. Assumes nothing.
+use Prim.Native.Nat.{_-_}
+use mathlib.Core.Path.{sym, _∙_}
 use borrow.Author.Needs.{needs}
 use Rattle.tokens.proofs.month_in.Statement.{statement}
 use Rattle.tokens.proofs.month_in.Tie as tie
-use Rattle.tokens.proofs.month_in.Reads as reads
-use Rattle.tokens.proofs.month_in.Lts as lts
-use Rattle.tokens.proofs.equal.Reads as equal-reads
 
 slice-aggregate-equal : tie.Need-slice-aggregate-equal
 slice-aggregate-equal c = search needs

@@ -1,17 +1,12 @@
+-- `tokens::plain` meets its contract. The invariant: the answer of the whole is the answer from here. Assumes nothing.
 use Rattle.format.specs.Bytes.{all}
 use Rattle.tokens.specs.Parts.{cut, plainByte}
 use Rattle.tokens.proofs.Cuts.{cutting}
-use Prim.Native.Nat.{ℕ, suc, _+_, _-_, _*_, _/_, _%_, _≤_, _<_}
-use mathlib.Core.Path.{_≡_, refl, sym, ap, _∙_}
-use lib.ListN.{length, getD, take, drop, set}
-use native.Mathlib.Omega.{arith}
+use Prim.Native.Nat.{_-_, _≤_}
+use mathlib.Core.Path.{_≡_}
 use borrow.Author.Needs.{needs}
-use denote.Ref.{now}
 use Rattle.tokens.proofs.plain.Statement.{statement}
 use Rattle.tokens.proofs.plain.Tie as tie
-use Rattle.tokens.proofs.plain.Reads as reads
-use Rattle.tokens.proofs.plain.Lts as lts
-use Rattle.tokens.proofs.is_plain.Reads as is-plain-reads
 
 abbrev Inv-loop : tie.InvT-loop
 Inv-loop s from to i₀ i = (i ≤ to) × (all plainByte (cut s from to) ≡ all plainByte (cut s i to))

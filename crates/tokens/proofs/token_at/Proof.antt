@@ -1,16 +1,9 @@
+-- `tokens::token_at` meets its contract. Assumes nothing.
 use Rattle.tokens.proofs.Worded.{token-some, token-none}
-use Prim.Native.Nat.{ℕ, suc, _+_, _-_, _*_, _/_, _%_, _≤_, _<_}
-use mathlib.Core.Path.{_≡_, refl, sym, ap, _∙_}
-use lib.ListN.{length, getD, take, drop, set}
-use native.Mathlib.Omega.{arith}
-use denote.Ref.{now}
+use Prim.Native.Nat.{_-_}
 use borrow.Author.Needs.{needs}
 use Rattle.tokens.proofs.token_at.Statement.{statement}
 use Rattle.tokens.proofs.token_at.Tie as tie
-use Rattle.tokens.proofs.token_at.Reads as reads
-use Rattle.tokens.proofs.token_at.Lts as lts
-use Rattle.tokens.proofs.blanks_end.Reads as blanks-end-reads
-use Rattle.tokens.proofs.word_end.Reads as word-end-reads
 
 blanks-end-requires : tie.Need-blanks-end-requires
 blanks-end-requires c κs = search needs
