@@ -9,13 +9,13 @@ use pen::put_bytes;
 use pen::put_part;
 use pen::put_spaces;
 ghost use mathlib.Core.List.{[], _∷_, _++_};
-ghost use Prim.Native.Nat.{_+_, _/_, _%_, _≤_};
+ghost use Prim.Native.Nat.{_≤_};
 ghost use lib.ListN.{length};
 ghost use Rattle.format.specs.Bytes.{decimal, is};
 ghost use Rattle.format.specs.Dates.{monthName, dateText};
-ghost use Rattle.format.specs.Write.{padded, nameAndLength, moleculeText, topologyText};
+ghost use Rattle.format.specs.Write.{padded, truncated, nameAndLength, moleculeText, topologyText};
 ghost use Rattle.pen.specs.Pen.{Writes};
-ghost use Rattle.locusline.specs.Locus.{dayText, yearText};
+ghost use Rattle.locusline.specs.Locus.{dayText, yearText, Kept};
 
 const MONTHS: [u8; 36] = *b"JANFEBMARAPRMAYJUNJULAUGSEPOCTNOVDEC";
 
@@ -27,6 +27,30 @@ pub fn put_name_length(out: &mut [u8], at: usize, name: &[u8], n: u32) -> usize
     let a = put_bytes(out, at, name);
     let b = put_spaces(out, a, left_of(27, name.len() + width(n)) + 1);
     put_decimal(out, b, n)
+}
+
+// How much of a name is printed beside a length of d digits.
+fn kept(name: &[u8], d: usize, truncate: bool) -> usize
+    requires { ⌜ (length (now name) ≤ 16777216) × (d ≤ 10) ⌝ }
+    ensures { λ r. ⌜ Kept truncate d (now (name .entry)) r ⌝ }
+{
+    if truncate {
+        if 28 < name.len() + 1 + d {
+            return 27 - d;
+        }
+        return name.len();
+    }
+    name.len()
+}
+
+// A name, cut where that is asked for, and a length.
+pub fn put_cut_name_length(out: &mut [u8], at: usize, name: &[u8], n: u32, truncate: bool) -> usize
+    requires { ⌜ length (now name) ≤ 16777216 ⌝ }
+    ensures { λ r. ⌜ Writes (now (out .entry)) at (nameAndLength (truncated truncate (length (decimal n)) (now (name .entry))) (decimal n)) (now (out .exit)) r ⌝ }
+{
+    let from = 0;
+    let end = kept(name, width(n), truncate);
+    put_name_length(out, at, &name[from..end], n)
 }
 
 // A molecule type in seven columns.
@@ -59,10 +83,13 @@ fn put_day(out: &mut [u8], at: usize, day: u8) -> usize
     put_byte(out, b, b'-')
 }
 
+// Three letters; none for a month that there is not.
 fn put_month(out: &mut [u8], at: usize, month: u8) -> usize
-    requires { ⌜ month ≤ 12 ⌝ }
     ensures { λ r. ⌜ Writes (now (out .entry)) at (monthName month) (now (out .exit)) r ⌝ }
 {
+    if 12 < month {
+        return at;
+    }
     let names = MONTHS;
     let from = left_of(month as usize, 1) * 3;
     put_part(out, at, &names, from, from + 3)
@@ -79,7 +106,6 @@ fn put_year(out: &mut [u8], at: usize, year: u16) -> usize
 }
 
 pub fn put_date(out: &mut [u8], at: usize, date: Date) -> usize
-    requires { ⌜ date .month ≤ 12 ⌝ }
     ensures { λ r. ⌜ Writes (now (out .entry)) at (dateText date) (now (out .exit)) r ⌝ }
 {
     let a = put_day(out, at, date.day);

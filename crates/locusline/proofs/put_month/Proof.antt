@@ -1,12 +1,15 @@
 -- `locusline::put_month` meets its contract.
-use Rattle.pen.specs.Pen.{writes-as}
+use Rattle.pen.specs.Pen.{writes-nil, writes-as}
 use Prim.Native.Nat.{_+_, _-_, _*_}
 use mathlib.Core.Path.{_≡_}
-use Rattle.locusline.specs.Locus.{month-is}
+use Rattle.locusline.specs.Locus.{month-is, month-none}
 use native.Mathlib.Omega.{arith}
 use borrow.Author.Needs.{needs}
 use Rattle.locusline.proofs.put_month.Statement.{statement}
 use Rattle.locusline.proofs.put_month.Tie as tie
+
+returns : tie.Need-returns
+returns c = writes-as (month-none _ (c .if1 .taken)) writes-nil
 
 left-of-requires : tie.Need-left-of-requires
 left-of-requires c κs = search needs
@@ -26,9 +29,9 @@ put-part-requires c κs = search needs
 same-length : tie.Need-same-length
 same-length c = search needs
 
-returns : tie.Need-returns
-returns c =
-    let m = c .before .before .before .before .before .before .before .args .month in
+returns-2 : tie.Need-returns-2
+returns-2 c =
+    let m = c .before .before .before .before .before .before .before .before .args .month in
     let e : (c .before .before .before .before .before .left-of .result) ≡ m - 1 = c .before .before .before .before .before .left-of .ensures in
     let y : (m - 1) * 3 + 3 - (m - 1) * 3 ≡ 3 = omega arith in
     writes-as (rw (e, y) (month-is m (search needs))) (c .before .before .put-part .ensures)
@@ -37,10 +40,11 @@ pub put-month-spec : {M : Type 1} → statement M
 put-month-spec =
     tie.close
     (tie.spec
+    returns
     left-of-requires
     mul-from
     slice-aggregate-put-part
     add-put-part
     put-part-requires
     same-length
-    returns)
+    returns-2)
