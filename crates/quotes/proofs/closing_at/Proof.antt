@@ -1,18 +1,10 @@
-use Prim.Native.Nat.{ℕ, suc, _+_, _-_, _*_, _/_, _%_, _≤_, _<_}
-use mathlib.Core.Path.{_≡_, refl, sym, ap, _∙_}
-use lib.ListN.{length, getD, take, drop, set}
-use native.Mathlib.Omega.{arith}
-use denote.Ref.{now}
+-- `quotes::closing_at` meets its contract. Assumes nothing.
 use borrow.Author.Needs.{needs}
 use Rattle.chars.specs.Sequence.{sequence}
 use Rattle.quotes.proofs.Steps.{quote-within}
 use Rattle.quotes.proofs.Pieces.{closings}
 use Rattle.quotes.proofs.closing_at.Statement.{statement}
 use Rattle.quotes.proofs.closing_at.Tie as tie
-use Rattle.quotes.proofs.closing_at.Reads as reads
-use Rattle.quotes.proofs.closing_at.Lts as lts
-use Rattle.chars.proofs.line_end.Reads as line-end-reads
-use Rattle.quotes.proofs.quote_at.Reads as quote-at-reads
 
 quote-at-requires : tie.Need-quote-at-requires
 quote-at-requires c κs = search needs

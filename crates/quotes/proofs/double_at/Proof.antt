@@ -1,17 +1,9 @@
-use Prim.Native.Nat.{ℕ, suc, _+_, _-_, _*_, _/_, _%_, _≤_, _<_}
-use mathlib.Core.Path.{_≡_, refl, sym, ap, _∙_}
-use lib.ListN.{length, getD, take, drop, set}
-use native.Mathlib.Omega.{arith}
-use denote.Ref.{now}
+-- `quotes::double_at` meets its contract. Assumes nothing.
 use borrow.Author.Needs.{needs}
 use Rattle.chars.specs.Sequence.{sequence}
-use Rattle.quotes.specs.Escapes.{Runs}
 use Rattle.quotes.proofs.Steps.{doubles}
 use Rattle.quotes.proofs.double_at.Statement.{statement}
 use Rattle.quotes.proofs.double_at.Tie as tie
-use Rattle.quotes.proofs.double_at.Reads as reads
-use Rattle.quotes.proofs.double_at.Lts as lts
-use Rattle.quotes.proofs.quote_at.Reads as quote-at-reads
 
 quote-at-requires : tie.Need-quote-at-requires
 quote-at-requires c κs = search needs

@@ -1,18 +1,9 @@
-use Prim.Native.Nat.{ℕ, suc, _+_, _-_, _*_, _/_, _%_, _≤_, _<_}
-use mathlib.Core.Path.{_≡_, refl, sym, ap, _∙_}
-use lib.ListN.{length, getD, take, drop, set}
-use native.Mathlib.Omega.{arith}
-use denote.Ref.{now}
+-- `quotes::escape_at` meets its contract. Assumes nothing.
 use borrow.Author.Needs.{needs}
 use Rattle.chars.specs.Sequence.{sequence}
-use Rattle.quotes.specs.Escapes.{Runs}
 use Rattle.quotes.proofs.Steps.{escapes}
 use Rattle.quotes.proofs.escape_at.Statement.{statement}
 use Rattle.quotes.proofs.escape_at.Tie as tie
-use Rattle.quotes.proofs.escape_at.Reads as reads
-use Rattle.quotes.proofs.escape_at.Lts as lts
-use Rattle.quotes.proofs.double_at.Reads as double-at-reads
-use Rattle.quotes.proofs.later_escape.Reads as later-escape-reads
 
 double-at-requires : tie.Need-double-at-requires
 double-at-requires c κs = search needs

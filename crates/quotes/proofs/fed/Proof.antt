@@ -1,17 +1,9 @@
-use Prim.Native.Nat.{ℕ, suc, _+_, _-_, _*_, _/_, _%_, _≤_, _<_}
-use mathlib.Core.Path.{_≡_, refl, sym, ap, _∙_}
-use lib.ListN.{length, getD, take, drop, set}
-use native.Mathlib.Omega.{arith}
-use denote.Ref.{now}
+-- `quotes::fed` meets its contract. Assumes nothing.
 use borrow.Author.Needs.{needs}
 use Rattle.chars.specs.Sequence.{sequence}
-use Rattle.quotes.proofs.Steps.{quote-within}
 use Rattle.quotes.proofs.Values.{feds}
 use Rattle.quotes.proofs.fed.Statement.{statement}
 use Rattle.quotes.proofs.fed.Tie as tie
-use Rattle.quotes.proofs.fed.Reads as reads
-use Rattle.quotes.proofs.fed.Lts as lts
-use Rattle.utf8.proofs.utf8_feed.Reads as utf8-feed-reads
 
 utf8-feed-requires : tie.Need-utf8-feed-requires
 utf8-feed-requires c κs = search needs

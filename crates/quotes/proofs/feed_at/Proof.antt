@@ -1,18 +1,9 @@
-use Prim.Native.Nat.{ℕ, suc, _+_, _-_, _*_, _/_, _%_, _≤_, _<_}
-use mathlib.Core.Path.{_≡_, refl, sym, ap, _∙_}
-use lib.ListN.{length, getD, take, drop, set}
-use native.Mathlib.Omega.{arith}
-use denote.Ref.{now}
+-- `quotes::feed_at` meets its contract. Assumes nothing.
 use borrow.Author.Needs.{needs}
 use Rattle.chars.specs.Sequence.{sequence}
-use Rattle.quotes.specs.Escapes.{Runs}
 use Rattle.quotes.proofs.Steps.{feeds}
 use Rattle.quotes.proofs.feed_at.Statement.{statement}
 use Rattle.quotes.proofs.feed_at.Tie as tie
-use Rattle.quotes.proofs.feed_at.Reads as reads
-use Rattle.quotes.proofs.feed_at.Lts as lts
-use Rattle.chars.proofs.indent.Reads as indent-reads
-use Rattle.chars.proofs.line_end.Reads as line-end-reads
 
 line-end-requires : tie.Need-line-end-requires
 line-end-requires c κs = search needs

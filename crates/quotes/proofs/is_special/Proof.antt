@@ -1,16 +1,9 @@
-use Prim.Native.Nat.{ℕ, suc, _+_, _-_, _*_, _/_, _%_, _≤_, _<_}
-use mathlib.Core.Path.{_≡_, refl, sym, ap, _∙_}
-use lib.ListN.{length, getD, take, drop, set}
-use native.Mathlib.Omega.{arith}
+-- `quotes::is_special` meets its contract. Assumes nothing.
 use borrow.Author.Needs.{needs}
 use Rattle.chars.specs.Sequence.{sequence}
-use Rattle.quotes.specs.Escapes.{Runs}
 use Rattle.quotes.proofs.Plains.{tests}
-use denote.Ref.{now}
 use Rattle.quotes.proofs.is_special.Statement.{statement}
 use Rattle.quotes.proofs.is_special.Tie as tie
-use Rattle.quotes.proofs.is_special.Reads as reads
-use Rattle.quotes.proofs.is_special.Lts as lts
 
 returns : tie.Need-returns
 returns c = search (tests, sequence, needs)

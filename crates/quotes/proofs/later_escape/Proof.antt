@@ -1,18 +1,9 @@
-use Prim.Native.Nat.{ℕ, suc, _+_, _-_, _*_, _/_, _%_, _≤_, _<_}
-use mathlib.Core.Path.{_≡_, refl, sym, ap, _∙_}
-use lib.ListN.{length, getD, take, drop, set}
-use native.Mathlib.Omega.{arith}
-use denote.Ref.{now}
+-- `quotes::later_escape` meets its contract. Assumes nothing.
 use borrow.Author.Needs.{needs}
 use Rattle.chars.specs.Sequence.{sequence}
-use Rattle.quotes.specs.Escapes.{Runs}
 use Rattle.quotes.proofs.Steps.{laters}
 use Rattle.quotes.proofs.later_escape.Statement.{statement}
 use Rattle.quotes.proofs.later_escape.Tie as tie
-use Rattle.quotes.proofs.later_escape.Reads as reads
-use Rattle.quotes.proofs.later_escape.Lts as lts
-use Rattle.quotes.proofs.feed_at.Reads as feed-at-reads
-use Rattle.quotes.proofs.split_at.Reads as split-at-reads
 
 split-at-requires : tie.Need-split-at-requires
 split-at-requires c κs = search needs

@@ -1,18 +1,9 @@
-use Prim.Native.Nat.{ℕ, suc, _+_, _-_, _*_, _/_, _%_, _≤_, _<_}
-use mathlib.Core.Path.{_≡_, refl, sym, ap, _∙_}
-use lib.ListN.{length, getD, take, drop, set}
-use native.Mathlib.Omega.{arith}
-use denote.Ref.{now}
+-- `quotes::piece_at` meets its contract. Assumes nothing.
 use borrow.Author.Needs.{needs}
 use Rattle.chars.specs.Sequence.{sequence}
-use Rattle.quotes.proofs.Steps.{quote-within}
-use Rattle.quotes.proofs.Pieces.{pieces, quote-more}
+use Rattle.quotes.proofs.Pieces.{pieces}
 use Rattle.quotes.proofs.piece_at.Statement.{statement}
 use Rattle.quotes.proofs.piece_at.Tie as tie
-use Rattle.quotes.proofs.piece_at.Reads as reads
-use Rattle.quotes.proofs.piece_at.Lts as lts
-use Rattle.quotes.proofs.plain_end.Reads as plain-end-reads
-use Rattle.quotes.proofs.turn_at.Reads as turn-at-reads
 
 plain-end-requires : tie.Need-plain-end-requires
 plain-end-requires c κs = search (pieces, sequence, needs)

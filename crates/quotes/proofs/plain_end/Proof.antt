@@ -1,17 +1,12 @@
-use Prim.Native.Nat.{ℕ, suc, _+_, _-_, _*_, _/_, _%_, _≤_, _<_}
-use mathlib.Core.Path.{_≡_, refl, sym, ap, _∙_}
-use lib.ListN.{length, getD, take, drop, set}
-use native.Mathlib.Omega.{arith}
+-- `quotes::plain_end` meets its contract. Assumes nothing.
+use Prim.Native.Nat.{_-_}
+use lib.ListN.{length}
 use borrow.Author.Needs.{needs}
 use Rattle.chars.specs.Sequence.{sequence}
 use Rattle.quotes.specs.Escapes.{Runs}
 use Rattle.quotes.proofs.Plains.{plains}
-use denote.Ref.{now}
 use Rattle.quotes.proofs.plain_end.Statement.{statement}
 use Rattle.quotes.proofs.plain_end.Tie as tie
-use Rattle.quotes.proofs.plain_end.Reads as reads
-use Rattle.quotes.proofs.plain_end.Lts as lts
-use Rattle.quotes.proofs.is_special.Reads as is-special-reads
 
 abbrev Inv-loop : tie.InvT-loop
 Inv-loop s at i₀ i = Runs s at i

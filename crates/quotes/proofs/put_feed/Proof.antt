@@ -1,17 +1,9 @@
-use Prim.Native.Nat.{ℕ, suc, _+_, _-_, _*_, _/_, _%_, _≤_, _<_}
-use mathlib.Core.Path.{_≡_, refl, sym, ap, _∙_}
-use lib.ListN.{length, getD, take, drop, set}
-use native.Mathlib.Omega.{arith}
-use denote.Ref.{now}
+-- `quotes::put_feed` meets its contract. Assumes nothing.
 use borrow.Author.Needs.{needs}
 use Rattle.chars.specs.Sequence.{sequence}
-use Rattle.quotes.proofs.Steps.{quote-within}
 use Rattle.quotes.proofs.Values.{feds}
 use Rattle.quotes.proofs.put_feed.Statement.{statement}
 use Rattle.quotes.proofs.put_feed.Tie as tie
-use Rattle.quotes.proofs.put_feed.Reads as reads
-use Rattle.quotes.proofs.put_feed.Lts as lts
-use Rattle.pen.proofs.put_byte.Reads as put-byte-reads
 
 put-byte-requires : tie.Need-put-byte-requires
 put-byte-requires c κs = search needs

@@ -1,19 +1,11 @@
-use Prim.Native.Nat.{ℕ, suc, _+_, _-_, _*_, _/_, _%_, _≤_, _<_}
-use mathlib.Core.Path.{_≡_, refl, sym, ap, _∙_}
-use lib.ListN.{length, getD, take, drop, set}
-use native.Mathlib.Omega.{arith}
+-- `quotes::put_on` meets its contract. Assumes nothing.
+use Prim.Native.Nat.{_-_}
+use lib.ListN.{length}
 use borrow.Author.Needs.{needs}
 use Rattle.chars.specs.Sequence.{sequence}
-use Rattle.quotes.proofs.Steps.{quote-within}
 use Rattle.quotes.proofs.Values.{puttings, places, Putting}
-use denote.Ref.{now}
 use Rattle.quotes.proofs.put_on.Statement.{statement}
 use Rattle.quotes.proofs.put_on.Tie as tie
-use Rattle.quotes.proofs.put_on.Reads as reads
-use Rattle.quotes.proofs.put_on.Lts as lts
-use Rattle.pen.proofs.put_part.Reads as put-part-reads
-use Rattle.quotes.proofs.piece_at.Reads as piece-at-reads
-use Rattle.quotes.proofs.put_feed.Reads as put-feed-reads
 
 abbrev Inv-loop : tie.InvT-loop
 Inv-loop s at indent joined room₀ place i₀ p₀ room i p = Putting s at joined indent room₀ place i room p

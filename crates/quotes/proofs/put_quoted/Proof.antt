@@ -1,18 +1,10 @@
-use Prim.Native.Nat.{ℕ, suc, _+_, _-_, _*_, _/_, _%_, _≤_, _<_}
-use mathlib.Core.Path.{_≡_, refl, sym, ap, _∙_}
-use lib.ListN.{length, getD, take, drop, set}
-use native.Mathlib.Omega.{arith}
-use denote.Ref.{now}
+-- `quotes::put_quoted` meets its contract. Assumes nothing.
 use borrow.Author.Needs.{needs}
 use Rattle.chars.specs.Sequence.{sequence}
 use Rattle.quotes.proofs.Steps.{quote-within}
 use Rattle.quotes.proofs.Values.{puts}
 use Rattle.quotes.proofs.put_quoted.Statement.{statement}
 use Rattle.quotes.proofs.put_quoted.Tie as tie
-use Rattle.quotes.proofs.put_quoted.Reads as reads
-use Rattle.quotes.proofs.put_quoted.Lts as lts
-use Rattle.quotes.proofs.put_on.Reads as put-on-reads
-use Rattle.quotes.proofs.quote_at.Reads as quote-at-reads
 
 quote-at-requires : tie.Need-quote-at-requires
 quote-at-requires c κs = search (puts, quote-within, sequence, needs)

@@ -1,16 +1,9 @@
-use Prim.Native.Nat.{ℕ, suc, _+_, _-_, _*_, _/_, _%_, _≤_, _<_}
-use mathlib.Core.Path.{_≡_, refl, sym, ap, _∙_}
-use lib.ListN.{length, getD, take, drop, set}
-use native.Mathlib.Omega.{arith}
-use denote.Ref.{now}
+-- `quotes::quote_at` meets its contract. Assumes nothing.
 use borrow.Author.Needs.{needs}
 use Rattle.chars.specs.Sequence.{sequence}
-use Rattle.quotes.specs.Escapes.{Runs}
 use Rattle.quotes.proofs.Steps.{quotes}
 use Rattle.quotes.proofs.quote_at.Statement.{statement}
 use Rattle.quotes.proofs.quote_at.Tie as tie
-use Rattle.quotes.proofs.quote_at.Reads as reads
-use Rattle.quotes.proofs.quote_at.Lts as lts
 
 returns : tie.Need-returns
 returns c = search (quotes, sequence, needs)

@@ -1,22 +1,12 @@
-use Prim.Native.Nat.{ℕ, suc, _+_, _-_, _*_, _/_, _%_, _≤_, _<_}
-use mathlib.Core.Path.{_≡_, refl, sym, ap, _∙_}
-use lib.ListN.{length, getD, take, drop, set}
+-- `quotes::quoted_on` meets its contract. Assumes nothing.
+use Prim.Native.Nat.{_-_}
+use lib.ListN.{length}
 use native.Mathlib.Omega.{arith}
 use borrow.Author.Needs.{needs}
 use Rattle.chars.specs.Sequence.{sequence}
-use Rattle.quotes.proofs.Steps.{quote-within}
 use Rattle.quotes.proofs.Values.{goings, places, Going, sum-within}
-use denote.Ref.{now}
 use Rattle.quotes.proofs.quoted_on.Statement.{statement}
 use Rattle.quotes.proofs.quoted_on.Tie as tie
-use Rattle.quotes.proofs.quoted_on.Reads as reads
-use Rattle.quotes.proofs.quoted_on.Lts as lts
-use Rattle.quotes.proofs.fed.Reads as fed-reads
-use Rattle.quotes.proofs.feed_length.Reads as feed-length-reads
-use Rattle.quotes.proofs.piece_at.Reads as piece-at-reads
-use Rattle.utf8.proofs.started.Reads as started-reads
-use Rattle.utf8.proofs.utf8_ends.Reads as utf8-ends-reads
-use Rattle.utf8.proofs.utf8_on.Reads as utf8-on-reads
 
 abbrev Inv-loop : tie.InvT-loop
 Inv-loop s at indent joined i₀ n₀ state₀ i n state = Going s at joined indent i n state

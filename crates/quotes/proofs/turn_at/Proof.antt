@@ -1,18 +1,9 @@
-use Prim.Native.Nat.{ℕ, suc, _+_, _-_, _*_, _/_, _%_, _≤_, _<_}
-use mathlib.Core.Path.{_≡_, refl, sym, ap, _∙_}
-use lib.ListN.{length, getD, take, drop, set}
-use native.Mathlib.Omega.{arith}
-use denote.Ref.{now}
+-- `quotes::turn_at` meets its contract. Assumes nothing.
 use borrow.Author.Needs.{needs}
 use Rattle.chars.specs.Sequence.{sequence}
-use Rattle.quotes.proofs.Steps.{quote-within}
 use Rattle.quotes.proofs.Pieces.{turns}
 use Rattle.quotes.proofs.turn_at.Statement.{statement}
 use Rattle.quotes.proofs.turn_at.Tie as tie
-use Rattle.quotes.proofs.turn_at.Reads as reads
-use Rattle.quotes.proofs.turn_at.Lts as lts
-use Rattle.quotes.proofs.closing_at.Reads as closing-at-reads
-use Rattle.quotes.proofs.escape_at.Reads as escape-at-reads
 
 escape-at-requires : tie.Need-escape-at-requires
 escape-at-requires c κs = search needs
