@@ -77,7 +77,14 @@ fn further_at(s: &[u8], at: usize, indent: usize) -> Further
 }
 
 // The further lines, with the count and the tests going on from those of the first line.
-fn further_lines(s: &[u8], at: usize, indent: usize, first: usize, seen: bool, before: State) -> Bare
+fn further_lines(
+    s: &[u8],
+    at: usize,
+    indent: usize,
+    first: usize,
+    seen: bool,
+    before: State,
+) -> Bare
     requires { ⌜ (at ≤ length (now s)) × (first ≤ at) ⌝ }
     ensures { λ r. ⌜ Bared (now (s .entry)) at first seen before (taken (bareMore indent) (drop at (now (s .entry)))) (gathered (bareMore indent) (drop at (now (s .entry)))) r ⌝ }
 {

@@ -44,8 +44,11 @@ module _ (s : List ℕ) (at : ℕ) where
           within = omega arith;
           text = λ joined indent.
               g .text joined indent ∙
-              rw (taken-more (quotedTurn joined indent) (drop i s) (quotedTurn-small joined indent) (getD s i 0 ∷ []) (drop (i + 1) s) (ordinary joined indent s i h (sym e ∙ f)),
-                part-snoc s at i k h, append-assoc);
+              rw (
+                taken-more (quotedTurn joined indent) (drop i s) (quotedTurn-small joined indent) (getD s i 0 ∷ []) (drop (i + 1) s) (ordinary joined indent s i h (sym e ∙ f)),
+                part-snoc s at i k h,
+                append-assoc,
+              );
           ends = λ joined indent.
               g .ends joined indent ∙
               end-more (quotedTurn joined indent) (quotedTurn-small joined indent) (drop i s) (getD s i 0 ∷ []) (drop (i + 1) s) (ordinary joined indent s i h (sym e ∙ f));

@@ -282,7 +282,14 @@ fn put_on(s: &[u8], at: usize, indent: usize, joined: bool, room: &mut [u8], pla
 }
 
 // The text that `quoted_at` scans.
-pub fn put_quoted(s: &[u8], at: usize, indent: usize, joined: bool, room: &mut [u8], place: usize) -> usize
+pub fn put_quoted(
+    s: &[u8],
+    at: usize,
+    indent: usize,
+    joined: bool,
+    room: &mut [u8],
+    place: usize,
+) -> usize
     requires { ⌜ at ≤ length (now s) ⌝ }
     ensures { λ r. ⌜ Writes (now (room .entry)) place (quotedText joined indent (drop at (now (s .entry)))) (now (room .exit)) r ⌝ }
 {

@@ -41,7 +41,15 @@ pub fn value_at(s: &[u8], at: usize, indent: usize, joined: bool) -> Read
 }
 
 // The text that `value_at` scans, read as it says.
-pub fn put_value(s: &[u8], at: usize, indent: usize, joined: bool, quoted: bool, room: &mut [u8], place: usize) -> usize
+pub fn put_value(
+    s: &[u8],
+    at: usize,
+    indent: usize,
+    joined: bool,
+    quoted: bool,
+    room: &mut [u8],
+    place: usize,
+) -> usize
     requires { ⌜ at ≤ length (now s) ⌝ }
     ensures { λ r. ⌜ Writes (now (room .entry)) place (readText quoted joined indent (drop at (now (s .entry)))) (now (room .exit)) r ⌝ }
 {
