@@ -1,1 +1,60 @@
-// The values of qualifiers, and locations: bare and quoted texts of feature_table.rs (written on branch values; the loops over qualifiers and features are another crate's).
+// The values of qualifiers of feature_table.rs: a quoted reading first, and else a bare one.
+use pieces::Value;
+ghost use Prim.Native.Nat.{_≤_};
+ghost use lib.ListN.{length, drop};
+ghost use Rattle.pen.specs.Pen.{Writes};
+ghost use Rattle.values.specs.Reads.{valueWith, readText, ReadIs};
+
+// A value: whether it was read as a quoted one, its length, and the place after it.
+pub enum Read {
+    Got {
+        quoted: bool,
+        length: usize,
+        next: usize,
+    },
+    No,
+    Cut,
+}
+
+// The value at `at`; `joined` where the key is `translation`.
+pub fn value_at(s: &[u8], at: usize, indent: usize, joined: bool) -> Read
+    requires { ⌜ at ≤ length (now s) ⌝ }
+    ensures { λ r. ⌜ ReadIs (now (s .entry)) at joined indent (valueWith joined indent (drop at (now (s .entry)))) r ⌝ }
+{
+    match quotes::quoted_at(s, at, indent, joined) {
+        Value::Got { length, next } => Read::Got {
+            quoted: true,
+            length,
+            next,
+        },
+        Value::No => match bares::bare_value_at(s, at, indent) {
+            Value::Got { length, next } => Read::Got {
+                quoted: false,
+                length,
+                next,
+            },
+            Value::No => Read::No,
+            Value::Cut => Read::Cut,
+        },
+        Value::Cut => Read::Cut,
+    }
+}
+
+// The text that `value_at` scans, read as it says.
+pub fn put_value(
+    s: &[u8],
+    at: usize,
+    indent: usize,
+    joined: bool,
+    quoted: bool,
+    room: &mut [u8],
+    place: usize,
+) -> usize
+    requires { ⌜ at ≤ length (now s) ⌝ }
+    ensures { λ r. ⌜ Writes (now (room .entry)) place (readText quoted joined indent (drop at (now (s .entry)))) (now (room .exit)) r ⌝ }
+{
+    if quoted {
+        return quotes::put_quoted(s, at, indent, joined, room, place);
+    }
+    bares::put_bare(s, at, indent, room, place)
+}

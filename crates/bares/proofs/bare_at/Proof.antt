@@ -1,20 +1,9 @@
-use Prim.Native.Nat.{ℕ, suc, _+_, _-_, _*_, _/_, _%_, _≤_, _<_}
-use mathlib.Core.Path.{_≡_, refl, sym, ap, _∙_}
-use lib.ListN.{length, getD, take, drop, set}
-use native.Mathlib.Omega.{arith}
-use denote.Ref.{now}
+-- `bares::bare_at` meets its contract. Assumes nothing.
 use borrow.Author.Needs.{needs}
 use Rattle.chars.specs.Sequence.{sequence}
 use Rattle.bares.proofs.Bares.{firsts}
 use Rattle.bares.proofs.bare_at.Statement.{statement}
 use Rattle.bares.proofs.bare_at.Tie as tie
-use Rattle.bares.proofs.bare_at.Reads as reads
-use Rattle.bares.proofs.bare_at.Lts as lts
-use Rattle.bares.proofs.further_lines.Reads as further-lines-reads
-use Rattle.chars.proofs.line_at.Reads as line-at-reads
-use Rattle.pieces.proofs.visible_on.Reads as visible-on-reads
-use Rattle.utf8.proofs.started.Reads as started-reads
-use Rattle.utf8.proofs.utf8_on.Reads as utf8-on-reads
 
 line-at-requires : tie.Need-line-at-requires
 line-at-requires c κs = search (sequence, firsts, needs)

@@ -1,17 +1,8 @@
-use Prim.Native.Nat.{ℕ, suc, _+_, _-_, _*_, _/_, _%_, _≤_, _<_}
-use mathlib.Core.Path.{_≡_, refl, sym, ap, _∙_}
-use lib.ListN.{length, getD, take, drop, set}
-use native.Mathlib.Omega.{arith}
-use denote.Ref.{now}
+-- `bares::bare_value_at` meets its contract. Assumes nothing.
 use borrow.Author.Needs.{needs}
-use Rattle.chars.specs.Sequence.{sequence}
 use Rattle.bares.proofs.Bares.{texts}
 use Rattle.bares.proofs.bare_value_at.Statement.{statement}
 use Rattle.bares.proofs.bare_value_at.Tie as tie
-use Rattle.bares.proofs.bare_value_at.Reads as reads
-use Rattle.bares.proofs.bare_value_at.Lts as lts
-use Rattle.bares.proofs.bare_at.Reads as bare-at-reads
-use Rattle.utf8.proofs.utf8_ends.Reads as utf8-ends-reads
 
 bare-at-requires : tie.Need-bare-at-requires
 bare-at-requires c κs = search (texts, needs)

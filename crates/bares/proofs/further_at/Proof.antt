@@ -1,17 +1,9 @@
-use Prim.Native.Nat.{ℕ, suc, _+_, _-_, _*_, _/_, _%_, _≤_, _<_}
-use mathlib.Core.Path.{_≡_, refl, sym, ap, _∙_}
-use lib.ListN.{length, getD, take, drop, set}
-use native.Mathlib.Omega.{arith}
-use denote.Ref.{now}
+-- `bares::further_at` meets its contract. Assumes nothing.
 use borrow.Author.Needs.{needs}
 use Rattle.chars.specs.Sequence.{sequence}
 use Rattle.bares.proofs.Lines.{turns}
 use Rattle.bares.proofs.further_at.Statement.{statement}
 use Rattle.bares.proofs.further_at.Tie as tie
-use Rattle.bares.proofs.further_at.Reads as reads
-use Rattle.bares.proofs.further_at.Lts as lts
-use Rattle.bares.proofs.further_start.Reads as further-start-reads
-use Rattle.chars.proofs.line_at.Reads as line-at-reads
 
 further-start-requires : tie.Need-further-start-requires
 further-start-requires c κs = search (sequence, turns, needs)

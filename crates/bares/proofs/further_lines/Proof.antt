@@ -1,17 +1,11 @@
-use Prim.Native.Nat.{ℕ, suc, _+_, _-_, _*_, _/_, _%_, _≤_, _<_}
-use mathlib.Core.Path.{_≡_, refl, sym, ap, _∙_}
-use lib.ListN.{length, getD, take, drop, set}
+-- `bares::further_lines` meets its contract. Assumes nothing.
+use Prim.Native.Nat.{_-_}
+use lib.ListN.{length}
 use native.Mathlib.Omega.{arith}
 use borrow.Author.Needs.{needs}
 use Rattle.bares.proofs.Lines.{Going, further-places, goings}
-use denote.Ref.{now}
 use Rattle.bares.proofs.further_lines.Statement.{statement}
 use Rattle.bares.proofs.further_lines.Tie as tie
-use Rattle.bares.proofs.further_lines.Reads as reads
-use Rattle.bares.proofs.further_lines.Lts as lts
-use Rattle.bares.proofs.further_at.Reads as further-at-reads
-use Rattle.pieces.proofs.visible_on.Reads as visible-on-reads
-use Rattle.utf8.proofs.utf8_on.Reads as utf8-on-reads
 
 abbrev Inv-loop : tie.InvT-loop
 Inv-loop s at indent first seen i₀ n₀ visible₀ state₀ i n visible state = Going s at indent first seen state₀ i n visible state

@@ -1,16 +1,9 @@
-use Prim.Native.Nat.{ℕ, suc, _+_, _-_, _*_, _/_, _%_, _≤_, _<_}
-use mathlib.Core.Path.{_≡_, refl, sym, ap, _∙_}
-use lib.ListN.{length, getD, take, drop, set}
-use native.Mathlib.Omega.{arith}
-use denote.Ref.{now}
+-- `bares::further_start` meets its contract. Assumes nothing.
 use borrow.Author.Needs.{needs}
 use Rattle.chars.specs.Sequence.{sequence}
 use Rattle.bares.proofs.Lines.{slashes}
 use Rattle.bares.proofs.further_start.Statement.{statement}
 use Rattle.bares.proofs.further_start.Tie as tie
-use Rattle.bares.proofs.further_start.Reads as reads
-use Rattle.bares.proofs.further_start.Lts as lts
-use Rattle.chars.proofs.indent.Reads as indent-reads
 
 indent-requires : tie.Need-indent-requires
 indent-requires c κs = search (sequence, slashes, needs)

@@ -1,16 +1,8 @@
-use Prim.Native.Nat.{ℕ, suc, _+_, _-_, _*_, _/_, _%_, _≤_, _<_}
-use mathlib.Core.Path.{_≡_, refl, sym, ap, _∙_}
-use lib.ListN.{length, getD, take, drop, set}
-use native.Mathlib.Omega.{arith}
-use denote.Ref.{now}
+-- `bares::location_at` meets its contract. Assumes nothing.
 use borrow.Author.Needs.{needs}
-use Rattle.chars.specs.Sequence.{sequence}
 use Rattle.bares.proofs.Bares.{locations}
 use Rattle.bares.proofs.location_at.Statement.{statement}
 use Rattle.bares.proofs.location_at.Tie as tie
-use Rattle.bares.proofs.location_at.Reads as reads
-use Rattle.bares.proofs.location_at.Lts as lts
-use Rattle.bares.proofs.bare_at.Reads as bare-at-reads
 
 bare-at-requires : tie.Need-bare-at-requires
 bare-at-requires c κs = search (locations, needs)

@@ -1,18 +1,9 @@
-use Prim.Native.Nat.{ℕ, suc, _+_, _-_, _*_, _/_, _%_, _≤_, _<_}
-use mathlib.Core.Path.{_≡_, refl, sym, ap, _∙_}
-use lib.ListN.{length, getD, take, drop, set}
-use native.Mathlib.Omega.{arith}
-use denote.Ref.{now}
+-- `bares::put_bare` meets its contract. Assumes nothing.
 use borrow.Author.Needs.{needs}
 use Rattle.chars.specs.Sequence.{sequence}
 use Rattle.bares.proofs.Bares.{firsts, puts}
 use Rattle.bares.proofs.put_bare.Statement.{statement}
 use Rattle.bares.proofs.put_bare.Tie as tie
-use Rattle.bares.proofs.put_bare.Reads as reads
-use Rattle.bares.proofs.put_bare.Lts as lts
-use Rattle.bares.proofs.put_further.Reads as put-further-reads
-use Rattle.chars.proofs.line_at.Reads as line-at-reads
-use Rattle.pen.proofs.put_part.Reads as put-part-reads
 
 line-at-requires : tie.Need-line-at-requires
 line-at-requires c κs = search needs

@@ -1,17 +1,11 @@
-use Prim.Native.Nat.{ℕ, suc, _+_, _-_, _*_, _/_, _%_, _≤_, _<_}
-use mathlib.Core.Path.{_≡_, refl, sym, ap, _∙_}
-use lib.ListN.{length, getD, take, drop, set}
-use native.Mathlib.Omega.{arith}
+-- `bares::put_further` meets its contract. Assumes nothing.
+use Prim.Native.Nat.{_-_}
+use lib.ListN.{length}
 use borrow.Author.Needs.{needs}
 use Rattle.bares.proofs.Lines.{places}
 use Rattle.bares.proofs.Bares.{puttings, Putting}
-use denote.Ref.{now}
 use Rattle.bares.proofs.put_further.Statement.{statement}
 use Rattle.bares.proofs.put_further.Tie as tie
-use Rattle.bares.proofs.put_further.Reads as reads
-use Rattle.bares.proofs.put_further.Lts as lts
-use Rattle.bares.proofs.further_at.Reads as further-at-reads
-use Rattle.pen.proofs.put_part.Reads as put-part-reads
 
 abbrev Inv-loop : tie.InvT-loop
 Inv-loop s at indent room₀ place i₀ p₀ room i p = Putting s at indent room₀ place i room p

@@ -1,0 +1,4 @@
+pub mod Steps
+pub mod Plains
+pub mod Pieces
+pub mod Values

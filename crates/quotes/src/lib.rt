@@ -1,0 +1,301 @@
+// Quoted values of feature_table.rs: escapes are undone, lines are joined by LF, or by nothing in `translation`, and the joined text is UTF-8.
+use chars::Step;
+use pieces::Value;
+use utf8::State;
+ghost use mathlib.Core.Path.{_≡_};
+ghost use Prim.Native.Nat.{_≤_, _<_};
+ghost use mathlib.Core.List.{_∷_, []};
+ghost use lib.ListN.{length, drop};
+ghost use Rattle.format.specs.Readers.{tag, utf8Of};
+ghost use Rattle.format.specs.Features.{special, escape, quotedTurn, quoted};
+ghost use Rattle.pieces.specs.Taken.{taken, gathered};
+ghost use Rattle.pieces.specs.Views.{Valued};
+ghost use Rattle.pen.specs.Pen.{Writes};
+ghost use Rattle.utf8.specs.States.{Ran};
+ghost use Rattle.quotes.specs.Escapes.{feed, splitQuote, laterEscape, QuoteStep, StepOne, Escaped, Plain, Closed, Turned, feedText, Pieced, quotedText};
+
+// What an escape stands for, a quote or a LF, and the place after it.
+pub enum Escape {
+    Quote(usize),
+    Feed(usize),
+    No,
+    Cut,
+}
+
+// An escape, or the place after the value's end.
+pub enum Turn {
+    Quote(usize),
+    Feed(usize),
+    Stop(usize),
+    No,
+    Cut,
+}
+
+// The text's bytes up to `to`, then a LF where `feed` says so, and where the value goes on; or the last of its bytes, and how it ends.
+pub enum Piece {
+    On { to: usize, feed: bool, next: usize },
+    Stop { to: usize, next: usize },
+    No(usize),
+    Cut(usize),
+}
+
+// ---- escapes
+
+fn quote_at(s: &[u8], at: usize) -> Step
+    requires { ⌜ at ≤ length (now s) ⌝ }
+    ensures { λ r. ⌜ QuoteStep (now (s .entry)) at (tag (34 ∷ []) (drop at (now (s .entry)))) r ⌝ }
+{
+    if s.len() <= at {
+        return Step::Cut;
+    }
+    if s[at] != 34 {
+        return Step::No;
+    }
+    Step::Got(at + 1)
+}
+
+fn double_at(s: &[u8], at: usize) -> Step
+    requires { ⌜ at ≤ length (now s) ⌝ }
+    ensures { λ r. ⌜ QuoteStep (now (s .entry)) at (tag (34 ∷ 34 ∷ []) (drop at (now (s .entry)))) r ⌝ }
+{
+    match quote_at(s, at) {
+        Step::Got(i) => quote_at(s, i),
+        Step::No => Step::No,
+        Step::Cut => Step::Cut,
+    }
+}
+
+// A line's end and the indent.
+fn feed_at(s: &[u8], at: usize, indent: usize) -> Step
+    requires { ⌜ at ≤ length (now s) ⌝ }
+    ensures { λ r. ⌜ StepOne (now (s .entry)) at (feed indent (drop at (now (s .entry)))) r ⌝ }
+{
+    match chars::line_end(s, at) {
+        Step::Got(i) => chars::indent(s, i, indent),
+        Step::No => Step::No,
+        Step::Cut => Step::Cut,
+    }
+}
+
+// Two quotes with a line's end and the indent between them.
+fn split_at(s: &[u8], at: usize, indent: usize) -> Step
+    requires { ⌜ at ≤ length (now s) ⌝ }
+    ensures { λ r. ⌜ QuoteStep (now (s .entry)) at (splitQuote indent (drop at (now (s .entry)))) r ⌝ }
+{
+    match quote_at(s, at) {
+        Step::Got(i) => match feed_at(s, i, indent) {
+            Step::Got(j) => quote_at(s, j),
+            Step::No => Step::No,
+            Step::Cut => Step::Cut,
+        },
+        Step::No => Step::No,
+        Step::Cut => Step::Cut,
+    }
+}
+
+fn later_escape(s: &[u8], at: usize, indent: usize) -> Escape
+    requires { ⌜ at ≤ length (now s) ⌝ }
+    ensures { λ r. ⌜ Escaped (now (s .entry)) at (laterEscape indent (drop at (now (s .entry)))) r ⌝ }
+{
+    match split_at(s, at, indent) {
+        Step::Got(n) => Escape::Quote(n),
+        Step::No => match feed_at(s, at, indent) {
+            Step::Got(n) => Escape::Feed(n),
+            Step::No => Escape::No,
+            Step::Cut => Escape::Cut,
+        },
+        Step::Cut => Escape::Cut,
+    }
+}
+
+pub fn escape_at(s: &[u8], at: usize, indent: usize) -> Escape
+    requires { ⌜ at ≤ length (now s) ⌝ }
+    ensures { λ r. ⌜ Escaped (now (s .entry)) at (escape indent (drop at (now (s .entry)))) r ⌝ }
+{
+    match double_at(s, at) {
+        Step::Got(n) => Escape::Quote(n),
+        Step::No => later_escape(s, at, indent),
+        Step::Cut => Escape::Cut,
+    }
+}
+
+// ---- runs of ordinary bytes, and what ends them
+
+fn is_special(b: u8) -> bool
+    ensures { λ r. ⌜ r ≡ special b ⌝ }
+{
+    b == 34 || (b == 13 || b == 10)
+}
+
+fn plain_end(s: &[u8], at: usize) -> usize
+    requires { ⌜ at ≤ length (now s) ⌝ }
+    ensures { λ r. ⌜ Plain (now (s .entry)) at r ⌝ }
+{
+    let mut i = at;
+    while i < s.len() {
+        if is_special(s[i]) {
+            return i;
+        }
+        i += 1;
+    }
+    i
+}
+
+fn closing_at(s: &[u8], at: usize) -> Turn
+    requires { ⌜ at ≤ length (now s) ⌝ }
+    ensures { λ r. ⌜ Closed (now (s .entry)) at r ⌝ }
+{
+    match quote_at(s, at) {
+        Step::Got(i) => match chars::line_end(s, i) {
+            Step::Got(n) => Turn::Stop(n),
+            Step::No => Turn::No,
+            Step::Cut => Turn::Cut,
+        },
+        Step::No => Turn::No,
+        Step::Cut => Turn::Cut,
+    }
+}
+
+fn turn_at(s: &[u8], at: usize, indent: usize) -> Turn
+    requires { ⌜ at ≤ length (now s) ⌝ }
+    ensures { λ r. ⌜ Turned (now (s .entry)) at indent r ⌝ }
+{
+    match escape_at(s, at, indent) {
+        Escape::Quote(n) => Turn::Quote(n),
+        Escape::Feed(n) => Turn::Feed(n),
+        Escape::No => closing_at(s, at),
+        Escape::Cut => Turn::Cut,
+    }
+}
+
+// A run of ordinary bytes and what ends it; a quote that is meant follows the run in the slice too.
+fn piece_at(s: &[u8], at: usize, indent: usize, joined: bool) -> Piece
+    requires { ⌜ at ≤ length (now s) ⌝ }
+    ensures { λ r. ⌜ Pieced (now (s .entry)) at joined indent r ⌝ }
+{
+    let e = plain_end(s, at);
+    match turn_at(s, e, indent) {
+        Turn::Quote(n) => Piece::On {
+            to: e + 1,
+            feed: false,
+            next: n,
+        },
+        Turn::Feed(n) => Piece::On {
+            to: e,
+            feed: !joined,
+            next: n,
+        },
+        Turn::Stop(n) => Piece::Stop { to: e, next: n },
+        Turn::No => Piece::No(e),
+        Turn::Cut => Piece::Cut(e),
+    }
+}
+
+// ---- the whole value
+
+fn feed_length(feed: bool) -> usize
+    ensures { λ r. ⌜ r ≡ length (feedText feed) ⌝ }
+{
+    if feed { 1 } else { 0 }
+}
+
+fn fed(feed: bool, state: State) -> State
+    ensures { λ r. ⌜ Ran state (feedText feed) r ⌝ }
+{
+    if feed {
+        return utf8::utf8_feed(state);
+    }
+    state
+}
+
+fn quoted_on(s: &[u8], at: usize, indent: usize, joined: bool) -> Value
+    requires { ⌜ at ≤ length (now s) ⌝ }
+    ensures { λ r. ⌜ Valued (now (s .entry)) at (taken (quotedTurn joined indent) (drop at (now (s .entry)))) (utf8Of (gathered (quotedTurn joined indent) (drop at (now (s .entry))))) r ⌝ }
+{
+    let mut i = at;
+    let mut length = 0;
+    let mut state = utf8::started();
+    loop {
+        match piece_at(s, i, indent, joined) {
+            Piece::On { to, feed, next } => {
+                length += to - i + feed_length(feed);
+                state = fed(feed, utf8::utf8_on(state, s, i, to));
+                i = next;
+            }
+            Piece::Stop { to, next } => {
+                let last = utf8::utf8_on(state, s, i, to);
+                if utf8::utf8_ends(last) {
+                    return Value::Got {
+                        length: length + (to - i),
+                        next,
+                    };
+                }
+                return Value::No;
+            }
+            Piece::No(_) => return Value::No,
+            Piece::Cut(_) => return Value::Cut,
+        }
+    }
+}
+
+// The quoted value at `at`; `joined` as in `translation`.
+pub fn quoted_at(s: &[u8], at: usize, indent: usize, joined: bool) -> Value
+    requires { ⌜ at ≤ length (now s) ⌝ }
+    ensures { λ r. ⌜ Valued (now (s .entry)) at (quotedText joined indent (drop at (now (s .entry)))) (utf8Of (quoted joined indent (drop at (now (s .entry))))) r ⌝ }
+{
+    match quote_at(s, at) {
+        Step::Got(i) => quoted_on(s, i, indent, joined),
+        Step::No => Value::No,
+        Step::Cut => Value::Cut,
+    }
+}
+
+// ---- into a room
+
+fn put_feed(feed: bool, room: &mut [u8], place: usize) -> usize
+    ensures { λ r. ⌜ Writes (now (room .entry)) place (feedText feed) (now (room .exit)) r ⌝ }
+{
+    if feed {
+        return pen::put_byte(room, place, 10);
+    }
+    place
+}
+
+fn put_on(s: &[u8], at: usize, indent: usize, joined: bool, room: &mut [u8], place: usize) -> usize
+    requires { ⌜ at ≤ length (now s) ⌝ }
+    ensures { λ r. ⌜ Writes (now (room .entry)) place (taken (quotedTurn joined indent) (drop at (now (s .entry)))) (now (room .exit)) r ⌝ }
+{
+    let mut i = at;
+    let mut p = place;
+    loop {
+        match piece_at(s, i, indent, joined) {
+            Piece::On { to, feed, next } => {
+                let q = pen::put_part(room, p, s, i, to);
+                p = put_feed(feed, room, q);
+                i = next;
+            }
+            Piece::Stop { to, next: _ } => return pen::put_part(room, p, s, i, to),
+            Piece::No(to) => return pen::put_part(room, p, s, i, to),
+            Piece::Cut(to) => return pen::put_part(room, p, s, i, to),
+        }
+    }
+}
+
+// The text that `quoted_at` scans.
+pub fn put_quoted(
+    s: &[u8],
+    at: usize,
+    indent: usize,
+    joined: bool,
+    room: &mut [u8],
+    place: usize,
+) -> usize
+    requires { ⌜ at ≤ length (now s) ⌝ }
+    ensures { λ r. ⌜ Writes (now (room .entry)) place (quotedText joined indent (drop at (now (s .entry)))) (now (room .exit)) r ⌝ }
+{
+    match quote_at(s, at) {
+        Step::Got(i) => put_on(s, i, indent, joined, room, place),
+        Step::No => place,
+        Step::Cut => place,
+    }
+}

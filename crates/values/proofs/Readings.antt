@@ -1,0 +1,50 @@
+-- The quoted reading and the bare one as one reading. Assumes nothing.
+use Prim.Native.Nat.{ℕ}
+use mathlib.Core.Path.{_≡_}
+use mathlib.Core.Bool.{Bool, true, false}
+use mathlib.Core.List.{List}
+use lib.ListN.{drop}
+use Rattle.format.specs.Readers.{utf8Of}
+use Rattle.format.specs.Features.{quoted, bare}
+use Rattle.pieces.specs.Views.{Valued, value-places, value-is}
+use Rattle.pieces.specs.declared.Value.{Value}
+use Rattle.pieces.specs.declared.Value.the-variants as value
+use Rattle.pen.specs.Pen.{Writes}
+use Rattle.bares.specs.Bared.{bareText}
+use Rattle.quotes.specs.Escapes.{quotedText}
+use Rattle.values.specs.declared.Read.the-variants as read
+use Rattle.values.specs.Reads.{valueWith, readText, ReadIs}
+
+module _ (s : List ℕ) (at : ℕ) (joined : Bool) (indent : ℕ) (r : Value)
+    (h : Valued s at (quotedText joined indent (drop at s)) (utf8Of (quoted joined indent (drop at s))) r) where
+  pub read-quoted : (n next : ℕ) → r ≡ value.Got n next → ReadIs s at joined indent (valueWith joined indent (drop at s)) (read.Got true n next)
+  unfolding valueWith
+  read-quoted n next e = record { is = rw (value-is h e); place = value-places h e }
+
+  pub read-cut : r ≡ value.Cut → ReadIs s at joined indent (valueWith joined indent (drop at s)) read.Cut
+  unfolding valueWith
+  read-cut e = record { is = rw (← h .is, e); place = tt }
+
+  module _ (e : r ≡ value.No) (q : Value) (g : Valued s at (bareText indent (drop at s)) (utf8Of (bare indent (drop at s))) q) where
+    pub read-bare : (n next : ℕ) → q ≡ value.Got n next → ReadIs s at joined indent (valueWith joined indent (drop at s)) (read.Got false n next)
+    unfolding valueWith
+    read-bare n next f = record { is = rw (← h .is, e, value-is g f); place = value-places g f }
+
+    pub read-none : q ≡ value.No → ReadIs s at joined indent (valueWith joined indent (drop at s)) read.No
+    unfolding valueWith
+    read-none f = record { is = rw (← h .is, e, ← g .is, f); place = tt }
+
+    pub read-unclear : q ≡ value.Cut → ReadIs s at joined indent (valueWith joined indent (drop at s)) read.Cut
+    unfolding valueWith
+    read-unclear f = record { is = rw (← h .is, e, ← g .is, f); place = tt }
+
+pub ruleset readings = (read-quoted, read-cut, read-bare, read-none, read-unclear)
+
+module _ (joined : Bool) (indent : ℕ) (z old : List ℕ) (place : ℕ) (new : List ℕ) (k : ℕ) (which : Bool) where
+  pub put-quoted : which ≡ true → Writes old place (quotedText joined indent z) new k → Writes old place (readText which joined indent z) new k
+  put-quoted e w = rw e w
+
+  pub put-bare : which ≡ false → Writes old place (bareText indent z) new k → Writes old place (readText which joined indent z) new k
+  put-bare e w = rw e w
+
+pub ruleset puts = (put-quoted, put-bare)

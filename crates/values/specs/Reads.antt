@@ -1,0 +1,40 @@
+-- The answers of the scan of a value as readers' answers, and its text, which goes by how it was read.
+use Prim.Native.Nat.{ℕ}
+use mathlib.Core.Path.{_≡_, refl}
+use mathlib.Core.Bool.{Bool, true, false}
+use mathlib.Core.List.{List}
+use lib.ListN.{drop}
+use Rattle.format.specs.Bytes.{bytes, same}
+use Rattle.format.specs.Readers.{Ans, Got, No, Cut, orElse, utf8Of}
+use Rattle.format.specs.Features.{quoted, bare, value}
+use Rattle.pieces.specs.Views.{Span}
+use Rattle.bares.specs.Bared.{bareText}
+use Rattle.quotes.specs.Escapes.{quotedText}
+use Rattle.values.specs.declared.Read.{Read}
+use Rattle.values.specs.declared.Read.the-variants as read
+
+-- `value`, by what the key says of it
+unfoldable pub valueWith : Bool → ℕ → List ℕ → Ans (List ℕ)
+valueWith joined indent s = orElse (utf8Of (quoted joined indent s)) (utf8Of (bare indent s))
+
+pub value-with : (indent : ℕ) (key s : List ℕ) → value indent key s ≡ valueWith (same key (bytes "translation")) indent s
+unfolding value valueWith
+value-with indent key s = refl
+
+abbrev pub readText : Bool → Bool → ℕ → List ℕ → List ℕ
+readText true joined indent s = quotedText joined indent s
+readText false joined indent s = bareText indent s
+
+abbrev pub readOf : List ℕ → ℕ → Bool → ℕ → Read → Ans (List ℕ)
+readOf s at joined indent (read.Got quoted n next) = Got (readText quoted joined indent (drop at s)) (drop next s)
+readOf s at joined indent read.No = No
+readOf s at joined indent read.Cut = Cut
+
+abbrev pub PastRead : List ℕ → ℕ → Bool → ℕ → Read → Type 0
+PastRead s at joined indent (read.Got quoted n next) = Span s at (readText quoted joined indent (drop at s)) n next
+PastRead s at joined indent read.No = Unit
+PastRead s at joined indent read.Cut = Unit
+
+pub record ReadIs (s : List ℕ) (at : ℕ) (joined : Bool) (indent : ℕ) (o : Ans (List ℕ)) (r : Read) : Type 0 where
+  pub is : readOf s at joined indent r ≡ o
+  pub place : PastRead s at joined indent r
