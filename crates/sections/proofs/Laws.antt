@@ -9,13 +9,12 @@ use lib.ListN.{length, getD, drop, length-drop}
 use lib.Seq.{drop-cons}
 use lib.Dec.{eqb}
 use Rattle.format.specs.Bytes.{bytes}
-use Rattle.format.specs.Readers.{Ans, Got, No, Cut, bind, tag, lineEnd, tryTurn, end, whileFits}
+use Rattle.format.specs.Readers.{Ans, Got, No, Cut, tag, lineEnd, tryTurn, end, whileFits}
 use Rattle.format.specs.Record.{leftBy, slashesLater}
 use Rattle.laws.specs.Loops.{try-end-more, try-end-no, try-end-cut}
 use Rattle.laws.specs.Shrinks.{lineEnd-small}
-use Rattle.chars.specs.Places.{part}
-use Rattle.chars.specs.Views.{PastOne, Stepped, Texted, Emptied, emptyOf}
-use Rattle.chars.specs.Sequence.{step-places, text-places, empty-places, step-within, text-within, step-no, step-cut, step-got, text-no, text-cut, text-got}
+use Rattle.chars.specs.Views.{Stepped, Emptied}
+use Rattle.chars.specs.Sequence.{step-places, empty-places, step-within}
 use Rattle.chars.specs.declared.Step.{Step}
 use Rattle.chars.specs.declared.Step.the-variants as step
 use Rattle.sections.specs.declared.RecordEnd.the-variants as ended
@@ -86,21 +85,6 @@ module _ (s : List ℕ) (at i : ℕ) (o : Step) (inv : emptyEnd (drop at s) ≡ 
   pub empty-cut : at ≤ i → i ≤ length s → o ≡ step.Cut → EmptyPassed s at i
   empty-cut f w e = record { is = left-is (drop at s) (drop i s) (inv ∙ try-end-cut lineEnd (drop i s) (rw (← h .is, e))); from = f; within = w }
 
--- ---- a line in parts: the answer of a part that follows is the answer of both
-
-further : (s : List ℕ) (at n : ℕ) (q : Step) → at ≤ n → PastOne s n q → PastOne s at q
-further s at n (step.Got k) h p = (omega arith, p .1)
-further s at n step.No h p = p
-further s at n step.Cut h p = p
-
-module _ (s : List ℕ) (at n : ℕ) (o : Ans Unit) (r q : Step) (f : Unit → List ℕ → Ans (List ℕ)) where
-  pub word-then : Stepped s at o r → r ≡ step.Got n → Emptied s n (f tt (drop n s)) q → Emptied s at (bind o f) q
-  word-then h e w = record { is = step-got s at o r f n (emptyOf s q) h e (w .is); place = further s at n q (step-places h e .0) (w .place) }
-
-module _ (s : List ℕ) (at n : ℕ) (o : Ans (List ℕ)) (r q : Step) (f : List ℕ → List ℕ → Ans (List ℕ)) where
-  pub gap-then : Texted s at o r → r ≡ step.Got n → Emptied s n (f (part at n s) (drop n s)) q → Emptied s at (bind o f) q
-  gap-then h e w = record { is = text-got s at o r f n (emptyOf s q) h e (w .is); place = further s at n q (text-places h e .0) (w .place) }
-
 -- ---- the record's end, by what stands there
 
 module _ (s : List ℕ) (at : ℕ) (r : Step) (h : Stepped s at (tag (bytes "//") (drop at s)) r) where
@@ -122,7 +106,5 @@ module _ (s : List ℕ) (at : ℕ) (r : Step) (h : Stepped s at (tag (bytes "//"
 pub ruleset emptying = (empty-on, empty-less, empty-from, empty-inside, empty-no, empty-cut)
 
 pub ruleset seeking = (later-found, later-on, later-none)
-
-pub ruleset parting = (word-then, gap-then, step-within, text-within, step-no, step-cut, text-no, text-cut)
 
 pub ruleset ending = (end-at, end-later, end-never, end-cut, step-within)

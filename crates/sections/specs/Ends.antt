@@ -1,21 +1,14 @@
--- The parts of the line of FEATURES, and the place after the empty lines that follow `//`.
+-- The place after the empty lines that follow `//`, and how a record ends.
 use Prim.Native.Nat.{ℕ, _≤_}
 use mathlib.Core.Path.{_≡_}
 use mathlib.Core.List.{List}
 use lib.ListN.{length, drop}
-use Rattle.format.specs.Bytes.{bytes, notBlank}
-use Rattle.format.specs.Readers.{Ans, bind, tag, until1, lineEnd, whileFits}
+use Rattle.format.specs.Readers.{lineEnd, whileFits}
 use Rattle.format.specs.Table.{Table}
 use Rattle.format.specs.Record.{Outcome, Read, Not, leftBy, slashesAt}
 use Rattle.format.specs.declared.Unread.the-variants as unread
 use Rattle.sections.specs.declared.RecordEnd.{RecordEnd}
 use Rattle.sections.specs.declared.RecordEnd.the-variants as ended
-
-abbrev pub headerEnd : List ℕ → Ans (List ℕ)
-headerEnd s = bind (tag (bytes "Location/Qualifiers") s) λ _ s. lineEnd s
-
-abbrev pub headerGap : List ℕ → Ans (List ℕ)
-headerGap s = bind (until1 notBlank s) λ _ s. headerEnd s
 
 pub record EmptyPassed (s : List ℕ) (at r : ℕ) : Type 0 where
   pub is : leftBy (drop at s) (whileFits lineEnd (drop at s)) ≡ drop r s

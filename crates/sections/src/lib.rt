@@ -1,56 +1,18 @@
-// Where a record's sections begin and end: the line of FEATURES, the empty lines after `//`, and whether `//` stands on a later line.
+// Where a record ends: `//` with the empty lines after it, or whether `//` stands on a later line.
 use chars::Step;
 ghost use mathlib.Core.Path.{_≡_};
 ghost use mathlib.Core.Bool.{_&&_};
 ghost use Prim.Native.Nat.{_+_, _≤_};
 ghost use lib.ListN.{length, getD, drop};
 ghost use lib.Dec.{eqb};
-ghost use Rattle.format.specs.Features.{featuresHeader};
 ghost use Rattle.format.specs.Record.{slashesLater};
-ghost use Rattle.chars.specs.Views.{Emptied};
-ghost use Rattle.sections.specs.Ends.{headerEnd, headerGap, EmptyPassed, Ended};
+ghost use Rattle.sections.specs.Ends.{EmptyPassed, Ended};
 
 // The place after a record, or why it does not end here.
 pub enum RecordEnd {
     At(usize),
     NoSlashes,
     Unended,
-}
-
-// The last word of the line of FEATURES, and its end.
-fn header_end(s: &[u8], at: usize) -> Step
-    requires { ⌜ at ≤ length (now s) ⌝ }
-    ensures { λ r. ⌜ Emptied (now (s .entry)) at (headerEnd (drop at (now (s .entry)))) r ⌝ }
-{
-    match chars::tag(s, at, b"Location/Qualifiers") {
-        Step::Got(next) => chars::line_end(s, next),
-        Step::No => Step::No,
-        Step::Cut => Step::Cut,
-    }
-}
-
-// The blanks before it.
-fn header_gap(s: &[u8], at: usize) -> Step
-    requires { ⌜ at ≤ length (now s) ⌝ }
-    ensures { λ r. ⌜ Emptied (now (s .entry)) at (headerGap (drop at (now (s .entry)))) r ⌝ }
-{
-    match chars::blanks1(s, at) {
-        Step::Got(next) => header_end(s, next),
-        Step::No => Step::No,
-        Step::Cut => Step::Cut,
-    }
-}
-
-// The line of FEATURES.
-pub fn features_header(s: &[u8], at: usize) -> Step
-    requires { ⌜ at ≤ length (now s) ⌝ }
-    ensures { λ r. ⌜ Emptied (now (s .entry)) at (featuresHeader (drop at (now (s .entry)))) r ⌝ }
-{
-    match chars::tag(s, at, b"FEATURES") {
-        Step::Got(next) => header_gap(s, next),
-        Step::No => Step::No,
-        Step::Cut => Step::Cut,
-    }
 }
 
 // The place after all empty lines that stand there.
