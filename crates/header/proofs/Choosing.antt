@@ -5,9 +5,10 @@ use mathlib.Core.Bool.{Bool, true, false}
 use mathlib.Core.List.{List}
 use native.Mathlib.Omega.{arith}
 use lib.ListN.{length, drop}
-use Rattle.format.specs.Bytes.{absent, is, bytes}
-use Rattle.format.specs.Readers.{Ans, Got, No, Cut, passing, orElse, optional, unless, tag, line, utf8Of}
-use Rattle.format.specs.Header.{ignoredLine}
+use Rattle.format.specs.Bytes.{May, absent, is, bytes}
+use Rattle.format.specs.Readers.{Ans, Got, No, Cut, passing, orElse, optional, unless, tag, line, utf8Of, bind}
+use Rattle.format.specs.Header.{field, maybeField, source, ignoredLine}
+use Rattle.format.specs.Table.{Source}
 use Rattle.chars.specs.declared.Step.{Step}
 use Rattle.chars.specs.declared.Step.the-variants as step
 use Rattle.chars.specs.declared.Line.{Line}
@@ -21,7 +22,10 @@ use Rattle.field.specs.declared.EntryAt.the-variants as entry
 use Rattle.field.specs.Entries.{Known, EntryAs, Enters}
 use Rattle.header.specs.declared.MayEntry.the-variants as may
 use Rattle.header.specs.declared.MayEntryAt.the-variants as may-at
-use Rattle.header.specs.Fields.{sectionWord, MayEnter}
+use Rattle.header.specs.declared.MayEntryAt.{MayEntryAt}
+use Rattle.header.specs.declared.MayEntry.{MayEntry}
+use Rattle.header.specs.declared.SourceAt.the-variants as source′
+use Rattle.header.specs.Fields.{sectionWord, Stands, MayKnown, MayEnterAs, MayEnter, Sources}
 
 module _ (s : List ℕ) (at : ℕ) (o p : Ans Unit) (r : Step) (h : Stepped s at o r) where
   pub else-got : (n : ℕ) → r ≡ step.Got n → Stepped s at (orElse o p) (step.Got n)
@@ -97,3 +101,56 @@ module _ (s : List ℕ) (at : ℕ) (keep : Bool) (o : Ans (List ℕ)) (r : Entry
       }
 
 pub ruleset maying = (may-cut, may-absent, may-is)
+
+-- ---- SOURCE
+
+entry-stands : (s : List ℕ) (at : ℕ) (keep : Bool) (o : Ans (List ℕ)) (e : Entry) (w : Known s at keep o e) → Stands s at keep (w .the) e
+entry-stands s at keep o e w = record { again = w .again; sized = w .sized; from = w .from; ahead = w .ahead; within = w .within; small = w .small }
+
+pub known-entry : {s : List ℕ} {at : ℕ} {keep : Bool} {o : Ans (List ℕ)} {r : EntryAt} {e : Entry} → Enters s at keep o r → r ≡ entry.Got e → Known s at keep o e
+known-entry {s} {at} {keep} {o} h q = subst (λ (x : EntryAt). EntryAs s at keep o x) q (h .is)
+
+abbrev organism-after : List ℕ → List ℕ → Ans Source
+organism-after text z = bind (maybeField 2 (bytes "ORGANISM") true z) λ organism z. Got (record { text = text; organism = organism }) z
+
+source-as : (xs : List ℕ) → source xs ≡ bind (field 0 (bytes "SOURCE") true xs) organism-after
+unfolding source
+source-as xs = refl
+
+module _ (s : List ℕ) (at : ℕ) (r : EntryAt) (h : Enters s at true (field 0 (bytes "SOURCE") true (drop at s)) r) where
+  pub source-no : r ≡ entry.No → Sources s at (source (drop at s)) source′.No
+  source-no e =
+      let w : field 0 (bytes "SOURCE") true (drop at s) ≡ No = subst (λ (x : EntryAt). EntryAs s at true (field 0 (bytes "SOURCE") true (drop at s)) x) e (h .is) in
+      record { is = source-as (drop at s) ∙ ap (λ (o : Ans (List ℕ)). bind o organism-after) w }
+
+  pub source-cut : r ≡ entry.Cut → Sources s at (source (drop at s)) source′.Cut
+  source-cut e =
+      let w : field 0 (bytes "SOURCE") true (drop at s) ≡ Cut = subst (λ (x : EntryAt). EntryAs s at true (field 0 (bytes "SOURCE") true (drop at s)) x) e (h .is) in
+      record { is = source-as (drop at s) ∙ ap (λ (o : Ans (List ℕ)). bind o organism-after) w }
+
+  module _ (e : Entry) (q : MayEntryAt) (k : r ≡ entry.Got e) (m : MayEnter s (e .next) true (maybeField 2 (bytes "ORGANISM") true (drop (e .next) s)) q) where
+    text-read : source (drop at s) ≡ organism-after (known-entry h k .the) (drop (e .next) s)
+    text-read = source-as (drop at s) ∙ ap (λ (o : Ans (List ℕ)). bind o organism-after) (known-entry h k .is)
+
+    pub organism-cut : q ≡ may-at.Cut → Sources s at (source (drop at s)) source′.Cut
+    organism-cut f =
+        let w : maybeField 2 (bytes "ORGANISM") true (drop (e .next) s) ≡ Cut =
+        subst (λ (x : MayEntryAt). MayEnterAs s (e .next) true (maybeField 2 (bytes "ORGANISM") true (drop (e .next) s)) x) f (m .is) in
+        record { is = text-read ∙ ap (λ (o : Ans (May (List ℕ))). bind o (λ organism z. Got (record { text = known-entry h k .the; organism = organism }) z)) w }
+
+    pub source-got : (organism : MayEntry) (next : ℕ) → q ≡ may-at.Got organism next → Sources s at (source (drop at s)) (source′.Got e organism next)
+    source-got organism next f =
+        let w : MayKnown s (e .next) true (maybeField 2 (bytes "ORGANISM") true (drop (e .next) s)) organism next =
+        subst (λ (x : MayEntryAt). MayEnterAs s (e .next) true (maybeField 2 (bytes "ORGANISM") true (drop (e .next) s)) x) f (m .is) in
+        record {
+          is = record {
+            the = record { text = known-entry h k .the; organism = w .the };
+            is = text-read ∙ ap (λ (o : Ans (May (List ℕ))). bind o (λ organism z. Got (record { text = known-entry h k .the; organism = organism }) z)) (w .is);
+            stands = entry-stands s at true _ e (known-entry h k);
+            may = w .stands;
+            from = w .from;
+            within = w .within;
+          };
+        }
+
+pub ruleset sourcing = (source-no, source-cut, organism-cut, source-got)

@@ -1,17 +1,20 @@
 -- Fields of the header as the code answers them.
 use Prim.Native.Nat.{ℕ, _+_, _≤_, _<_}
 use mathlib.Core.Path.{_≡_}
-use mathlib.Core.Bool.{Bool}
+use mathlib.Core.Bool.{Bool, true}
 use mathlib.Core.List.{List}
 use lib.ListN.{length, drop}
 use Rattle.format.specs.Bytes.{May, absent, is, bytes}
-use Rattle.format.specs.Readers.{Ans, Got, Cut, orElse, tag}
+use Rattle.format.specs.Readers.{Ans, Got, No, Cut, orElse, tag}
 use Rattle.format.specs.Header.{fieldText}
+use Rattle.format.specs.Table.{Source}
 use Rattle.field.specs.declared.Entry.{Entry}
 use Rattle.header.specs.declared.MayEntry.{MayEntry}
 use Rattle.header.specs.declared.MayEntry.the-variants as may
 use Rattle.header.specs.declared.MayEntryAt.{MayEntryAt}
 use Rattle.header.specs.declared.MayEntryAt.the-variants as may-at
+use Rattle.header.specs.declared.SourceAt.{SourceAt}
+use Rattle.header.specs.declared.SourceAt.the-variants as source
 
 -- a word at which no line is dropped, tried in the Rust's order
 unfoldable pub sectionWord : List ℕ → Ans Unit
@@ -45,3 +48,20 @@ MayEnterAs s at keep o may-at.Cut = o ≡ Cut
 
 pub record MayEnter (s : List ℕ) (at : ℕ) (keep : Bool) (o : Ans (May (List ℕ))) (r : MayEntryAt) : Type 0 where
   pub is : MayEnterAs s at keep o r
+
+-- SOURCE's text, and ORGANISM's after it
+pub record SourceKnown (s : List ℕ) (at : ℕ) (o : Ans Source) (text : Entry) (organism : MayEntry) (next : ℕ) : Type 0 where
+  pub the : Source
+  pub is : o ≡ Got the (drop next s)
+  pub stands : Stands s at true (the .text) text
+  pub may : MayStand s (text .next) true (the .organism) organism
+  pub from : text .next ≤ next
+  pub within : next ≤ length s
+
+abbrev pub SourceAs : List ℕ → ℕ → Ans Source → SourceAt → Type 0
+SourceAs s at o (source.Got text organism next) = SourceKnown s at o text organism next
+SourceAs s at o source.No = o ≡ No
+SourceAs s at o source.Cut = o ≡ Cut
+
+pub record Sources (s : List ℕ) (at : ℕ) (o : Ans Source) (r : SourceAt) : Type 0 where
+  pub is : SourceAs s at o r

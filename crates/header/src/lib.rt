@@ -8,9 +8,9 @@ ghost use Prim.Native.Nat.{_≤_, _<_};
 ghost use lib.ListN.{length, drop};
 ghost use Rattle.format.specs.Bytes.{bytes};
 ghost use Rattle.format.specs.Readers.{orElse, tag, line, utf8Of};
-ghost use Rattle.format.specs.Header.{maybeField, ignoredLine};
+ghost use Rattle.format.specs.Header.{maybeField, source, ignoredLine};
 ghost use Rattle.chars.specs.Views.{Stepped, Lined};
-ghost use Rattle.header.specs.Fields.{sectionWord, MayEnter};
+ghost use Rattle.header.specs.Fields.{sectionWord, MayEnter, Sources};
 
 // An entry that may be missing.
 pub enum MayEntry {
@@ -20,6 +20,17 @@ pub enum MayEntry {
 
 pub enum MayEntryAt {
     Got { entry: MayEntry, next: usize },
+    Cut,
+}
+
+// SOURCE, with ORGANISM where that follows.
+pub enum SourceAt {
+    Got {
+        text: Entry,
+        organism: MayEntry,
+        next: usize,
+    },
+    No,
     Cut,
 }
 
@@ -89,5 +100,26 @@ pub fn may_field_at(s: &[u8], at: usize, indent: usize, word: &[u8], keep: bool)
             entry: MayEntry::Is(entry),
             next: entry.next,
         },
+    }
+}
+
+pub fn source_at(s: &[u8], at: usize) -> SourceAt
+    requires { ⌜ at ≤ length (now s) ⌝ }
+    ensures { λ r. ⌜ Sources (now (s .entry)) at (source (drop at (now (s .entry)))) r ⌝ }
+{
+    match field::field_at(s, at, 0, b"SOURCE", true) {
+        EntryAt::No => SourceAt::No,
+        EntryAt::Cut => SourceAt::Cut,
+        EntryAt::Got(text) => {
+            let after = text.next;
+            match may_field_at(s, after, 2, b"ORGANISM", true) {
+                MayEntryAt::Cut => SourceAt::Cut,
+                MayEntryAt::Got { entry, next } => SourceAt::Got {
+                    text,
+                    organism: entry,
+                    next,
+                },
+            }
+        }
     }
 }
