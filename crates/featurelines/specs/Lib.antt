@@ -1,3 +1,2 @@
--- The tests on keys and the lines of a feature.
-pub mod Keys
+-- The lines of a feature.
 pub mod Lines

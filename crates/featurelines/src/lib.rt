@@ -2,91 +2,21 @@
 use commas::put_commas;
 use fieldlines::left_of;
 use fieldlines::put_padded;
+use keys::bare_key;
+use keys::comma_key;
 use pen::put_byte;
 use pen::put_bytes;
 use pen::put_spaces;
 use wrap::put_wrapped;
-ghost use mathlib.Core.Bool.{_||_};
 ghost use mathlib.Core.List.{[], _∷_, _++_};
 ghost use mathlib.Core.Path.{_≡_};
 ghost use Prim.Native.Nat.{_≤_};
 ghost use lib.ListN.{length};
-ghost use Rattle.format.specs.Bytes.{bytes, same, among};
+ghost use Rattle.format.specs.Bytes.{bytes};
 ghost use Rattle.format.specs.Wrap.{wrapLocation};
-ghost use Rattle.format.specs.Write.{commaKey, bareKey, keyText, valueLines};
+ghost use Rattle.format.specs.Write.{keyText, valueLines};
 ghost use Rattle.pen.specs.Pen.{Writes};
-ghost use Rattle.featurelines.specs.Keys.{firstBare, middleBare, lastBare};
 ghost use Rattle.featurelines.specs.Lines.{featureStart};
-
-fn same(a: &[u8], b: &[u8]) -> bool
-    ensures { λ r. ⌜ r ≡ same (now (a .entry)) (now (b .entry)) ⌝ }
-{
-    if a.len() != b.len() {
-        return false;
-    }
-    let mut i = 0;
-    while i < a.len() {
-        if a[i] != b[i] {
-            return false;
-        }
-        i += 1;
-    }
-    true
-}
-
-fn either(a: bool, b: bool) -> bool
-    ensures { λ r. ⌜ r ≡ (a || b) ⌝ }
-{
-    if a {
-        return true;
-    }
-    b
-}
-
-// `POS_QUAL`
-pub fn comma_key(k: &[u8]) -> bool
-    ensures { λ r. ⌜ r ≡ commaKey (now (k .entry)) ⌝ }
-{
-    either(same(k, b"anticodon"), same(k, b"transl_except"))
-}
-
-// The keys that are written bare, in three groups.
-fn first_bare(k: &[u8]) -> bool
-    ensures { λ r. ⌜ r ≡ among (now (k .entry)) firstBare ⌝ }
-{
-    let a = either(same(k, b"compare"), same(k, b"direction"));
-    either(
-        same(k, b"anticodon"),
-        either(same(k, b"citation"), either(same(k, b"codon_start"), a)),
-    )
-}
-
-fn middle_bare(k: &[u8]) -> bool
-    ensures { λ r. ⌜ r ≡ among (now (k .entry)) middleBare ⌝ }
-{
-    let a = either(same(k, b"number"), same(k, b"rpt_type"));
-    either(
-        same(k, b"estimated_length"),
-        either(same(k, b"mod_base"), a),
-    )
-}
-
-fn last_bare(k: &[u8]) -> bool
-    ensures { λ r. ⌜ r ≡ among (now (k .entry)) lastBare ⌝ }
-{
-    let a = either(same(k, b"transl_except"), same(k, b"transl_table"));
-    either(
-        same(k, b"rpt_unit_range"),
-        either(same(k, b"tag_peptide"), a),
-    )
-}
-
-// `FTQUAL_NO_QUOTE`
-pub fn bare_key(k: &[u8]) -> bool
-    ensures { λ r. ⌜ r ≡ bareKey (now (k .entry)) ⌝ }
-{
-    either(first_bare(k), either(middle_bare(k), last_bare(k)))
-}
 
 fn put_key(out: &mut [u8], at: usize, k: &[u8]) -> usize
     ensures { λ r. ⌜ Writes (now (out .entry)) at (keyText (now (k .entry))) (now (out .exit)) r ⌝ }
