@@ -1,15 +1,7 @@
-use Prim.Native.Nat.{ℕ, suc, _+_, _-_, _*_, _/_, _%_, _≤_, _<_}
-use mathlib.Core.Path.{_≡_, refl, sym, ap, _∙_}
-use lib.ListN.{length, getD, take, drop, set}
-use native.Mathlib.Omega.{arith}
+-- Eight turns at most.
 use borrow.Author.Needs.{needs}
-use denote.Ref.{now}
 use Rattle.readcases.proofs.case.Statement.{statement}
 use Rattle.readcases.proofs.case.Tie as tie
-use Rattle.readcases.proofs.case.Reads as reads
-use Rattle.readcases.proofs.case.Lts as lts
-use Rattle.io.proofs.write_all.Reads as write-all-reads
-use Rattle.readcases.proofs.read_one.Reads as read-one-reads
 
 abbrev Inv-loop : tie.InvT-loop
 Inv-loop name s at₀ left₀ at left = Unit
