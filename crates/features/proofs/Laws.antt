@@ -13,11 +13,11 @@ use Rattle.laws.specs.Loops.{try-members-more, try-members-no, try-members-cut,
 use Rattle.laws.specs.Shrinks.{feature-small}
 use Rattle.chars.specs.Places.{part}
 use Rattle.chars.specs.Parts.{length-part}
-use Rattle.pieces.specs.Views.{Span, Valued, value-places, value-is}
+use Rattle.pieces.specs.Views.{Valued}
 use Rattle.pieces.specs.declared.Value.{Value}
 use Rattle.pieces.specs.declared.Value.the-variants as value
 use Rattle.bares.specs.Bared.{bareText}
-use Rattle.heads.specs.Headed.{PastKind, KindRead}
+use Rattle.heads.specs.Headed.{KindRead}
 use Rattle.heads.specs.declared.Kind.{Kind}
 use Rattle.heads.specs.declared.Kind.the-variants as kind
 use Rattle.qualifiers.specs.Reads.{QualifiersKnown, QualifiersAs, QualifiersRead}
@@ -27,6 +27,7 @@ use Rattle.features.specs.declared.FeatureAt.{FeatureAt}
 use Rattle.features.specs.declared.FeatureAt.the-variants as one
 use Rattle.features.specs.declared.Features.{Features}
 use Rattle.features.specs.Reads.{Located, featureRest, FeatureKnown, FeatureAs, FeatureRead, featuresIn, FeaturesRead}
+use Rattle.features.specs.Steps.{kind-is, kind-bad, kind-short, kinded, located, location-is, location-bad, location-short}
 
 -- ---- the qualifiers
 
@@ -85,57 +86,34 @@ pub ruleset resting = (rest-got, rest-fits, rest-cut)
 
 -- ---- the location
 
-module _ (s : List ℕ) (at first end location : ℕ) (r : Value) (p : (at < first) × (first < end) × (end < location) × (location ≤ length s))
+module _ (s : List ℕ) (at first end location : ℕ) (r : Value)
     (h : Valued s location (bareText (location - at) (drop location s)) (passing locationText (bare (location - at) (drop location s))) r) where
-  pub located : (long rest : ℕ) → r ≡ value.Got long rest → Located s at first end location long rest
-  located long rest e =
-      let k : Span s location (bareText (location - at) (drop location s)) long rest = value-places h e in
-      record { before = p .0; kind = p .1; gap = p .2; sized = k .long; small = k .short; ahead = k .from; within = k .within }
-
   pub location-got : (long rest : ℕ) (x : FeatureAt) → r ≡ value.Got long rest → FeatureRead s at (featureRest s at first end location rest) x
       → FeatureRead s at (featureFrom (location - at) (part first end s) (drop location s)) x
-  unfolding featureFrom
-  location-got long rest x e g = rw (value-is h e) g
+  location-got long rest x e g = rw (location-is s at first end location r h long rest e) g
 
   pub location-no : r ≡ value.No → FeatureRead s at (featureFrom (location - at) (part first end s) (drop location s)) one.No
-  unfolding featureFrom
-  location-no e = record { is = rw (← h .is, e) }
+  location-no e = record { is = location-bad s at first end location r h e }
 
   pub location-cut : r ≡ value.Cut → FeatureRead s at (featureFrom (location - at) (part first end s) (drop location s)) one.Cut
-  unfolding featureFrom
-  location-cut e = record { is = rw (← h .is, e) }
+  location-cut e = record { is = location-short s at first end location r h e }
 
 pub ruleset locating = (located, location-got, location-no, location-cut)
 
 -- ---- the kind
 
 module _ (s : List ℕ) (at : ℕ) (r : Kind) (h : KindRead s at (feature (drop at s)) r) where
-  kind-places : (first end next : ℕ) → r ≡ kind.Got first end next → (at < first) × (first < end) × (end < next) × (next ≤ length s)
-  kind-places first end next e = subst (λ (x : Kind). PastKind s at x) e (h .place)
-
-  pub kind-before : (first end next : ℕ) → r ≡ kind.Got first end next → at < first
-  kind-before first end next e = kind-places first end next e .0
-
-  pub kind-some : (first end next : ℕ) → r ≡ kind.Got first end next → first < end
-  kind-some first end next e = kind-places first end next e .1
-
-  pub kind-gap : (first end next : ℕ) → r ≡ kind.Got first end next → end < next
-  kind-gap first end next e = kind-places first end next e .2
-
-  pub kind-within : (first end next : ℕ) → r ≡ kind.Got first end next → next ≤ length s
-  kind-within first end next e = kind-places first end next e .3
-
   pub kind-got : (first end next : ℕ) (x : FeatureAt) → r ≡ kind.Got first end next
       → FeatureRead s at (featureFrom (next - at) (part first end s) (drop next s)) x → FeatureRead s at (feature (drop at s)) x
-  kind-got first end next x e g = rw (← h .is, e) g
+  kind-got first end next x e g = rw (kind-is s at r h first end next e) g
 
   pub kind-no : r ≡ kind.No → FeatureRead s at (feature (drop at s)) one.No
-  kind-no e = record { is = rw (← h .is, e) }
+  kind-no e = record { is = kind-bad s at r h e }
 
   pub kind-cut : r ≡ kind.Cut → FeatureRead s at (feature (drop at s)) one.Cut
-  kind-cut e = record { is = rw (← h .is, e) }
+  kind-cut e = record { is = kind-short s at r h e }
 
-pub ruleset kinds = (kind-before, kind-some, kind-gap, kind-within, kind-got, kind-no, kind-cut)
+pub ruleset kinds = (kinded, kind-got, kind-no, kind-cut)
 
 -- ---- the loop
 

@@ -1,2 +1,3 @@
--- The definitions that the contracts cite.
+-- The definitions that the contracts cite, and the laws of a feature's parts.
 pub mod Reads
+pub mod Steps
