@@ -1,12 +1,12 @@
 -- One feature put into rooms, and the loop over features. Assumes nothing.
 use Prim.Native.Nat.{ℕ, _+_, _-_, _≤_, _<_, _^_}
 use mathlib.Core.Path.{_≡_, refl, sym, ap, subst, _∙_}
-use mathlib.Core.List.{List, [], _∷_, _++_, append-nil}
+use mathlib.Core.List.{List, [], _∷_, _++_}
 use native.Mathlib.Omega.{arith}
 use lib.ListN.{length, drop, length-append}
 use Rattle.format.specs.Bytes.{each}
-use Rattle.format.specs.Table.{Qualifier, Feature}
-use Rattle.format.specs.Readers.{Ans, Got, No, Cut, bind, passing, fitTurn, tryTurn, members, end}
+use Rattle.format.specs.Table.{Feature}
+use Rattle.format.specs.Readers.{Ans, Got, No, Cut, bind, passing, fitTurn, end}
 use Rattle.format.specs.Features.{qualifier, bare, locationText, featureFrom, feature}
 use Rattle.format.specs.Rooms.{piecesText, piecesRow, featurePieces, qualifierPieces, textsOf, rowsOf, featureText, featureRows, qualifierRows}
 use Rattle.laws.specs.Loops.{try-members-more, try-members-no, try-members-cut}
@@ -24,20 +24,13 @@ use Rattle.heads.specs.declared.Kind.{Kind}
 use Rattle.heads.specs.declared.Kind.the-variants as kind
 use Rattle.qualifiers.specs.Turns.{qualifiersIn}
 use Rattle.features.specs.Reads.{Located, featureRest, featuresIn}
+use Rattle.features.specs.Texts.{head-text, whole-text, whole-length}
 use Rattle.features.specs.Steps.{kind-is, kind-bad, kind-short, kinded, located, location-is, location-bad, location-short}
 use Rattle.featureputs.specs.declared.Run.{Run}
 use Rattle.featureputs.specs.declared.Pens.{Pens}
-use Rattle.featureputs.specs.Puts.{WroteTwo, PutTwo, QualifiersPut, WroteThree, PutThree, rowOf, underOf, FeatureThere, FeatureThen, FeaturePut, Fits, FeaturesPut}
+use Rattle.featureputs.specs.Puts.{WroteTwo, PutTwo, QualifiersPut, PutThree, rowOf, underOf, FeatureThen, FeaturePut, Fits, FeaturesPut}
 
 -- ---- one feature
-
-head-text : (f : Feature) → piecesText (featurePieces f) ≡ f .kind ++ f .location
-unfolding piecesText
-head-text f = ap (λ (l : List ℕ). f .kind ++ l) (append-nil (f .location))
-
-whole-text : (f : Feature) → featureText f ≡ f .kind ++ f .location ++ textsOf qualifierPieces (f .qualifiers)
-unfolding featureText
-whole-text f = ap (λ (l : List ℕ). l ++ textsOf qualifierPieces (f .qualifiers)) (head-text f)
 
 row-is : (at q : ℕ) (f : Feature) → rowOf at q f ≡ at ∷ length (f .kind) ∷ (at + length (f .kind)) ∷ length (f .location) ∷ q ∷ length (f .qualifiers) ∷ []
 unfolding piecesRow
@@ -49,20 +42,19 @@ module _ (f : Feature) (p : Pens) (t₀ m₁ m₂ t₁ f₀ f₁ q₀ q₁ : Lis
       → PutTwo (textsOf qualifierPieces (f .qualifiers)) (rowsOf qualifierPieces stop (f .qualifiers)) m₂ stop t₁ (run .text) q₀ (p .qualifier) q₁ (run .row)
       → Writes f₀ (p .feature) (p .text ∷ length (f .kind) ∷ start ∷ length (f .location) ∷ p .count ∷ length (f .qualifiers) ∷ []) f₁ row
       → PutThree (featureText f) (rowOf (p .text) (p .count) f) (underOf (p .text) f) t₀ t₁ f₀ f₁ q₀ q₁ p
-        (record { at = run .next; text = run .text; feature = row; qualifier = run .row; count = p .count + run .count })
+      (record { at = run .next; text = run .text; feature = row; qualifier = run .row; count = p .count + run .count })
   three w u v x =
       record {
         fit = λ a b c.
             let g = whole-text f in
-            let n : length (featureText f) ≡ length (f .kind) + length (f .location) + length (textsOf qualifierPieces (f .qualifiers)) =
-                ap length g ∙ omega (arith, length-append (f .kind ++ f .location) (textsOf qualifierPieces (f .qualifiers)), length-append (f .kind) (f .location)) in
+            let n = whole-length f in
             let y : Wrote t₀ (p .text) (f .kind) m₁ start = w .fit (omega arith) in
             let d = y .to in
             let z : Wrote m₁ start (f .location) m₂ stop = u .fit (omega arith) in
             let e = z .to in
             let h : p .text + length (piecesText (featurePieces f)) ≡ stop = omega (arith, ap length (head-text f), length-append (f .kind) (f .location)) in
             let k : WroteTwo (textsOf qualifierPieces (f .qualifiers)) (rowsOf qualifierPieces stop (f .qualifiers)) m₂ stop t₁ (run .text) q₀ (p .qualifier) q₁ (run .row) =
-                v .fit (omega arith) (subst (λ (m : ℕ). p .qualifier + length (rowsOf qualifierPieces m (f .qualifiers)) < 2 ^ 64) h c) in
+            v .fit (omega arith) (subst (λ (m : ℕ). p .qualifier + length (rowsOf qualifierPieces m (f .qualifiers)) < 2 ^ 64) h c) in
             record {
               texts = wrote-as (sym g) (wrote-append (wrote-append y z) (k .texts));
               features =
@@ -86,7 +78,7 @@ module _ (s : List ℕ) (p : Pens) (first end′ location long rest : ℕ) (few 
       → QualifiersPut s rest (location - p .at) m₂ stop t₁ q₀ (p .qualifier) q₁ run
       → Writes f₀ (p .feature) (p .text ∷ (end′ - first) ∷ start ∷ long ∷ p .count ∷ run .count ∷ []) f₁ row
       → FeaturePut s p (featureRest s (p .at) first end′ location rest) t₀ t₁ f₀ f₁ q₀ q₁
-        (record { at = run .next; text = run .text; feature = row; qualifier = run .row; count = p .count + run .count })
+      (record { at = run .next; text = run .text; feature = row; qualifier = run .row; count = p .count + run .count })
   put-located t₀ m₁ m₂ t₁ f₀ f₁ q₀ q₁ start stop row run w u k x =
       let a = h .before in let b = h .kind in let c = h .gap in let d = h .ahead in let f = k .few in
       record { there = go (end (fitTurn (qualifier (location - p .at))) (drop rest s)) refl; few = omega arith; within = k .within }
@@ -107,9 +99,9 @@ module _ (s : List ℕ) (p : Pens) (first end′ location long rest : ℕ) (few 
 
       go : (o : Ans Unit) → end (fitTurn (qualifier (location - p .at))) (drop rest s) ≡ o
           → FeatureThen s p
-            (bind (bind o λ _ r. Got (qualifiersIn s (location - p .at) rest) r) λ qualifiers z.
-            Got (record { kind = part first end′ s; location = bareText (location - p .at) (drop location s); qualifiers = qualifiers }) z)
-            t₀ t₁ f₀ f₁ q₀ q₁ after
+          (bind (bind o λ _ r. Got (qualifiersIn s (location - p .at) rest) r) λ qualifiers z.
+          Got (record { kind = part first end′ s; location = bareText (location - p .at) (drop location s); qualifiers = qualifiers }) z)
+          t₀ t₁ f₀ f₁ q₀ q₁ after
       go (Got tt z) e =
           record {
             put = three f p t₀ m₁ m₂ t₁ f₀ f₁ q₀ q₁ start stop row run w u (k .put) (rw (kind-long, ← h .sized, ← k .counted) x);
@@ -152,9 +144,6 @@ pub ruleset placing = (located, location-got, location-no, location-cut)
 pub ruleset naming = (kinded, kind-got, kind-no, kind-cut)
 
 -- ---- the loop over features
-
-each-more : (f : Feature) (fs : List Feature) → each featureText (f ∷ fs) ≡ featureText f ++ each featureText fs
-each-more f fs = refl
 
 rows-more : (at q : ℕ) (f : Feature) (fs : List Feature)
     → featureRows at q (f ∷ fs) ≡ rowOf at q f ++ featureRows (at + length (featureText f)) (q + length (f .qualifiers)) fs
@@ -246,13 +235,12 @@ module _ (s : List ℕ) (at n place : ℕ) (t₀ f₀ q₀ : List ℕ) (h : Fits
         turn (Got x z) e v =
             let fs : List Feature = featuresIn (drop (r .at) s) in
             let m : featuresIn (drop (p .at) s) ≡ x ∷ fs =
-                try-members-more feature feature-small (drop (p .at) s) x z e ∙ ap (λ (l : List ℕ). x ∷ featuresIn l) (v .ended) in
+            try-members-more feature feature-small (drop (p .at) s) x z e ∙ ap (λ (l : List ℕ). x ∷ featuresIn l) (v .ended) in
             let u : length (featuresIn (drop (p .at) s)) ≡ length (x ∷ fs) = ap length m in
-            let j = g .left in
-            (
+            let j = g .left in (
               omega arith,
               three-step (h .texts) (h .features) (h .qualifiers) x fs
-              (subst (λ (l : List Feature). ThreeFilling place (featuresIn (drop at s)) t₀ f₀ q₀ t f q p l) m (g .three)) (v .put) (v .counted)
+                  (subst (λ (l : List Feature). ThreeFilling place (featuresIn (drop at s)) t₀ f₀ q₀ t f q p l) m (g .three)) (v .put) (v .counted),
             )
         turn No e v = absurd (none (try-members-no feature (drop (p .at) s) e))
         turn Cut e v = absurd (none (try-members-cut feature (drop (p .at) s) e))
@@ -262,7 +250,7 @@ module _ (s : List ℕ) (at n place : ℕ) (t₀ f₀ q₀ : List ℕ) (h : Fits
         let j = g .left in
         let m : featuresIn (drop (p .at) s) ≡ [] = no-more (featuresIn (drop (p .at) s)) (omega arith) in
         let d : ThreeFilling place (featuresIn (drop at s)) t₀ f₀ q₀ t f q p [] =
-            subst (λ (l : List Feature). ThreeFilling place (featuresIn (drop at s)) t₀ f₀ q₀ t f q p l) m (g .three) in
+        subst (λ (l : List Feature). ThreeFilling place (featuresIn (drop at s)) t₀ f₀ q₀ t f q p l) m (g .three) in
         record {
           texts = filling-end (d .texts);
           features = filling-end (filling-as (rows-none (p .text) (p .count)) (d .features)) .is;

@@ -2,39 +2,30 @@
 use Prim.Native.Nat.{ℕ, _+_, _-_, _≤_, _<_, _^_}
 use mathlib.Core.Path.{_≡_, refl, sym, ap, subst, _∙_}
 use mathlib.Core.Bool.{Bool}
-use mathlib.Core.List.{List, [], _∷_, _++_, append-nil}
+use mathlib.Core.List.{List, [], _∷_, _++_}
 use native.Mathlib.Numerals.{add-one}
 use native.Mathlib.Omega.{arith}
 use lib.ListN.{length, drop, length-append}
-use Rattle.format.specs.Bytes.{May, absent, is, each}
-use Rattle.format.specs.Table.{Qualifier, Feature}
-use Rattle.format.specs.Readers.{Ans, Got, No, Cut, fitTurn, end}
+use Rattle.format.specs.Bytes.{absent, is}
+use Rattle.format.specs.Table.{Qualifier}
+use Rattle.format.specs.Readers.{Got, fitTurn, end}
 use Rattle.format.specs.Features.{qualifier}
 use Rattle.format.specs.Rooms.{piecesText, piecesRow, qualifierPieces, textsOf, rowsOf}
 use Rattle.chars.specs.Places.{part}
 use Rattle.chars.specs.Parts.{length-part}
-use Rattle.pen.specs.Pen.{Wrote, Writes, wrote-append, writes-append}
-use Rattle.filling.specs.Filling.{Filling, filling-start, filling-as, filling-step, filling-end, filling-bound, wrote-as}
+use Rattle.pen.specs.Pen.{Wrote, Writes, wrote-append}
+use Rattle.filling.specs.Filling.{Filling, filling-start, filling-as, filling-step, filling-end, filling-bound}
 use Rattle.values.specs.Reads.{readText}
 use Rattle.qualifiers.specs.Reads.{qualifierIn, ValueStands, QualifierRead}
+use Rattle.qualifiers.specs.Texts.{absent-text, with-text, texts-more, texts-none}
 use Rattle.qualifiers.specs.Turns.{qualifiersIn, Reached, reached-none, known, one-more, reached-more, reached-less, count-fits, none-stop, none-cut, reached-stop, reached-cut, all-stop, all-cut}
 use Rattle.qualifiers.specs.declared.ValueAt.{ValueAt}
 use Rattle.qualifiers.specs.declared.ValueAt.the-variants as value
 use Rattle.qualifiers.specs.declared.QualifierAt.{QualifierAt}
 use Rattle.qualifiers.specs.declared.QualifierAt.the-variants as one
-use Rattle.featureputs.specs.declared.Places.{Places}
-use Rattle.featureputs.specs.declared.Run.{Run}
-use Rattle.featureputs.specs.Puts.{Standing, WroteTwo, PutTwo, QualifiersPut}
+use Rattle.featureputs.specs.Puts.{Standing, PutTwo, QualifiersPut}
 
 -- ---- one qualifier
-
-absent-text : (k : List ℕ) → piecesText (qualifierPieces (record { key = k; value = absent })) ≡ k
-unfolding piecesText
-absent-text k = append-nil k
-
-with-text : (k v : List ℕ) → piecesText (qualifierPieces (record { key = k; value = is v })) ≡ k ++ v
-unfolding piecesText
-with-text k v = ap (λ (l : List ℕ). k ++ l) (append-nil v)
 
 absent-row : (at : ℕ) (k : List ℕ) → piecesRow at (qualifierPieces (record { key = k; value = absent })) ≡ at ∷ length k ∷ 0 ∷ 0 ∷ []
 unfolding piecesRow
@@ -128,18 +119,10 @@ module _ {t₀ : List ℕ} {p₀ : ℕ} {text r₀ : List ℕ} {q₀ : ℕ} {num
 
 -- ---- the loop over qualifiers
 
-texts-more : (x : Qualifier) (qs : List Qualifier) → textsOf qualifierPieces (x ∷ qs) ≡ piecesText (qualifierPieces x) ++ textsOf qualifierPieces qs
-unfolding textsOf
-texts-more x qs = refl
-
 rows-more : (at : ℕ) (x : Qualifier) (qs : List Qualifier)
     → rowsOf qualifierPieces at (x ∷ qs) ≡ piecesRow at (qualifierPieces x) ++ rowsOf qualifierPieces (at + length (piecesText (qualifierPieces x))) qs
 unfolding rowsOf
 rows-more at x qs = refl
-
-texts-none : textsOf qualifierPieces [] ≡ []
-unfolding textsOf
-texts-none = refl
 
 rows-none : (at : ℕ) → rowsOf qualifierPieces at [] ≡ []
 unfolding rowsOf

@@ -1,14 +1,14 @@
 -- One feature by its kind, its location and its qualifiers, and the loop over features: each turn, and each way out. Assumes nothing.
 use Prim.Native.Nat.{ℕ, _+_, _-_, _≤_, _<_}
-use mathlib.Core.Path.{_≡_, refl, sym, ap, subst, _∙_}
-use mathlib.Core.List.{List, [], _∷_, _++_}
+use mathlib.Core.Path.{_≡_, refl, ap, subst, _∙_}
+use mathlib.Core.List.{List, [], _∷_}
 use native.Mathlib.Omega.{arith}
 use lib.ListN.{length, drop, length-append}
 use Rattle.format.specs.Bytes.{each}
-use Rattle.format.specs.Table.{Qualifier, Feature}
-use Rattle.format.specs.Readers.{Ans, Got, No, Cut, bind, passing, fitTurn, tryTurn, members, end, many0, whileFits}
+use Rattle.format.specs.Table.{Feature}
+use Rattle.format.specs.Readers.{Got, No, Cut, passing, fitTurn, tryTurn, members, end, many0, whileFits}
 use Rattle.format.specs.Features.{qualifier, bare, locationText, featureFrom, feature}
-use Rattle.format.specs.Rooms.{piecesText, featurePieces, qualifierPieces, textsOf, featureText, qualifierCount}
+use Rattle.format.specs.Rooms.{featureText, qualifierCount}
 use Rattle.laws.specs.Loops.{try-members-more, try-members-no, try-members-cut, try-end-more, try-end-no, try-end-cut}
 use Rattle.laws.specs.Shrinks.{feature-small}
 use Rattle.chars.specs.Places.{part}
@@ -25,17 +25,11 @@ use Rattle.qualifiers.specs.declared.QualifiersAt.{QualifiersAt}
 use Rattle.qualifiers.specs.declared.QualifiersAt.the-variants as all
 use Rattle.features.specs.declared.FeatureAt.{FeatureAt}
 use Rattle.features.specs.declared.FeatureAt.the-variants as one
-use Rattle.features.specs.declared.Features.{Features}
 use Rattle.features.specs.Reads.{Located, featureRest, FeatureKnown, FeatureAs, FeatureRead, featuresIn, FeaturesRead}
+use Rattle.features.specs.Texts.{whole-length}
 use Rattle.features.specs.Steps.{kind-is, kind-bad, kind-short, kinded, located, location-is, location-bad, location-short}
 
 -- ---- the qualifiers
-
-text-length : (f : Feature) → length (featureText f) ≡ length (f .kind) + length (f .location) + length (textsOf qualifierPieces (f .qualifiers))
-unfolding featureText piecesText
-text-length f =
-    omega
-    (arith, length-append (piecesText (featurePieces f)) (textsOf qualifierPieces (f .qualifiers)), length-append (f .kind) (f .location ++ []), length-append (f .location) [])
 
 module _ (s : List ℕ) (at first end location long rest : ℕ) (r : QualifiersAt) (p : Located s at first end location long rest)
     (h : QualifiersRead s rest (members (fitTurn (qualifier (location - at))) (drop rest s)) (many0 (qualifier (location - at)) (drop rest s)) r) where
@@ -56,7 +50,7 @@ module _ (s : List ℕ) (at first end location long rest : ℕ) (r : QualifiersA
       } in
       let a = p .before in let b = p .kind in let c = p .gap in let d = p .sized in let f = p .small in let g = p .ahead in let w = p .within in
       let m = k .counted in let n = k .sized in let u = k .small in let v = k .few in
-      let t = text-length the in
+      let t = whole-length the in
       let z : length (part first end s) ≡ end - first = length-part s first end (omega arith) (omega arith) in
       record {
         is =

@@ -1,9 +1,9 @@
 -- A feature by what was read of it first: its kind, then its location.
 use Prim.Native.Nat.{ℕ, _-_, _≤_, _<_}
-use mathlib.Core.Path.{_≡_, refl, sym, subst, _∙_}
+use mathlib.Core.Path.{_≡_, subst}
 use mathlib.Core.List.{List}
 use lib.ListN.{length, drop}
-use Rattle.format.specs.Readers.{Ans, Got, No, Cut, passing}
+use Rattle.format.specs.Readers.{No, Cut, passing}
 use Rattle.format.specs.Features.{bare, locationText, featureFrom, feature}
 use Rattle.chars.specs.Places.{part}
 use Rattle.pieces.specs.Views.{Span, Valued, value-places, value-is}

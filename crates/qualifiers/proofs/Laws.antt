@@ -1,13 +1,13 @@
 -- One qualifier by what follows its key, and the loop over qualifiers: each turn, and each way out. Assumes nothing.
 use Prim.Native.Nat.{ℕ, _+_, _-_, _≤_, _<_}
-use mathlib.Core.Path.{_≡_, refl, sym, ap, subst, _∙_}
+use mathlib.Core.Path.{_≡_, sym, ap, subst, _∙_}
 use mathlib.Core.Bool.{Bool}
-use mathlib.Core.List.{List, [], _∷_, _++_}
+use mathlib.Core.List.{List, [], _∷_}
 use native.Mathlib.Omega.{arith}
 use lib.ListN.{length, drop, length-append}
-use Rattle.format.specs.Bytes.{May, absent, is, bytes, same}
+use Rattle.format.specs.Bytes.{absent, is, bytes, same}
 use Rattle.format.specs.Table.{Qualifier}
-use Rattle.format.specs.Readers.{Ans, Got, No, Cut, fitTurn, members, end, many0}
+use Rattle.format.specs.Readers.{Got, Cut, fitTurn, members, end, many0}
 use Rattle.format.specs.Features.{valueOf, qualifier}
 use Rattle.format.specs.Rooms.{piecesText, qualifierPieces, textsOf}
 use Rattle.chars.specs.Places.{part}
@@ -24,9 +24,9 @@ use Rattle.qualifiers.specs.declared.ValueAt.{ValueAt}
 use Rattle.qualifiers.specs.declared.ValueAt.the-variants as value
 use Rattle.qualifiers.specs.declared.QualifierAt.{QualifierAt}
 use Rattle.qualifiers.specs.declared.QualifierAt.the-variants as one
-use Rattle.qualifiers.specs.declared.QualifiersAt.{QualifiersAt}
 use Rattle.qualifiers.specs.declared.QualifiersAt.the-variants as all
 use Rattle.qualifiers.specs.Reads.{qualifierIn, QualifierRead, QualifiersRead}
+use Rattle.qualifiers.specs.Texts.{absent-text, with-text, texts-more, texts-none}
 use Rattle.qualifiers.specs.Turns.{
   qualifiersIn,
   Reached,
@@ -44,13 +44,14 @@ use Rattle.qualifiers.specs.Turns.{
 
 -- ---- the texts of a qualifier
 
-bare-length : (k : List ℕ) → length (piecesText (qualifierPieces (record { key = k; value = absent }))) ≡ length k
-unfolding piecesText
-bare-length k = omega (arith, length-append k [])
+absent-length : (k : List ℕ) → length (piecesText (qualifierPieces (record { key = k; value = absent }))) ≡ length k
+absent-length k = ap length (absent-text k)
 
 with-length : (k v : List ℕ) → length (piecesText (qualifierPieces (record { key = k; value = is v }))) ≡ length k + length v
-unfolding piecesText
-with-length k v = omega (arith, length-append k (v ++ []), length-append v [])
+with-length k v = ap length (with-text k v) ∙ length-append k v
+
+more-length : (q : Qualifier) (qs : List Qualifier) → length (textsOf qualifierPieces (q ∷ qs)) ≡ length (piecesText (qualifierPieces q)) + length (textsOf qualifierPieces qs)
+more-length q qs = ap length (texts-more q qs) ∙ length-append (piecesText (qualifierPieces q)) (textsOf qualifierPieces qs)
 
 -- ---- what follows the key
 
@@ -73,7 +74,7 @@ module _ (s : List ℕ) (at indent first end : ℕ) (joined : Bool) (r : Tail)
             record {
               is = rw (tail-is (tail.Absent next) e);
               stands = tt;
-              sized = sym (bare-length (part first end s) ∙ length-part s first end f (p .2));
+              sized = sym (absent-length (part first end s) ∙ length-part s first end f (p .2));
               key = p .1;
               keyed = p .2;
               small = omega arith;
@@ -157,14 +158,6 @@ pub record Counted (s : List ℕ) (at indent i count bytes : ℕ) : Type 0 where
   pub small : bytes + at ≤ i
   pub sizes : length (texts-at s indent at) ≡ bytes + length (texts-at s indent i)
 
-texts-more : (q : Qualifier) (qs : List Qualifier) → length (textsOf qualifierPieces (q ∷ qs)) ≡ length (piecesText (qualifierPieces q)) + length (textsOf qualifierPieces qs)
-unfolding textsOf
-texts-more q qs = length-append (piecesText (qualifierPieces q)) (textsOf qualifierPieces qs)
-
-texts-none : length (textsOf qualifierPieces []) ≡ 0
-unfolding textsOf
-texts-none = refl
-
 many0-is : (indent : ℕ) (x z : List ℕ) → end (fitTurn (qualifier indent)) x ≡ Got tt z → many0 (qualifier indent) x ≡ Got (members (fitTurn (qualifier indent)) x) z
 many0-is indent x z e = rw e
 
@@ -187,7 +180,7 @@ module _ (s : List ℕ) (at indent : ℕ) where
           record {
             reached = reached-more s at indent i count r h first stop joined v more next e (g .reached);
             small = omega arith;
-            sizes = omega (arith, texts-more the (qualifiersIn s indent next));
+            sizes = omega (arith, more-length the (qualifiersIn s indent next));
           }
 
       pub bytes-fit : bytes + more ≤ length s
@@ -203,7 +196,7 @@ module _ (s : List ℕ) (at indent : ℕ) where
               record {
                 is = many0-is indent (drop at s) (drop i s) (reached-stop s at indent i count r h (g .reached) e);
                 counted = all-stop s at indent i count r h (g .reached) e;
-                sized = omega (arith, texts-none);
+                sized = omega (arith, ap length texts-none);
                 from = omega arith;
                 within = g .reached .within;
                 small = g .small;

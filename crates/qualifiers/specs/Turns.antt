@@ -6,7 +6,7 @@ use mathlib.Core.List.{List, [], _∷_}
 use native.Mathlib.Omega.{arith}
 use lib.ListN.{length, drop}
 use Rattle.format.specs.Table.{Qualifier}
-use Rattle.format.specs.Readers.{Got, No, Cut, fitTurn, members, end}
+use Rattle.format.specs.Readers.{Got, Cut, fitTurn, members, end}
 use Rattle.format.specs.Features.{qualifier}
 use Rattle.laws.specs.Loops.{fit-members-more, fit-members-stop, fit-members-cut, fit-end-more, fit-end-stop, fit-end-cut}
 use Rattle.laws.specs.Shrinks.{qualifier-small}
