@@ -1,0 +1,64 @@
+use Prim.Native.Nat.{ℕ, suc, _+_, _-_, _*_, _/_, _%_, _≤_, _<_}
+use mathlib.Core.Path.{_≡_, refl, sym, ap, _∙_}
+use lib.ListN.{length, getD, take, drop, set}
+use native.Mathlib.Omega.{arith}
+use denote.Ref.{now}
+use borrow.Author.Needs.{needs}
+use Rattle.headerlines.proofs.put_first_texts.Statement.{statement}
+use Rattle.headerlines.proofs.put_first_texts.Tie as tie
+use Rattle.headerlines.proofs.put_first_texts.Reads as reads
+use Rattle.headerlines.proofs.put_first_texts.Lts as lts
+use Rattle.headerlines.proofs.put_maybe.Reads as put-maybe-reads
+
+slice-aggregate-put-maybe : tie.Need-slice-aggregate-put-maybe
+slice-aggregate-put-maybe c = search needs
+
+put-maybe-requires : tie.Need-put-maybe-requires
+put-maybe-requires c κs = search needs
+
+slice-aggregate-put-maybe-2 : tie.Need-slice-aggregate-put-maybe-2
+slice-aggregate-put-maybe-2 c = search needs
+
+put-maybe-requires-2 : tie.Need-put-maybe-requires-2
+put-maybe-requires-2 c κs = search needs
+
+slice-aggregate-put-maybe-3 : tie.Need-slice-aggregate-put-maybe-3
+slice-aggregate-put-maybe-3 c = search needs
+
+put-maybe-requires-3 : tie.Need-put-maybe-requires-3
+put-maybe-requires-3 c κs = search needs
+
+slice-aggregate-put-maybe-4 : tie.Need-slice-aggregate-put-maybe-4
+slice-aggregate-put-maybe-4 c = search needs
+
+put-maybe-requires-4 : tie.Need-put-maybe-requires-4
+put-maybe-requires-4 c κs = search needs
+
+slice-aggregate-put-maybe-5 : tie.Need-slice-aggregate-put-maybe-5
+slice-aggregate-put-maybe-5 c = search needs
+
+put-maybe-requires-5 : tie.Need-put-maybe-requires-5
+put-maybe-requires-5 c κs = search needs
+
+same-length : tie.Need-same-length
+same-length c = search needs
+
+returns : tie.Need-returns
+returns c = search needs
+
+pub put-first-texts-spec : {M : Type 1} → statement M
+put-first-texts-spec =
+    tie.close
+    (tie.spec
+    slice-aggregate-put-maybe
+    put-maybe-requires
+    slice-aggregate-put-maybe-2
+    put-maybe-requires-2
+    slice-aggregate-put-maybe-3
+    put-maybe-requires-3
+    slice-aggregate-put-maybe-4
+    put-maybe-requires-4
+    slice-aggregate-put-maybe-5
+    put-maybe-requires-5
+    same-length
+    returns)
