@@ -1,14 +1,10 @@
-use Prim.Native.Nat.{ℕ, suc, _+_, _-_, _*_, _/_, _%_, _≤_, _<_}
-use mathlib.Core.Path.{_≡_, refl, sym, ap, _∙_}
-use lib.ListN.{length, getD, take, drop, set}
-use native.Mathlib.Omega.{arith}
-use denote.Ref.{now}
+-- Five texts, each where it is there.
+use Rattle.format.specs.Rooms.{tableOf}
+use Rattle.headerlines.specs.Header.{firstTexts}
+use Rattle.pen.specs.Pen.{writes-append}
 use borrow.Author.Needs.{needs}
 use Rattle.headerlines.proofs.put_first_texts.Statement.{statement}
 use Rattle.headerlines.proofs.put_first_texts.Tie as tie
-use Rattle.headerlines.proofs.put_first_texts.Reads as reads
-use Rattle.headerlines.proofs.put_first_texts.Lts as lts
-use Rattle.headerlines.proofs.put_maybe.Reads as put-maybe-reads
 
 slice-aggregate-put-maybe : tie.Need-slice-aggregate-put-maybe
 slice-aggregate-put-maybe c = search needs
@@ -38,13 +34,14 @@ slice-aggregate-put-maybe-5 : tie.Need-slice-aggregate-put-maybe-5
 slice-aggregate-put-maybe-5 c = search needs
 
 put-maybe-requires-5 : tie.Need-put-maybe-requires-5
-put-maybe-requires-5 c κs = search needs
+put-maybe-requires-5 c κs = (search needs, c .before .before .before .before .before .before .before .before .before .before .before .before .before .before .before .before .before .before .before .before .before .before .before .before .pre .0 .small, c .before .before .before .before .before .before .before .before .before .before .before .before .before .before .before .before .before .before .before .before .before .before .before .before .pre .0 .keywords, c .before .before .before .before .before .before .before .before .before .before .before .before .before .before .before .before .before .before .before .before .before .before .before .before .pre .1, c .before .before .before .before .before .before .before .before .before .before .before .before .before .before .before .before .before .before .before .before .before .before .before .before .pre .2)
 
 same-length : tie.Need-same-length
 same-length c = search needs
 
 returns : tie.Need-returns
-returns c = search needs
+unfolding firstTexts tableOf
+returns c = writes-append (writes-append (writes-append (writes-append (c .before .before .before .before .before .before .before .before .before .before .before .before .before .before .before .before .before .before .before .before .before .before .put-maybe .ensures) (c .before .before .before .before .before .before .before .before .before .before .before .before .before .before .before .before .before .put-maybe2 .ensures)) (c .before .before .before .before .before .before .before .before .before .before .before .before .put-maybe3 .ensures)) (c .before .before .before .before .before .before .before .put-maybe4 .ensures)) (c .before .before .put-maybe5 .ensures)
 
 pub put-first-texts-spec : {M : Type 1} → statement M
 put-first-texts-spec =

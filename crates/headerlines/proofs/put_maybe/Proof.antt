@@ -1,14 +1,8 @@
-use Prim.Native.Nat.{ℕ, suc, _+_, _-_, _*_, _/_, _%_, _≤_, _<_}
-use mathlib.Core.Path.{_≡_, refl, sym, ap, _∙_}
-use lib.ListN.{length, getD, take, drop, set}
-use native.Mathlib.Omega.{arith}
-use denote.Ref.{now}
+-- By whether there is a text.
+use Rattle.pen.specs.Pen.{writes-nil}
 use borrow.Author.Needs.{needs}
 use Rattle.headerlines.proofs.put_maybe.Statement.{statement}
 use Rattle.headerlines.proofs.put_maybe.Tie as tie
-use Rattle.headerlines.proofs.put_maybe.Reads as reads
-use Rattle.headerlines.proofs.put_maybe.Lts as lts
-use Rattle.headerlines.proofs.put_span.Reads as put-span-reads
 
 enum-told : tie.Need-enum-told
 enum-told c = search needs
@@ -17,16 +11,16 @@ enum-known-text : tie.Need-enum-known-text
 enum-known-text c = search needs
 
 put-span-requires : tie.Need-put-span-requires
-put-span-requires c κs = search needs
+put-span-requires c κs = (c .before .before .before .before .before .before .before .pre .0, record { small = c .before .before .before .before .before .before .before .pre .1; inside = rw (c .before .before .text .given .1) at (c .before .before .before .before .before .before .before .pre .2) }, c .before .before .before .before .before .before .before .pre .3, c .before .before .before .before .before .before .before .pre .4)
 
 returns : tie.Need-returns
-returns c = search needs
+returns c = rw (c .enum-told .given .1) writes-nil
 
 same-length : tie.Need-same-length
 same-length c = search needs
 
 returns-2 : tie.Need-returns-2
-returns-2 c = search needs
+returns-2 c = rw (c .before .before .before .before .before .text .given .1) (c .before .before .put-span .ensures)
 
 pub put-maybe-spec : {M : Type 1} → statement M
 put-maybe-spec =

@@ -1,15 +1,8 @@
-use Prim.Native.Nat.{ℕ, suc, _+_, _-_, _*_, _/_, _%_, _≤_, _<_}
-use mathlib.Core.Path.{_≡_, refl, sym, ap, _∙_}
-use lib.ListN.{length, getD, take, drop, set}
-use native.Mathlib.Omega.{arith}
-use denote.Ref.{now}
+-- By whether there is a source.
+use Rattle.pen.specs.Pen.{writes-nil, writes-append}
 use borrow.Author.Needs.{needs}
 use Rattle.headerlines.proofs.put_source.Statement.{statement}
 use Rattle.headerlines.proofs.put_source.Tie as tie
-use Rattle.headerlines.proofs.put_source.Reads as reads
-use Rattle.headerlines.proofs.put_source.Lts as lts
-use Rattle.headerlines.proofs.put_maybe.Reads as put-maybe-reads
-use Rattle.headerlines.proofs.put_span.Reads as put-span-reads
 
 enum-told : tie.Need-enum-told
 enum-told c = search needs
@@ -21,22 +14,22 @@ slice-aggregate-put-span : tie.Need-slice-aggregate-put-span
 slice-aggregate-put-span c = search needs
 
 put-span-requires : tie.Need-put-span-requires
-put-span-requires c κs = search needs
+put-span-requires c κs = (search needs, record { small = c .before .before .before .before .before .before .before .pre .0; inside = (rw (c .before .before .before .source .given .1) at (c .before .before .before .before .before .before .before .pre .1)) .0 }, c .before .before .before .before .before .before .before .pre .2, c .before .before .before .before .before .before .before .pre .3)
 
 slice-aggregate-put-maybe : tie.Need-slice-aggregate-put-maybe
 slice-aggregate-put-maybe c = search needs
 
 put-maybe-requires : tie.Need-put-maybe-requires
-put-maybe-requires c κs = search needs
+put-maybe-requires c κs = (search needs, c .before .before .before .before .before .before .before .before .before .before .before .before .pre .0, (rw (c .before .before .before .before .before .before .before .before .source .given .1) at (c .before .before .before .before .before .before .before .before .before .before .before .before .pre .1)) .1, c .before .before .before .before .before .before .before .before .before .before .before .before .pre .2, c .before .before .before .before .before .before .before .before .before .before .before .before .pre .3)
 
 returns : tie.Need-returns
-returns c = search needs
+returns c = rw (c .enum-told .given .1) writes-nil
 
 same-length : tie.Need-same-length
 same-length c = search needs
 
 returns-2 : tie.Need-returns-2
-returns-2 c = search needs
+returns-2 c = rw (c .before .before .before .before .before .before .before .before .before .before .before .source .given .1) (writes-append (c .before .before .before .before .before .before .before .put-span .ensures) (c .before .before .put-maybe .ensures))
 
 pub put-source-spec : {M : Type 1} → statement M
 put-source-spec =

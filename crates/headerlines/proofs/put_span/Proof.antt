@@ -1,14 +1,10 @@
-use Prim.Native.Nat.{ℕ, suc, _+_, _-_, _*_, _/_, _%_, _≤_, _<_}
-use mathlib.Core.Path.{_≡_, refl, sym, ap, _∙_}
-use lib.ListN.{length, getD, take, drop, set}
-use native.Mathlib.Omega.{arith}
-use denote.Ref.{now}
+-- The part of the store.
+use Prim.Native.Nat.{_+_, _-_}
 use borrow.Author.Needs.{needs}
+use mathlib.Core.Path.{_≡_}
+use native.Mathlib.Omega.{arith}
 use Rattle.headerlines.proofs.put_span.Statement.{statement}
 use Rattle.headerlines.proofs.put_span.Tie as tie
-use Rattle.headerlines.proofs.put_span.Reads as reads
-use Rattle.headerlines.proofs.put_span.Lts as lts
-use Rattle.fieldlines.proofs.put_field.Reads as put-field-reads
 
 add-end : tie.Need-add-end
 add-end c = search needs
@@ -29,7 +25,7 @@ same-length : tie.Need-same-length
 same-length c = search needs
 
 returns : tie.Need-returns
-returns c = search needs
+returns c = let y : c .before .before .before .before .before .before .before .before .args .start + c .before .before .before .before .before .before .before .before .args .n - c .before .before .before .before .before .before .before .before .args .start ≡ c .before .before .before .before .before .before .before .before .args .n = omega arith in rw y at (c .before .before .put-field .ensures)
 
 pub put-span-spec : {M : Type 1} → statement M
 put-span-spec =
