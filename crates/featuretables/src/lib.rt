@@ -3,7 +3,7 @@ use featurelines::put_feature;
 use featurelines::put_flag;
 use featurelines::put_value;
 use pen::put_bytes;
-ghost use Prim.Native.Nat.{_-_, _≤_};
+ghost use Prim.Native.Nat.{_+_, _-_, _≤_};
 ghost use Rattle.format.specs.Bytes.{each};
 ghost use Rattle.format.specs.Rooms.{textIn, rowsFrom, qualifierIn, featureIn};
 ghost use Rattle.format.specs.Wrap.{wrapLocation};

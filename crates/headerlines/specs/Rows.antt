@@ -1,7 +1,7 @@
 -- Rows written one after the other, and texts that may be absent.
 use Prim.Native.Nat.{ℕ, zero, suc, _+_, _-_, _*_, _≤_, _<_}
-use mathlib.Core.Path.{_≡_, refl}
-use mathlib.Core.List.{List, [], _∷_, _++_}
+use mathlib.Core.Path.{_≡_, refl, sym}
+use mathlib.Core.List.{List, [], _∷_, _++_, append-nil}
 use native.Mathlib.Omega.{arith}
 use Rattle.format.specs.Bytes.{each}
 use Rattle.format.specs.Rooms.{rowsFrom}
@@ -23,3 +23,12 @@ module _ {A : Type 0} (f : A → List ℕ) (g : ℕ → A) (w p e : ℕ) where
 
   pub each-done : {l m x : List ℕ} {i j : ℕ} → Left l i x m j (each f (rowsFrom g w p (e - p))) → e ≤ p → Writes l i x m j
   each-done s h = left-end (left-as (rows-none h) s)
+
+-- no rows after a text
+pub none-after : {A : Type 0} (f : A → List ℕ) (g : ℕ → A) (w i n : ℕ) (x : List ℕ) → n ≡ 0 → x ≡ x ++ each f (rowsFrom g w i n)
+unfolding rowsFrom
+none-after f g w i n x e = rw e (sym (append-nil x))
+
+-- the length of a part of a store
+pub part-is : (start n : ℕ) → start + n - start ≡ n
+part-is start n = omega arith

@@ -1,15 +1,15 @@
-use Prim.Native.Nat.{ℕ, suc, _+_, _-_, _*_, _/_, _%_, _≤_, _<_}
-use mathlib.Core.Path.{_≡_, refl, sym, ap, _∙_}
-use lib.ListN.{length, getD, take, drop, set}
-use native.Mathlib.Omega.{arith}
-use denote.Ref.{now}
+-- Key and value, which is absent where its length plus one is 0.
+use Rattle.featuretables.specs.Table.{flag-is, value-is}
+use Rattle.format.specs.Rooms.{qualifierIn, textIn}
+use Rattle.format.specs.Write.{qualifierLines}
+use Rattle.headerlines.specs.Rows.{part-is}
+use Rattle.pen.specs.Pen.{writes-as}
 use borrow.Author.Needs.{needs}
+use denote.Ref.{now}
+use lib.ListN.{length-take, length-drop}
+use native.Mathlib.Omega.{arith}
 use Rattle.featuretables.proofs.put_qualifier.Statement.{statement}
 use Rattle.featuretables.proofs.put_qualifier.Tie as tie
-use Rattle.featuretables.proofs.put_qualifier.Reads as reads
-use Rattle.featuretables.proofs.put_qualifier.Lts as lts
-use Rattle.featurelines.proofs.put_flag.Reads as put-flag-reads
-use Rattle.featurelines.proofs.put_value.Reads as put-value-reads
 
 mul-key : tie.Need-mul-key
 mul-key c = search needs
@@ -57,7 +57,8 @@ same-length : tie.Need-same-length
 same-length c = search needs
 
 returns : tie.Need-returns
-returns c = search needs
+unfolding qualifierLines qualifierIn
+returns c = writes-as (flag-is (c .before .before .before .before .before .before .before .before .before .before .before .before .args .width) (textIn (now (c .before .before .before .before .before .before .before .before .before .before .before .before .args .texts)) (now (c .before .before .before .before .before .before .before .before .before .before .before .before .args .qualifiers)) (c .before .before .before .before .before .before .before .before .before .before .before .before .args .row)) (now (c .before .before .before .before .before .before .before .before .before .before .before .before .args .texts)) _ _ (c .before .before .before .before .before .if1 .taken)) (simp part-is at (c .before .before .put-flag .ensures))
 
 mul-start : tie.Need-mul-start
 mul-start c = search needs
@@ -69,7 +70,7 @@ sub-end : tie.Need-sub-end
 sub-end c = search needs
 
 add-end : tie.Need-add-end
-add-end c = search needs
+add-end c = omega (arith, c .before .before .before .before .before .before .before .before .pre .0 .small, c .before .before .before .before .before .before .before .before .pre .0 .inside .value (omega arith))
 
 sub-put-value : tie.Need-sub-put-value
 sub-put-value c = search needs
@@ -87,16 +88,17 @@ part-put-value-start-2 : tie.Need-part-put-value-start-2
 part-put-value-start-2 c = search needs
 
 part-put-value-end-2 : tie.Need-part-put-value-end-2
-part-put-value-end-2 c = search needs
+part-put-value-end-2 c = omega (arith, c .before .before .before .before .before .before .before .before .before .before .pre .0 .inside .value (omega arith))
 
 put-value-requires : tie.Need-put-value-requires
-put-value-requires c κs = search needs
+put-value-requires c κs = (simp (length-take, length-drop) (omega (arith, c .before .before .before .before .before .before .before .before .before .before .before .pre .0 .small)), simp (length-take, length-drop) (omega (arith, c .before .before .before .before .before .before .before .before .before .before .before .pre .0 .small)), c .before .before .before .before .before .before .before .before .before .before .before .pre .1, c .before .before .before .before .before .before .before .before .before .before .before .pre .2)
 
 same-length-2 : tie.Need-same-length-2
 same-length-2 c = search needs
 
 returns-2 : tie.Need-returns-2
-returns-2 c = search needs
+unfolding qualifierLines qualifierIn
+returns-2 c = writes-as (value-is (c .before .before .before .before .before .before .before .before .before .before .before .before .before .before .args .width) (textIn (now (c .before .before .before .before .before .before .before .before .before .before .before .before .before .before .args .texts)) (now (c .before .before .before .before .before .before .before .before .before .before .before .before .before .before .args .qualifiers)) (c .before .before .before .before .before .before .before .before .before .before .before .before .before .before .args .row)) (now (c .before .before .before .before .before .before .before .before .before .before .before .before .before .before .args .texts)) _ _ (c .before .before .before .before .before .before .before .if1 .left)) (simp part-is at (c .before .before .put-value .ensures))
 
 pub put-qualifier-spec : {M : Type 1} → statement M
 put-qualifier-spec =

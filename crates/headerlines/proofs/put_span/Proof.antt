@@ -1,8 +1,6 @@
 -- The part of the store.
-use Prim.Native.Nat.{_+_, _-_}
+use Rattle.headerlines.specs.Rows.{part-is}
 use borrow.Author.Needs.{needs}
-use mathlib.Core.Path.{_≡_}
-use native.Mathlib.Omega.{arith}
 use Rattle.headerlines.proofs.put_span.Statement.{statement}
 use Rattle.headerlines.proofs.put_span.Tie as tie
 
@@ -25,7 +23,7 @@ same-length : tie.Need-same-length
 same-length c = search needs
 
 returns : tie.Need-returns
-returns c = let y : c .before .before .before .before .before .before .before .before .args .start + c .before .before .before .before .before .before .before .before .args .n - c .before .before .before .before .before .before .before .before .args .start ≡ c .before .before .before .before .before .before .before .before .args .n = omega arith in rw y at (c .before .before .put-field .ensures)
+returns c = simp part-is at (c .before .before .put-field .ensures)
 
 pub put-span-spec : {M : Type 1} → statement M
 put-span-spec =
