@@ -1,14 +1,11 @@
-use Prim.Native.Nat.{ℕ, suc, _+_, _-_, _*_, _/_, _%_, _≤_, _<_}
-use mathlib.Core.Path.{_≡_, refl, sym, ap, _∙_}
-use lib.ListN.{length, getD, take, drop, set}
-use native.Mathlib.Omega.{arith}
-use denote.Ref.{now}
+-- By whether there is a text.
+use Rattle.headerlines.specs.Rows.{part-is}
+use Rattle.pen.specs.Pen.{writes-nil}
 use borrow.Author.Needs.{needs}
+use lib.ListN.{length-take, length-drop}
+use native.Mathlib.Omega.{arith}
 use Rattle.recordlines.proofs.put_contig_text.Statement.{statement}
 use Rattle.recordlines.proofs.put_contig_text.Tie as tie
-use Rattle.recordlines.proofs.put_contig_text.Reads as reads
-use Rattle.recordlines.proofs.put_contig_text.Lts as lts
-use Rattle.featurelines.proofs.put_contig.Reads as put-contig-reads
 
 enum-told : tie.Need-enum-told
 enum-told c = search needs
@@ -17,7 +14,7 @@ enum-known-contig : tie.Need-enum-known-contig
 enum-known-contig c = search needs
 
 add-end : tie.Need-add-end
-add-end c = search needs
+add-end c = let w = rw (c .before .before .contig .given .1) at (c .before .before .before .before .before .before .pre .1) in search needs
 
 sub-put-contig : tie.Need-sub-put-contig
 sub-put-contig c = search needs
@@ -26,19 +23,19 @@ part-put-contig-start : tie.Need-part-put-contig-start
 part-put-contig-start c = search needs
 
 part-put-contig-end : tie.Need-part-put-contig-end
-part-put-contig-end c = search needs
+part-put-contig-end c = let w = rw (c .before .before .before .contig .given .1) at (c .before .before .before .before .before .before .before .pre .1) in search needs
 
 put-contig-requires : tie.Need-put-contig-requires
-put-contig-requires c κs = search needs
+put-contig-requires c κs = (simp (length-take, length-drop) (omega (arith, c .before .before .before .before .before .before .before .before .pre .0)), c .before .before .before .before .before .before .before .before .pre .2, c .before .before .before .before .before .before .before .before .pre .3)
 
 returns : tie.Need-returns
-returns c = search needs
+returns c = rw (c .enum-told .given .1) writes-nil
 
 same-length : tie.Need-same-length
 same-length c = search needs
 
 returns-2 : tie.Need-returns-2
-returns-2 c = search needs
+returns-2 c = rw (c .before .before .before .before .before .before .before .contig .given .1) (simp part-is at (c .before .before .put-contig .ensures))
 
 pub put-contig-text-spec : {M : Type 1} → statement M
 put-contig-text-spec =

@@ -1,15 +1,9 @@
-use Prim.Native.Nat.{ℕ, suc, _+_, _-_, _*_, _/_, _%_, _≤_, _<_}
-use mathlib.Core.Path.{_≡_, refl, sym, ap, _∙_}
-use lib.ListN.{length, getD, take, drop, set}
-use native.Mathlib.Omega.{arith}
-use denote.Ref.{now}
+-- The letters that count, and the two slashes.
+use Rattle.pen.specs.Pen.{writes-append}
 use borrow.Author.Needs.{needs}
+use native.Mathlib.Nat.{sub-zero}
 use Rattle.recordlines.proofs.put_end.Statement.{statement}
 use Rattle.recordlines.proofs.put_end.Tie as tie
-use Rattle.recordlines.proofs.put_end.Reads as reads
-use Rattle.recordlines.proofs.put_end.Lts as lts
-use Rattle.origin.proofs.put_origin.Reads as put-origin-reads
-use Rattle.pen.proofs.put_bytes.Reads as put-bytes-reads
 
 sub-put-origin : tie.Need-sub-put-origin
 sub-put-origin c = search needs
@@ -33,7 +27,7 @@ same-length : tie.Need-same-length
 same-length c = search needs
 
 returns : tie.Need-returns
-returns c = search needs
+returns c = writes-append (rw sub-zero at (c .before .before .before .before .before .before .before .put-origin .ensures)) (c .before .before .put-bytes .ensures)
 
 pub put-end-spec : {M : Type 1} → statement M
 put-end-spec =
