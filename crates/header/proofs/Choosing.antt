@@ -85,7 +85,7 @@ module _ (s : List ℕ) (at : ℕ) (keep : Bool) (o : Ans (List ℕ)) (r : Entry
   pub may-absent : at ≤ length s → r ≡ entry.No → MayEnter s at keep (optional (drop at s) o) (may-at.Got may.Absent at)
   may-absent l e =
       let w : o ≡ No = subst (λ (x : EntryAt). EntryAs s at keep o x) e (h .is) in
-      record { is = record { the = absent; is = rw w; stands = tt; from = omega arith; within = l } }
+      record { is = record { the = absent; is = rw w; stands = tt; from = omega arith; within = l; small = omega arith } }
 
   pub may-is : (e : Entry) → r ≡ entry.Got e → MayEnter s at keep (optional (drop at s) o) (may-at.Got (may.Is e) (e .next))
   may-is e q =
@@ -97,6 +97,7 @@ module _ (s : List ℕ) (at : ℕ) (keep : Bool) (o : Ans (List ℕ)) (r : Entry
           stands = record { again = w .again; sized = w .sized; from = w .from; ahead = w .ahead; within = w .within; small = w .small };
           from = omega (arith, w .from, w .ahead);
           within = w .within;
+          small = omega (arith, w .from, w .small);
         };
       }
 
