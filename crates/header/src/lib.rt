@@ -10,7 +10,7 @@ ghost use Rattle.format.specs.Bytes.{bytes};
 ghost use Rattle.format.specs.Readers.{orElse, tag, line, utf8Of};
 ghost use Rattle.format.specs.Header.{maybeField, source, ignoredLine};
 ghost use Rattle.chars.specs.Views.{Stepped, Lined};
-ghost use Rattle.header.specs.Fields.{sectionWord, MayEnter, Sources};
+ghost use Rattle.header.specs.Fields.{sectionWord, mayLength, MayEnter, Sources};
 
 // An entry that may be missing.
 pub enum MayEntry {
@@ -83,6 +83,16 @@ pub fn dropped_at(s: &[u8], at: usize) -> Line
         Step::Got(_) => Line::No,
         Step::Cut => Line::Cut,
         Step::No => utf8_line(s, at),
+    }
+}
+
+// How many bytes the text of an entry has.
+pub fn may_length(e: MayEntry) -> usize
+    ensures { λ r. ⌜ r ≡ mayLength e ⌝ }
+{
+    match e {
+        MayEntry::Absent => 0,
+        MayEntry::Is(entry) => entry.length,
     }
 }
 
