@@ -3,14 +3,14 @@ use Prim.Native.Nat.{ℕ, _≤_}
 use native.Mathlib.Nat.{le-refl}
 use native.Mathlib.Omega.{arith}
 use mathlib.Core.Bool.{false}
-use mathlib.Core.Path.{_≡_, refl, sym, ap, subst, _∙_}
+use mathlib.Core.Path.{_≡_, refl, ap, subst, _∙_}
 use mathlib.Core.List.{List, []}
 use lib.ListN.{length, drop, drop-of-length-le}
 use Rattle.format.specs.Bytes.{May, absent, is}
-use Rattle.format.specs.Readers.{Ans, Got, No, Cut, bind, optional, until, whileFits}
+use Rattle.format.specs.Readers.{Ans, Got, No, Cut, bind, optional, until}
 use Rattle.format.specs.Table.{Feature}
 use Rattle.format.specs.Features.{featuresHeader, feature}
-use Rattle.format.specs.Record.{features, baseCount, contig, listOf, Middle, middle}
+use Rattle.format.specs.Record.{features, baseCount, contig, listOf, middle}
 use Rattle.laws.specs.Loops.{try-members-cut}
 use Rattle.chars.specs.Views.{Emptied}
 use Rattle.chars.specs.Sequence.{empty-places}
@@ -25,7 +25,7 @@ use Rattle.features.specs.declared.Features.{Features}
 use Rattle.features.specs.Reads.{featuresIn, FeaturesRead}
 use Rattle.middle.specs.declared.MiddleAt.{MiddleAt}
 use Rattle.middle.specs.declared.MiddleAt.the-variants as mid
-use Rattle.middle.specs.Middles.{contigPart, middleFrom, MiddleKnown, MiddleAs, Middles}
+use Rattle.middle.specs.Middles.{contigPart, middleFrom, Middles}
 
 -- ---- BASE COUNT and CONTIG
 

@@ -1,18 +1,17 @@
 -- The laws of the parts of a record: each answer by the answer of the part before.
 use Prim.Native.Nat.{ℕ, _≤_}
-use native.Mathlib.Omega.{arith}
 use mathlib.Core.Bool.{Bool, true, false}
 use mathlib.Core.Path.{_≡_, refl, sym, ap, subst, _∙_}
-use mathlib.Core.List.{List, []}
+use mathlib.Core.List.{List}
 use lib.ListN.{length, drop}
 use lib.Dec.{ltb, leb}
 use borrow.Author.Tests.{ltb-true, ltb-false, le-leb, lt-leb}
 use Rattle.format.specs.Bytes.{bytes}
-use Rattle.format.specs.Readers.{Ans, Got, No, Cut, whileFits}
+use Rattle.format.specs.Readers.{Got, No, Cut}
 use Rattle.format.specs.Table.{Locus}
 use Rattle.format.specs.Locus.{preamble, locus}
-use Rattle.format.specs.Header.{Field, headerField, every, textIn}
-use Rattle.format.specs.Record.{Outcome, Not, Middle, middle, tableFrom, afterHeader, afterLocus, readRecord}
+use Rattle.format.specs.Header.{Field, every, textIn}
+use Rattle.format.specs.Record.{Middle, middle, tableFrom, afterHeader, afterLocus, readRecord}
 use Rattle.format.specs.Rooms.{mayLength}
 use Rattle.format.specs.declared.Length.{Length}
 use Rattle.format.specs.declared.Unread.{Unread}

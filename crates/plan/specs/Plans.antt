@@ -3,10 +3,9 @@ use Prim.Native.Nat.{ℕ, _≤_}
 use mathlib.Core.Path.{_≡_}
 use mathlib.Core.List.{List}
 use lib.ListN.{length, drop}
-use Rattle.format.specs.Bytes.{bytes}
 use Rattle.format.specs.Readers.{whileFits}
 use Rattle.format.specs.Table.{Locus, Table}
-use Rattle.format.specs.Header.{Field, headerField, latest, every, textIn, sourceIn, referenceIn}
+use Rattle.format.specs.Header.{Field, headerField}
 use Rattle.format.specs.Record.{Outcome, Read, Not, withLetters, Middle, middle, tableFrom, afterHeader, header}
 use Rattle.format.specs.Rooms.{mayLength}
 use Rattle.format.specs.declared.Length.{Length}

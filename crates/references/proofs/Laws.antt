@@ -97,8 +97,8 @@ module _ (s : List ℕ) (at : ℕ) (r : PairAt) (h : Pairs s at (pairOf 0 (bytes
   front-cut e = record { is = rw (cut-pair h e) }
 
   module _
-    (text : Entry) (authors : MayEntry) (n start : ℕ) (q : MayEntryAt) (k : r ≡ pair.Got text authors n start)
-    (m : MayEnter s start true (maybeField 2 (bytes "CONSRTM") true (drop start s)) q) where
+      (text : Entry) (authors : MayEntry) (n start : ℕ) (q : MayEntryAt) (k : r ≡ pair.Got text authors n start)
+      (m : MayEnter s start true (maybeField 2 (bytes "CONSRTM") true (drop start s)) q) where
     pub consrtm-cut : q ≡ may-at.Cut → Fronts s at (upToConsrtm (drop at s)) front.Cut
     unfolding upToConsrtm
     consrtm-cut f = record { is = then-got _ (known-pair h k .is) (rw (cut-may m f)) }
@@ -145,8 +145,8 @@ module _ (s : List ℕ) (at : ℕ) (r : MayEntryAt) (h : MayEnter s at false (ma
   end-cut e = record { is = rw (cut-may h e) }
 
   module _
-    (pubmed : MayEntry) (start : ℕ) (q : MayEntryAt) (k : r ≡ may-at.Got pubmed start)
-    (m : MayEnter s start true (maybeField 2 (bytes "REMARK") true (drop start s)) q) where
+      (pubmed : MayEntry) (start : ℕ) (q : MayEntryAt) (k : r ≡ may-at.Got pubmed start)
+      (m : MayEnter s start true (maybeField 2 (bytes "REMARK") true (drop start s)) q) where
     pub remark-cut : q ≡ may-at.Cut → Ends s at (afterJournal (drop at s)) end.Cut
     unfolding afterJournal
     remark-cut f = record { is = then-got _ (known-may h k .is) (rw (cut-may m f)) }
@@ -191,7 +191,7 @@ module _ (s : List ℕ) (at : ℕ) (r : PairAt) (h : Pairs s at (pairOf 2 (bytes
   back-cut e = record { is = rw (cut-pair h e) }
 
   module _
-    (title : Entry) (journal : MayEntry) (n start : ℕ) (q : EndAt) (k : r ≡ pair.Got title journal n start) (m : Ends s start (afterJournal (drop start s)) q) where
+      (title : Entry) (journal : MayEntry) (n start : ℕ) (q : EndAt) (k : r ≡ pair.Got title journal n start) (m : Ends s start (afterJournal (drop start s)) q) where
     pub ends-cut : q ≡ end.Cut → Backs s at (fromTitle (drop at s)) back.Cut
     unfolding fromTitle
     ends-cut f = record { is = then-got _ (known-pair h k .is) (rw (cut-end m f)) }

@@ -1,15 +1,8 @@
-use Prim.Native.Nat.{ℕ, suc, _+_, _-_, _*_, _/_, _%_, _≤_, _<_}
-use mathlib.Core.Path.{_≡_, refl, sym, ap, _∙_}
-use lib.ListN.{length, getD, take, drop, set}
-use native.Mathlib.Omega.{arith}
-use denote.Ref.{now}
+-- `plan::rest_at` meets its contract. Assumes nothing.
 use borrow.Author.Needs.{needs}
+use Rattle.plan.proofs.Laws.{resting}
 use Rattle.plan.proofs.rest_at.Statement.{statement}
 use Rattle.plan.proofs.rest_at.Tie as tie
-use Rattle.plan.proofs.rest_at.Reads as reads
-use Rattle.plan.proofs.rest_at.Lts as lts
-use Rattle.ending.proofs.end_at.Reads as end-at-reads
-use Rattle.middle.proofs.middle_at.Reads as middle-at-reads
 
 middle-at-requires : tie.Need-middle-at-requires
 middle-at-requires c κs = search needs
@@ -21,7 +14,7 @@ enum-known-features-at : tie.Need-enum-known-features-at
 enum-known-features-at c = search needs
 
 end-at-requires : tie.Need-end-at-requires
-end-at-requires c κs = search (RULES, needs)
+end-at-requires c κs = search (resting, needs)
 
 enum-known-why : tie.Need-enum-known-why
 enum-known-why c = search needs
@@ -30,13 +23,13 @@ enum-known-letters-at : tie.Need-enum-known-letters-at
 enum-known-letters-at c = search needs
 
 returns : tie.Need-returns
-returns c = search (RULES, needs)
+returns c = search (resting, needs)
 
 returns-2 : tie.Need-returns-2
-returns-2 c = search (RULES, needs)
+returns-2 c = search (resting, needs)
 
 returns-3 : tie.Need-returns-3
-returns-3 c = search (RULES, needs)
+returns-3 c = search (resting, needs)
 
 pub rest-at-spec : {M : Type 1} → statement M
 rest-at-spec =
