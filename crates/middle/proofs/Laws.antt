@@ -17,15 +17,16 @@ use Rattle.chars.specs.Sequence.{empty-places}
 use Rattle.chars.specs.declared.Step.{Step}
 use Rattle.chars.specs.declared.Step.the-variants as step
 use Rattle.header.specs.declared.MayEntry.{MayEntry}
+use Rattle.header.specs.declared.MayEntry.the-variants as may
 use Rattle.header.specs.declared.MayEntryAt.{MayEntryAt}
 use Rattle.header.specs.declared.MayEntryAt.the-variants as may-at
-use Rattle.header.specs.Fields.{MayKnown, MayEnterAs, MayEnter}
+use Rattle.header.specs.Fields.{MayStand, MayKnown, MayEnterAs, MayEnter}
 use Rattle.references.specs.Standing.{may-from}
 use Rattle.features.specs.declared.Features.{Features}
 use Rattle.features.specs.Reads.{featuresIn, FeaturesRead}
 use Rattle.middle.specs.declared.MiddleAt.{MiddleAt}
 use Rattle.middle.specs.declared.MiddleAt.the-variants as mid
-use Rattle.middle.specs.Middles.{contigPart, middleFrom, Middles}
+use Rattle.middle.specs.Middles.{contigPart, contigIn, middleFrom, Middles}
 
 -- ---- BASE COUNT and CONTIG
 
@@ -69,6 +70,12 @@ pub ruleset counting = (count-cut, count-within, count-then)
 
 -- ---- after the features
 
+contig-in : (s : List ℕ) (t : May (List ℕ)) (e : MayEntry) → MayStand s 0 false t e → t ≡ contigIn s e
+contig-in s absent may.Absent h = refl
+contig-in s absent (may.Is e) h = absurd h
+contig-in s (is t) may.Absent h = absurd h
+contig-in s (is t) (may.Is e) h = rw (h .again)
+
 from-is : (fs : List Feature) (s : List ℕ) (c : May (List ℕ)) (r : List ℕ) → contigPart s ≡ Got c r → middleFrom fs s ≡ Got (record { features = fs; contig = c }) r
 unfolding middleFrom
 from-is fs s c r e = rw e
@@ -82,11 +89,11 @@ module _ (s : List ℕ) (at first : ℕ) (counts : Features) (r : MayEntryAt) (h
       Middles s (middleFrom (featuresIn (drop first s)) (drop at s)) (mid.Got first counts entry n)
   from-got entry n e l w =
       let k : MayKnown s 0 false (contigPart (drop at s)) entry n = subst (λ (x : MayEntryAt). MayEnterAs s 0 false (contigPart (drop at s)) x) e (h .is) in
+      let c : k .the ≡ contigIn s entry = contig-in s (k .the) entry (k .stands) in
       record {
         is = record {
-          the = record { features = featuresIn (drop first s); contig = k .the };
-          is = from-is (featuresIn (drop first s)) (drop at s) (k .the) (drop n s) (k .is);
-          stands = record { listed = refl; read = w; contig = k .stands; tabled = l };
+          is = from-is (featuresIn (drop first s)) (drop at s) (contigIn s entry) (drop n s) (k .is ∙ rw c);
+          stands = record { tabled = l; read = w; contig = rw c at (k .stands) };
           within = k .within;
         };
       }

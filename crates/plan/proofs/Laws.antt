@@ -32,7 +32,7 @@ use Rattle.gather.specs.Gathered.{fieldsAt, Gathered}
 use Rattle.features.specs.declared.Features.{Features}
 use Rattle.middle.specs.declared.MiddleAt.{MiddleAt}
 use Rattle.middle.specs.declared.MiddleAt.the-variants as mid
-use Rattle.middle.specs.Middles.{MiddleKnown, MiddleAs, Middles}
+use Rattle.middle.specs.Middles.{middleIn, MiddleKnown, MiddleAs, Middles}
 use Rattle.ending.specs.declared.EndAt.{EndAt}
 use Rattle.ending.specs.declared.EndAt.the-variants as ended
 use Rattle.ending.specs.Ends.{originThen, Before, EndKnown, EndAs, Ends}
@@ -64,7 +64,7 @@ module _ (s : List ℕ) (at : ℕ) (given : Length) (r : MiddleAt) (h : Middles 
     pub middle-within : next ≤ length s
     middle-within = known .within
 
-    then-origin : (l : Locus) (fs : List Field) → restThen (drop at s) l fs ≡ originThen (drop next s) (tableFrom l fs (known .the))
+    then-origin : (l : Locus) (fs : List Field) → restThen (drop at s) l fs ≡ originThen (drop next s) (tableFrom l fs (middleIn s first entry))
     unfolding restThen originThen
     then-origin l fs = ap (afterHeader l fs) (known .is)
 
@@ -72,7 +72,7 @@ module _ (s : List ℕ) (at : ℕ) (given : Length) (r : MiddleAt) (h : Middles 
       pub rest-refused : (why : Unread) → q ≡ ended.Refused why → Rests s given (restThen (drop at s)) (rest.Refused why)
       rest-refused why f =
           let k : EndAs s given (originThen (drop next s)) (ended.Refused why) = subst (λ (x : EndAt). EndAs s given (originThen (drop next s)) x) f (w .is) in
-          record { is = λ l fs d. then-origin l fs ∙ k (tableFrom l fs (known .the)) (table-before given l fs (known .the) d) }
+          record { is = λ l fs d. then-origin l fs ∙ k (tableFrom l fs (middleIn s first entry)) (table-before given l fs (middleIn s first entry) d) }
 
       pub rest-got : (lettersAt n place : ℕ) → q ≡ ended.Got lettersAt n place →
           Rests s given (restThen (drop at s))
@@ -82,9 +82,8 @@ module _ (s : List ℕ) (at : ℕ) (given : Length) (r : MiddleAt) (h : Middles 
           let k : EndKnown s given (originThen (drop next s)) lettersAt n place = subst (λ (x : EndAt). EndAs s given (originThen (drop next s)) x) f (w .is) in
           record {
             is = record {
-              the = known .the;
-              is = λ l fs d. then-origin l fs ∙ k .is (tableFrom l fs (known .the)) (table-before given l fs (known .the) d);
-              stands = record { stands = known .stands; counted = k .counted; lettered = k .lettered; within = k .within };
+              is = λ l fs d. then-origin l fs ∙ k .is (tableFrom l fs (middleIn s first entry)) (table-before given l fs (middleIn s first entry) d);
+              stands = record { middle = known .stands; counted = k .counted; lettered = k .lettered; within = k .within };
             };
           }
 
@@ -132,12 +131,8 @@ module _ (s : List ℕ) (at : ℕ) (p : LocusPlan) (h : Header) (g : Gathered s 
         let k : RestKnown s n (restThen (drop (h .next) s)) x = subst (λ (y : RestAt). RestAs s n (restThen (drop (h .next) s)) y) f (w .is) in
         record {
           is = record {
-            middle = k .the;
             is = then-rest ∙ k .is (planned s p) (fieldsAt (drop at s)) given;
-            locus-ends = b;
-            headed = l;
-            gathered = g;
-            stands = k .stands;
+            stands = record { locus = b; headed = l; header = g; rest = k .stands };
           };
         }
 

@@ -6,7 +6,7 @@ use lib.ListN.{length, drop}
 use Rattle.format.specs.Readers.{whileFits}
 use Rattle.format.specs.Table.{Locus, Table}
 use Rattle.format.specs.Header.{Field, headerField}
-use Rattle.format.specs.Record.{Outcome, Read, Not, withLetters, Middle, middle, tableFrom, afterHeader, header}
+use Rattle.format.specs.Record.{Outcome, Read, Not, withLetters, middle, tableFrom, afterHeader, header}
 use Rattle.format.specs.Rooms.{mayLength}
 use Rattle.format.specs.declared.Length.{Length}
 use Rattle.format.specs.declared.Length.the-variants as bases
@@ -15,7 +15,7 @@ use Rattle.locus.specs.declared.LocusPlan.{LocusPlan}
 use Rattle.locus.specs.declared.LocusPlan.the-variants as locus
 use Rattle.locus.specs.Plans.{planned, PlanEnds}
 use Rattle.gather.specs.Gathered.{fieldsAt, Gathered}
-use Rattle.middle.specs.Middles.{MiddleIs}
+use Rattle.middle.specs.Middles.{middleIn, MiddleStands}
 use Rattle.plan.specs.declared.Rest.{Rest}
 use Rattle.plan.specs.declared.RestAt.{RestAt}
 use Rattle.plan.specs.declared.RestAt.the-variants as rest
@@ -33,20 +33,19 @@ unfoldable pub restThen : List ℕ → Locus → List Field → Outcome
 restThen s l fs = afterHeader l fs (middle s)
 
 -- the table of what was read before and of what a plan says of the rest
-unfoldable pub tableWith : List ℕ → Locus → List Field → Middle → ℕ → Table
-tableWith s l fs m lettersAt = withLetters (tableFrom l fs m) (sifted (drop lettersAt s))
+unfoldable pub tableWith : List ℕ → Locus → List Field → Rest → Table
+tableWith s l fs r = withLetters (tableFrom l fs (middleIn s (r .«features_at») (r .contig))) (sifted (drop (r .«letters_at») s))
 
--- places and counts of the rest, whose middle is m
-pub record RestIs (s : List ℕ) (m : Middle) (r : Rest) : Type 0 where
-  pub stands : MiddleIs s m (r .«features_at») (r .features) (r .contig)
+-- places and counts of the rest
+pub record RestStands (s : List ℕ) (r : Rest) : Type 0 where
+  pub middle : MiddleStands s (r .«features_at») (r .features) (r .contig)
   pub counted : r .letters ≡ length (sifted (drop (r .«letters_at») s))
   pub lettered : r .«letters_at» ≤ length s
   pub within : r .place ≤ length s
 
 pub record RestKnown (s : List ℕ) (given : Length) (o : Locus → List Field → Outcome) (r : Rest) : Type 0 where
-  pub the : Middle
-  pub is : (l : Locus) (fs : List Field) → l .length ≡ mayLength given → o l fs ≡ Read (tableWith s l fs the (r .«letters_at»)) (drop (r .place) s)
-  pub stands : RestIs s the r
+  pub is : (l : Locus) (fs : List Field) → l .length ≡ mayLength given → o l fs ≡ Read (tableWith s l fs r) (drop (r .place) s)
+  pub stands : RestStands s r
 
 abbrev pub RestAs : List ℕ → Length → (Locus → List Field → Outcome) → RestAt → Type 0
 RestAs s given o (rest.Got r) = RestKnown s given o r
@@ -60,14 +59,20 @@ pub record Rests (s : List ℕ) (given : Length) (o : Locus → List Field → O
 unfoldable pub headerThen : Locus → List ℕ → Outcome
 headerThen l s = header l s (whileFits headerField s)
 
--- the table that a plan stands for, and what it is made of
-pub record PlanIs (s : List ℕ) (o : Outcome) (p : Plan) : Type 0 where
-  pub middle : Middle
-  pub is : o ≡ Read (tableWith s (planned s (p .locus)) (fieldsAt (drop (p .«header_at») s)) middle (p .rest .«letters_at»)) (drop (p .rest .place) s)
-  pub locus-ends : PlanEnds (length s) (p .locus)
+-- the table that a plan stands for
+abbrev pub planTable : List ℕ → Plan → Table
+planTable s p = tableWith s (planned s (p .locus)) (fieldsAt (drop (p .«header_at») s)) (p .rest)
+
+-- places and counts of the whole
+pub record PlanStands (s : List ℕ) (p : Plan) : Type 0 where
+  pub locus : PlanEnds (length s) (p .locus)
   pub headed : p .«header_at» ≤ length s
-  pub gathered : Gathered s (p .«header_at») (fieldsAt (drop (p .«header_at») s)) (p .header)
-  pub stands : RestIs s middle (p .rest)
+  pub header : Gathered s (p .«header_at») (fieldsAt (drop (p .«header_at») s)) (p .header)
+  pub rest : RestStands s (p .rest)
+
+pub record PlanIs (s : List ℕ) (o : Outcome) (p : Plan) : Type 0 where
+  pub is : o ≡ Read (planTable s p) (drop (p .rest .place) s)
+  pub stands : PlanStands s p
 
 abbrev pub PlanAs : List ℕ → Outcome → PlanAt → Type 0
 PlanAs s o (plan.Ready p) = PlanIs s o p
