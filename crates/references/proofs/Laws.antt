@@ -1,15 +1,15 @@
 -- A reference from its parts: one law for each way out of each function. Assumes nothing.
 use Prim.Native.Nat.{ℕ, _+_, _≤_}
-use mathlib.Core.Path.{_≡_, refl, sym, ap, _∙_, subst}
-use mathlib.Core.Bool.{Bool, true, false}
-use mathlib.Core.List.{List, [], _++_}
+use mathlib.Core.Path.{_≡_, refl, sym, _∙_, subst}
+use mathlib.Core.Bool.{true, false}
+use mathlib.Core.List.{List}
 use native.Mathlib.Omega.{arith}
 use lib.ListN.{length, drop, length-append}
-use Rattle.format.specs.Bytes.{May, bytes}
+use Rattle.format.specs.Bytes.{bytes}
 use Rattle.format.specs.Readers.{Ans, Got, No, Cut, bind}
 use Rattle.format.specs.Header.{field, maybeField, reference}
 use Rattle.format.specs.Table.{Reference}
-use Rattle.format.specs.Rooms.{pieceText, always, perhaps, piecesText, referencePieces}
+use Rattle.format.specs.Rooms.{pieceText, perhaps, piecesText, referencePieces}
 use Rattle.field.specs.declared.Entry.{Entry}
 use Rattle.field.specs.declared.EntryAt.{EntryAt}
 use Rattle.field.specs.declared.EntryAt.the-variants as entry
@@ -30,7 +30,6 @@ use Rattle.references.specs.declared.Back.{Back}
 use Rattle.references.specs.declared.BackAt.{BackAt}
 use Rattle.references.specs.declared.BackAt.the-variants as back
 use Rattle.references.specs.declared.ReferenceEntries.{ReferenceEntries}
-use Rattle.references.specs.declared.ReferenceAt.{ReferenceAt}
 use Rattle.references.specs.declared.ReferenceAt.the-variants as reference′
 use Rattle.references.specs.Standing.{stands-from, may-from, may-sized}
 use Rattle.references.specs.Parts.{Pair, pairOf, PairKnown, PairAs, Pairs, FrontTexts, upToConsrtm, FrontKnown, FrontAs, Fronts, EndTexts, afterJournal, EndKnown, EndAs, Ends, BackTexts, fromTitle, BackKnown, BackAs, Backs, joinedEntries}
@@ -97,8 +96,8 @@ module _ (s : List ℕ) (at : ℕ) (r : PairAt) (h : Pairs s at (pairOf 0 (bytes
   front-cut e = record { is = rw (cut-pair h e) }
 
   module _
-    (text : Entry) (authors : MayEntry) (n start : ℕ) (q : MayEntryAt) (k : r ≡ pair.Got text authors n start)
-    (m : MayEnter s start true (maybeField 2 (bytes "CONSRTM") true (drop start s)) q) where
+      (text : Entry) (authors : MayEntry) (n start : ℕ) (q : MayEntryAt) (k : r ≡ pair.Got text authors n start)
+      (m : MayEnter s start true (maybeField 2 (bytes "CONSRTM") true (drop start s)) q) where
     pub consrtm-cut : q ≡ may-at.Cut → Fronts s at (upToConsrtm (drop at s)) front.Cut
     unfolding upToConsrtm
     consrtm-cut f = record { is = then-got _ (known-pair h k .is) (rw (cut-may m f)) }
@@ -145,8 +144,8 @@ module _ (s : List ℕ) (at : ℕ) (r : MayEntryAt) (h : MayEnter s at false (ma
   end-cut e = record { is = rw (cut-may h e) }
 
   module _
-    (pubmed : MayEntry) (start : ℕ) (q : MayEntryAt) (k : r ≡ may-at.Got pubmed start)
-    (m : MayEnter s start true (maybeField 2 (bytes "REMARK") true (drop start s)) q) where
+      (pubmed : MayEntry) (start : ℕ) (q : MayEntryAt) (k : r ≡ may-at.Got pubmed start)
+      (m : MayEnter s start true (maybeField 2 (bytes "REMARK") true (drop start s)) q) where
     pub remark-cut : q ≡ may-at.Cut → Ends s at (afterJournal (drop at s)) end.Cut
     unfolding afterJournal
     remark-cut f = record { is = then-got _ (known-may h k .is) (rw (cut-may m f)) }
@@ -191,7 +190,7 @@ module _ (s : List ℕ) (at : ℕ) (r : PairAt) (h : Pairs s at (pairOf 2 (bytes
   back-cut e = record { is = rw (cut-pair h e) }
 
   module _
-    (title : Entry) (journal : MayEntry) (n start : ℕ) (q : EndAt) (k : r ≡ pair.Got title journal n start) (m : Ends s start (afterJournal (drop start s)) q) where
+      (title : Entry) (journal : MayEntry) (n start : ℕ) (q : EndAt) (k : r ≡ pair.Got title journal n start) (m : Ends s start (afterJournal (drop start s)) q) where
     pub ends-cut : q ≡ end.Cut → Backs s at (fromTitle (drop at s)) back.Cut
     unfolding fromTitle
     ends-cut f = record { is = then-got _ (known-pair h k .is) (rw (cut-end m f)) }
