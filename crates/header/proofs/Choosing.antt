@@ -1,14 +1,13 @@
 -- One reader or else another, lines that are dropped, and entries that may be missing. Assumes nothing.
 use Prim.Native.Nat.{ℕ, _≤_}
-use mathlib.Core.Path.{_≡_, refl, sym, ap, _∙_, subst}
+use mathlib.Core.Path.{_≡_, refl, sym, ap, _∙_}
 use mathlib.Core.Bool.{Bool, true, false}
 use mathlib.Core.List.{List}
 use native.Mathlib.Omega.{arith}
 use lib.ListN.{length, drop}
-use Rattle.format.specs.Bytes.{May, absent, is, bytes}
-use Rattle.format.specs.Readers.{Ans, Got, No, Cut, passing, orElse, optional, unless, tag, line, utf8Of, bind}
+use Rattle.format.specs.Bytes.{absent, is, bytes}
+use Rattle.format.specs.Readers.{Ans, Got, No, Cut, passing, orElse, optional, unless, tag, line, utf8Of}
 use Rattle.format.specs.Header.{field, maybeField, source, ignoredLine}
-use Rattle.format.specs.Table.{Source}
 use Rattle.chars.specs.declared.Step.{Step}
 use Rattle.chars.specs.declared.Step.the-variants as step
 use Rattle.chars.specs.declared.Line.{Line}

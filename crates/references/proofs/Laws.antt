@@ -1,15 +1,15 @@
 -- A reference from its parts: one law for each way out of each function. Assumes nothing.
 use Prim.Native.Nat.{ℕ, _+_, _≤_}
-use mathlib.Core.Path.{_≡_, refl, sym, ap, _∙_, subst}
-use mathlib.Core.Bool.{Bool, true, false}
-use mathlib.Core.List.{List, [], _++_}
+use mathlib.Core.Path.{_≡_, refl, sym, _∙_, subst}
+use mathlib.Core.Bool.{true, false}
+use mathlib.Core.List.{List}
 use native.Mathlib.Omega.{arith}
 use lib.ListN.{length, drop, length-append}
-use Rattle.format.specs.Bytes.{May, bytes}
+use Rattle.format.specs.Bytes.{bytes}
 use Rattle.format.specs.Readers.{Ans, Got, No, Cut, bind}
 use Rattle.format.specs.Header.{field, maybeField, reference}
 use Rattle.format.specs.Table.{Reference}
-use Rattle.format.specs.Rooms.{pieceText, always, perhaps, piecesText, referencePieces}
+use Rattle.format.specs.Rooms.{pieceText, perhaps, piecesText, referencePieces}
 use Rattle.field.specs.declared.Entry.{Entry}
 use Rattle.field.specs.declared.EntryAt.{EntryAt}
 use Rattle.field.specs.declared.EntryAt.the-variants as entry
@@ -30,7 +30,6 @@ use Rattle.references.specs.declared.Back.{Back}
 use Rattle.references.specs.declared.BackAt.{BackAt}
 use Rattle.references.specs.declared.BackAt.the-variants as back
 use Rattle.references.specs.declared.ReferenceEntries.{ReferenceEntries}
-use Rattle.references.specs.declared.ReferenceAt.{ReferenceAt}
 use Rattle.references.specs.declared.ReferenceAt.the-variants as reference′
 use Rattle.references.specs.Standing.{stands-from, may-from, may-sized}
 use Rattle.references.specs.Parts.{Pair, pairOf, PairKnown, PairAs, Pairs, FrontTexts, upToConsrtm, FrontKnown, FrontAs, Fronts, EndTexts, afterJournal, EndKnown, EndAs, Ends, BackTexts, fromTitle, BackKnown, BackAs, Backs, joinedEntries}
