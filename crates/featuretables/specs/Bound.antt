@@ -3,12 +3,11 @@ use Prim.Native.Nat.{ℕ, zero, suc, _+_, _-_, _*_, _/_, _≤_}
 use native.Mathlib.Omega.{arith}
 use mathlib.Core.Path.{_≡_, refl}
 use mathlib.Core.Bool.{Bool, true, false, _&&_, false≢true}
-use mathlib.Core.List.{List, [], _∷_, _++_}
-use lib.Dec.{eqb, leb}
+use mathlib.Core.List.{List, _++_}
+use lib.Dec.{eqb}
 use lib.ListN.{length, getD, length-append}
 use borrow.Author.Tests.{leb-true, eqb-true}
 use Rattle.format.specs.Bytes.{bytes, spaces, each}
-use Rattle.format.specs.Table.{Feature}
 use Rattle.format.specs.Rooms.{Rooms, cut, textIn, perhapsText, rowsFrom, qualifierIn, featureIn, rowTextFine, qualifiersFine, featuresFine}
 use Rattle.format.specs.Wrap.{wrapLocation}
 use Rattle.format.specs.Write.{keyText, qualifierText, qualifierLines, featureLines, featuresLines}

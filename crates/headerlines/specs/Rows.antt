@@ -1,10 +1,10 @@
 -- Rows written one after the other, and texts that may be absent.
 use Prim.Native.Nat.{ℕ, zero, suc, _+_, _-_, _*_, _≤_, _<_}
 use mathlib.Core.Path.{_≡_, refl, sym}
-use mathlib.Core.List.{List, [], _∷_, _++_, append-nil}
+use mathlib.Core.List.{List, [], _++_, append-nil}
 use native.Mathlib.Omega.{arith}
-use Rattle.format.specs.Bytes.{each}
-use Rattle.format.specs.Rooms.{rowsFrom}
+use Rattle.format.specs.Bytes.{May, absent, is, each}
+use Rattle.format.specs.Rooms.{rowsFrom, cut, perhapsText}
 use Rattle.pen.specs.Pen.{Writes, Left, left-step, left-as, left-end}
 
 -- of the rows from row p up to row e, one is written; none is left
@@ -32,3 +32,11 @@ none-after f g w i n x e = rw e (sym (append-nil x))
 -- the length of a part of a store
 pub part-is : (start n : ℕ) → start + n - start ≡ n
 part-is start n = omega arith
+
+-- a text of a row that is absent; one that is there
+pub perhaps-none : (store : List ℕ) (start n : ℕ) → n ≡ 0 → absent ≡ perhapsText store start n
+perhaps-none store start n e = rw e
+
+pub perhaps-some : (store : List ℕ) (start n : ℕ) → (n ≡ 0 → ⊥) → is (cut store start (n - 1)) ≡ perhapsText store start n
+perhaps-some store start zero h = absurd (h refl)
+perhaps-some store start (suc n) h = let k : suc n - 1 ≡ n = omega arith in rw k

@@ -3,7 +3,7 @@ use fieldlines::put_field;
 use format::Head;
 use format::SourceText;
 use format::Text;
-ghost use mathlib.Core.List.{[], _++_};
+ghost use mathlib.Core.List.{[]};
 ghost use Prim.Native.Nat.{_+_, _≤_, _<_};
 ghost use lib.ListN.{length};
 ghost use Rattle.format.specs.Bytes.{bytes, each};

@@ -5,7 +5,6 @@ use mathlib.Core.Path.{_≡_}
 use mathlib.Core.Bool.{true}
 use mathlib.Core.List.{List}
 use lib.ListN.{length, take, length-take}
-use Rattle.format.specs.Bytes.{bytes}
 use Rattle.format.specs.Rooms.{Rooms, cut, mayText, featuresFine, roomsFine, tableOf}
 use Rattle.format.specs.Write.{contigLines, originLines}
 use Rattle.format.specs.declared.Head.{Head}

@@ -1,12 +1,12 @@
 -- Key and value, which is absent where its length plus one is 0.
-use Rattle.featuretables.specs.Table.{flag-is, value-is}
 use Rattle.format.specs.Rooms.{qualifierIn, textIn}
-use Rattle.format.specs.Write.{qualifierLines}
-use Rattle.headerlines.specs.Rows.{part-is}
+use Rattle.format.specs.Write.{qualifierText, qualifierLines}
+use Rattle.headerlines.specs.Rows.{part-is, perhaps-none, perhaps-some}
 use Rattle.pen.specs.Pen.{writes-as}
 use borrow.Author.Needs.{needs}
 use denote.Ref.{now}
 use lib.ListN.{length-take, length-drop}
+use mathlib.Core.Path.{ap}
 use native.Mathlib.Omega.{arith}
 use Rattle.featuretables.proofs.put_qualifier.Statement.{statement}
 use Rattle.featuretables.proofs.put_qualifier.Tie as tie
@@ -58,7 +58,7 @@ same-length c = search needs
 
 returns : tie.Need-returns
 unfolding qualifierLines qualifierIn
-returns c = writes-as (flag-is (c .before .before .before .before .before .before .before .before .before .before .before .before .args .width) (textIn (now (c .before .before .before .before .before .before .before .before .before .before .before .before .args .texts)) (now (c .before .before .before .before .before .before .before .before .before .before .before .before .args .qualifiers)) (c .before .before .before .before .before .before .before .before .before .before .before .before .args .row)) (now (c .before .before .before .before .before .before .before .before .before .before .before .before .args .texts)) _ _ (c .before .before .before .before .before .if1 .taken)) (simp part-is at (c .before .before .put-flag .ensures))
+returns c = writes-as (ap (qualifierText (c .before .before .before .before .before .before .before .before .before .before .before .before .args .width) (textIn (now (c .before .before .before .before .before .before .before .before .before .before .before .before .args .texts)) (now (c .before .before .before .before .before .before .before .before .before .before .before .before .args .qualifiers)) (c .before .before .before .before .before .before .before .before .before .before .before .before .args .row))) (perhaps-none (now (c .before .before .before .before .before .before .before .before .before .before .before .before .args .texts)) _ _ (c .before .before .before .before .before .if1 .taken))) (simp part-is at (c .before .before .put-flag .ensures))
 
 mul-start : tie.Need-mul-start
 mul-start c = search needs
@@ -98,7 +98,7 @@ same-length-2 c = search needs
 
 returns-2 : tie.Need-returns-2
 unfolding qualifierLines qualifierIn
-returns-2 c = writes-as (value-is (c .before .before .before .before .before .before .before .before .before .before .before .before .before .before .args .width) (textIn (now (c .before .before .before .before .before .before .before .before .before .before .before .before .before .before .args .texts)) (now (c .before .before .before .before .before .before .before .before .before .before .before .before .before .before .args .qualifiers)) (c .before .before .before .before .before .before .before .before .before .before .before .before .before .before .args .row)) (now (c .before .before .before .before .before .before .before .before .before .before .before .before .before .before .args .texts)) _ _ (c .before .before .before .before .before .before .before .if1 .left)) (simp part-is at (c .before .before .put-value .ensures))
+returns-2 c = writes-as (ap (qualifierText (c .before .before .before .before .before .before .before .before .before .before .before .before .before .before .args .width) (textIn (now (c .before .before .before .before .before .before .before .before .before .before .before .before .before .before .args .texts)) (now (c .before .before .before .before .before .before .before .before .before .before .before .before .before .before .args .qualifiers)) (c .before .before .before .before .before .before .before .before .before .before .before .before .before .before .args .row))) (perhaps-some (now (c .before .before .before .before .before .before .before .before .before .before .before .before .before .before .args .texts)) _ _ (c .before .before .before .before .before .before .before .if1 .left))) (simp part-is at (c .before .before .put-value .ensures))
 
 pub put-qualifier-spec : {M : Type 1} → statement M
 put-qualifier-spec =

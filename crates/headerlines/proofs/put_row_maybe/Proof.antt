@@ -1,8 +1,10 @@
 -- Absent where the length plus one is 0.
-use Rattle.headerlines.specs.Header.{lines-absent, lines-are}
+use Rattle.format.specs.Write.{maybeLines}
+use Rattle.headerlines.specs.Rows.{perhaps-none, perhaps-some}
 use Rattle.pen.specs.Pen.{writes-nil, writes-as}
 use borrow.Author.Needs.{needs}
 use denote.Ref.{now}
+use mathlib.Core.Path.{ap}
 use native.Mathlib.Omega.{arith}
 use Rattle.headerlines.proofs.put_row_maybe.Statement.{statement}
 use Rattle.headerlines.proofs.put_row_maybe.Tie as tie
@@ -17,7 +19,7 @@ shared-slice-read-n : tie.Need-shared-slice-read-n
 shared-slice-read-n c = search needs
 
 returns : tie.Need-returns
-returns c = writes-as (lines-absent (c .before .before .before .before .before .before .args .width) (now (c .before .before .before .before .before .before .args .word)) (now (c .before .before .before .before .before .before .args .texts)) _ _ (c .if1 .taken)) writes-nil
+returns c = writes-as (ap (maybeLines (c .before .before .before .before .before .before .args .width) (now (c .before .before .before .before .before .before .args .word))) (perhaps-none (now (c .before .before .before .before .before .before .args .texts)) _ _ (c .if1 .taken))) writes-nil
 
 mul-put-span : tie.Need-mul-put-span
 mul-put-span c = search needs
@@ -35,7 +37,7 @@ same-length : tie.Need-same-length
 same-length c = search needs
 
 returns-2 : tie.Need-returns-2
-returns-2 c = writes-as (lines-are (c .before .before .before .before .before .before .before .before .before .before .before .args .width) (now (c .before .before .before .before .before .before .before .before .before .before .before .args .word)) (now (c .before .before .before .before .before .before .before .before .before .before .before .args .texts)) _ _ (c .before .before .before .before .before .if1 .left)) (c .before .before .put-span .ensures)
+returns-2 c = writes-as (ap (maybeLines (c .before .before .before .before .before .before .before .before .before .before .before .args .width) (now (c .before .before .before .before .before .before .before .before .before .before .before .args .word))) (perhaps-some (now (c .before .before .before .before .before .before .before .before .before .before .before .args .texts)) _ _ (c .before .before .before .before .before .if1 .left))) (c .before .before .put-span .ensures)
 
 pub put-row-maybe-spec : {M : Type 1} → statement M
 put-row-maybe-spec =
