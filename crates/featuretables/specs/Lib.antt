@@ -1,0 +1,2 @@
+-- The lines of features in rooms.
+pub mod Table

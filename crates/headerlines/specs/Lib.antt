@@ -1,0 +1,3 @@
+-- The lines of the header.
+pub mod Rows
+pub mod Header

@@ -1,0 +1,2 @@
+-- The lines after LOCUS.
+pub mod Body
