@@ -1,0 +1,3 @@
+-- What the writers answer.
+pub mod Bound
+pub mod Writer
