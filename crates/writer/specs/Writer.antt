@@ -1,10 +1,10 @@
 -- What the writers answer and leave in the slice that they are lent, and the steps by which they find it.
 use Prim.Native.Nat.{ℕ, _+_, _^_, _≤_, _<_}
-use mathlib.Core.Path.{_≡_, refl, sym, ap, _∙_}
+use mathlib.Core.Path.{_≡_, refl, sym, _∙_}
 use mathlib.Core.Bool.{Bool, true, false, not}
-use mathlib.Core.List.{List, [], _++_}
+use mathlib.Core.List.{List}
 use native.Mathlib.Omega.{arith}
-use lib.ListN.{length, drop}
+use lib.ListN.{length}
 use lib.Dec.{leb}
 use borrow.Author.Tests.{le-leb, lt-leb, leb-true, not-true, not-false}
 use Rattle.format.specs.Answers.{room, plainAnswer, keepingAnswer, sliceAfter}
@@ -19,7 +19,6 @@ use Rattle.format.specs.declared.Unwritten.the-variants as unwritten
 use Rattle.format.specs.declared.WriteAnswer.{WriteAnswer}
 use Rattle.format.specs.declared.WriteAnswer.the-variants as answer
 use Rattle.pen.specs.Pen.{Writes, wrote-eq}
-use Rattle.table.specs.Facts.{RoomsIn, rooms-in}
 use Rattle.table.specs.Steps.{and-left, and-right}
 use Rattle.writer.specs.declared.Verdict.{Verdict}
 use Rattle.writer.specs.declared.Verdict.the-variants as verdict
@@ -48,6 +47,21 @@ abbrev pub answered : Verdict → WriteAnswer → WriteAnswer
 answered verdict.Fine a = a
 answered (verdict.Not why) a = answer.Refused why
 
+-- what is known of a table that gets as far as number 11
+pub record Passed (W : ℕ) (r : Rooms) (h : Head) : Type 0 where
+  pub rooms : roomsFine r h ≡ true
+  pub narrowest : 60 ≤ W
+  pub widest : W ≤ 132
+
+width-facts : (W : ℕ) → widthFine W ≡ true → (60 ≤ W) × (W ≤ 132)
+width-facts W k = (leb-true 60 W (and-left (leb 60 W) (leb W 132) k), leb-true W 132 (and-right (leb 60 W) (leb W 132) k))
+
+-- the first two tests of `judge` held
+pub passed-two : (W : ℕ) (r : Rooms) (h : Head) (a b : Bool) → a ≡ widthFine W → not a ≡ false → b ≡ roomsFine r h → not b ≡ false → Passed W r h
+passed-two W r h a b e t f u =
+    let w : (60 ≤ W) × (W ≤ 132) = width-facts W (sym e ∙ not-false a t) in
+    record { rooms = sym f ∙ not-false b u; narrowest = w .0; widest = w .1 }
+
 module _ (W : ℕ) (truncate escape : Bool) (r : Rooms) (h : Head) where
   pub verdict-width : (a : Bool) → a ≡ widthFine W → not a ≡ true → verdict.Not unwritten.BadWidth ≡ verdictOf W truncate escape r h
   unfolding verdictOf
@@ -67,34 +81,19 @@ module _ (W : ℕ) (truncate escape : Bool) (r : Rooms) (h : Head) where
       unfolding verdictOf
       verdict-fine v = rw (← e, not-false a t, ← f, not-false b u, ← g, not-false c v)
 
-  -- what is known of a table that can be written
-  pub record Passed : Type 0 where
-    pub rooms : RoomsIn r h
-    pub narrowest : 60 ≤ W
-    pub widest : W ≤ 132
-
-  pub width-facts : (a : Bool) → a ≡ widthFine W → not a ≡ false → (60 ≤ W) × (W ≤ 132)
-  width-facts a e t = facts (sym e ∙ not-false a t)
-    where
-      facts : widthFine W ≡ true → (60 ≤ W) × (W ≤ 132)
-      facts k = (leb-true 60 W (and-left (leb 60 W) (leb W 132) k), leb-true W 132 (and-right (leb 60 W) (leb W 132) k))
-
-  pub rooms-facts : (b : Bool) → b ≡ roomsFine r h → not b ≡ false → RoomsIn r h
-  rooms-facts b f u = rooms-in r h (sym f ∙ not-false b u)
-
-  pub passed : (v : Verdict) → v ≡ verdictOf W truncate escape r h → v ≡ verdict.Fine → Passed
+  pub passed : (v : Verdict) → v ≡ verdictOf W truncate escape r h → v ≡ verdict.Fine → Passed W r h
   unfolding verdictOf
   passed v e f = go (widthFine W) refl (roomsFine r h) refl
     where
-      none : {why : Unwritten} → verdict.Not why ≡ verdict.Fine → ⊥
-      none k = let z : _≡_ {A = ℕ} 0 1 = cc in omega arith
+      none : (why : Unwritten) → verdict.Not why ≡ verdict.Fine → ⊥
+      none why k = let z : _≡_ {A = ℕ} 0 1 = cc in omega arith
 
-      go : (a : Bool) → widthFine W ≡ a → (b : Bool) → roomsFine r h ≡ b → Passed
-      go false p b q = absurd (none (sym (rw p at e) ∙ f))
-      go true p false q = absurd (none (sym (rw (p, q) at e) ∙ f))
+      go : (a : Bool) → widthFine W ≡ a → (b : Bool) → roomsFine r h ≡ b → Passed W r h
+      go false p b q = absurd (none _ (sym (rw p at e) ∙ f))
+      go true p false q = absurd (none _ (sym (rw (p, q) at e) ∙ f))
       go true p true q =
-          let w : (60 ≤ W) × (W ≤ 132) = width-facts true (sym p) refl in
-          record { rooms = rooms-in r h q; narrowest = w .0; widest = w .1 }
+          let w : (60 ≤ W) × (W ≤ 132) = width-facts W p in
+          record { rooms = q; narrowest = w .0; widest = w .1 }
 
   plain-is : (n : ℕ) → plainAnswer W truncate escape r h n ≡ answered (verdictOf W truncate escape r h) (room n (length (written W truncate escape (tableOf r h))))
   unfolding plainAnswer verdictOf

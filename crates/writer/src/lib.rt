@@ -11,15 +11,13 @@ use rules::well_formed;
 use table::both;
 use table::rooms_fine;
 ghost use mathlib.Core.Path.{_≡_};
-ghost use Prim.Native.Nat.{_≤_};
 ghost use Rattle.format.specs.Rooms.{tableOf};
 ghost use Rattle.format.specs.WellFormed.{widthFine};
 ghost use Rattle.format.specs.Write.{written};
 ghost use Rattle.pen.specs.Pen.{Writes};
 ghost use Rattle.rules.specs.Rules.{keepsRules};
-ghost use Rattle.table.specs.Facts.{RoomsIn};
 ghost use Rattle.table.specs.Parts.{allRooms};
-ghost use Rattle.writer.specs.Writer.{PlainAnswered, KeepingAnswered, verdictOf, Roomed, Kept};
+ghost use Rattle.writer.specs.Writer.{PlainAnswered, KeepingAnswered, Passed, verdictOf, Roomed, Kept};
 
 fn width_fine(width: usize) -> bool
     ensures { λ r. ⌜ r ≡ widthFine width ⌝ }
@@ -91,7 +89,7 @@ fn put_record(
     truncate: bool,
     escape: bool,
 ) -> usize
-    requires { ⌜ RoomsIn (allRooms (now texts) (now references) (now comments) (now features) (now qualifiers) (now letters)) head × (60 ≤ width) × (width ≤ 132) ⌝ }
+    requires { ⌜ Passed width (allRooms (now texts) (now references) (now comments) (now features) (now qualifiers) (now letters)) head ⌝ }
     ensures { λ r. ⌜ Writes (now (out .entry)) at (written width truncate escape (tableOf (allRooms (now (texts .entry)) (now (references .entry)) (now (comments .entry)) (now (features .entry)) (now (qualifiers .entry)) (now (letters .entry))) head)) (now (out .exit)) r ⌝ }
 {
     let a = put_locus(out, at, texts, head, truncate, escape);
@@ -123,7 +121,7 @@ fn write_fine(
     truncate: bool,
     escape: bool,
 ) -> WriteAnswer
-    requires { ⌜ RoomsIn (allRooms (now texts) (now references) (now comments) (now features) (now qualifiers) (now letters)) head × (60 ≤ width) × (width ≤ 132) ⌝ }
+    requires { ⌜ Passed width (allRooms (now texts) (now references) (now comments) (now features) (now qualifiers) (now letters)) head ⌝ }
     ensures { λ r. ⌜ Roomed (written width truncate escape (tableOf (allRooms (now (texts .entry)) (now (references .entry)) (now (comments .entry)) (now (features .entry)) (now (qualifiers .entry)) (now (letters .entry))) head)) (now (out .entry)) (now (out .exit)) r ⌝ }
 {
     let n = put_record(
@@ -173,7 +171,7 @@ fn keep_fine(
     truncate: bool,
     escape: bool,
 ) -> WriteAnswer
-    requires { ⌜ RoomsIn (allRooms (now texts) (now references) (now comments) (now features) (now qualifiers) (now letters)) head × (60 ≤ width) × (width ≤ 132) ⌝ }
+    requires { ⌜ Passed width (allRooms (now texts) (now references) (now comments) (now features) (now qualifiers) (now letters)) head ⌝ }
     ensures { λ r. ⌜ Kept (keepsRules width truncate escape (tableOf (allRooms (now (texts .entry)) (now (references .entry)) (now (comments .entry)) (now (features .entry)) (now (qualifiers .entry)) (now (letters .entry))) head)) (written width truncate escape (tableOf (allRooms (now (texts .entry)) (now (references .entry)) (now (comments .entry)) (now (features .entry)) (now (qualifiers .entry)) (now (letters .entry))) head)) (now (out .entry)) (now (out .exit)) r ⌝ }
 {
     if !keeps(

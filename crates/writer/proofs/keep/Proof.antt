@@ -1,15 +1,10 @@
-use Prim.Native.Nat.{ℕ, suc, _+_, _-_, _*_, _/_, _%_, _≤_, _<_}
-use mathlib.Core.Path.{_≡_, refl, sym, ap, _∙_}
-use lib.ListN.{length, getD, take, drop, set}
-use native.Mathlib.Omega.{arith}
+-- By the verdict.
+use Rattle.table.specs.Parts.{allRooms}
+use Rattle.writer.specs.Writer.{passed, keeping-refused, keeping-fine}
 use denote.Ref.{now}
 use borrow.Author.Needs.{needs}
 use Rattle.writer.proofs.keep.Statement.{statement}
 use Rattle.writer.proofs.keep.Tie as tie
-use Rattle.writer.proofs.keep.Reads as reads
-use Rattle.writer.proofs.keep.Lts as lts
-use Rattle.writer.proofs.judge.Reads as judge-reads
-use Rattle.writer.proofs.keep_fine.Reads as keep-fine-reads
 
 judge-requires : tie.Need-judge-requires
 judge-requires c κs = search needs
@@ -21,16 +16,16 @@ enum-told : tie.Need-enum-told
 enum-told c = search needs
 
 keep-fine-requires : tie.Need-keep-fine-requires
-keep-fine-requires c κs = search needs
+keep-fine-requires c κs = passed (c .before .before .before .before .before .before .before .before .before .before .before .args .width) (c .before .before .before .before .before .before .before .before .before .before .before .args .truncate) (c .before .before .before .before .before .before .before .before .before .before .before .args .escape) (allRooms (now (c .before .before .before .before .before .before .before .before .before .before .before .args .texts)) (now (c .before .before .before .before .before .before .before .before .before .before .before .args .references)) (now (c .before .before .before .before .before .before .before .before .before .before .before .args .comments)) (now (c .before .before .before .before .before .before .before .before .before .before .before .args .features)) (now (c .before .before .before .before .before .before .before .before .before .before .before .args .qualifiers)) (now (c .before .before .before .before .before .before .before .before .before .before .before .args .letters))) (c .before .before .before .before .before .before .before .before .before .before .before .args .head) _ (c .before .before .before .judge .ensures) (c .before .enum-told .given .1)
 
 returns : tie.Need-returns
-returns c = search needs
+returns c = keeping-refused (c .before .before .before .before .before .before .before .before .before .before .before .args .width) (c .before .before .before .before .before .before .before .before .before .before .before .args .truncate) (c .before .before .before .before .before .before .before .before .before .before .before .args .escape) (allRooms (now (c .before .before .before .before .before .before .before .before .before .before .before .args .texts)) (now (c .before .before .before .before .before .before .before .before .before .before .before .args .references)) (now (c .before .before .before .before .before .before .before .before .before .before .before .args .comments)) (now (c .before .before .before .before .before .before .before .before .before .before .before .args .features)) (now (c .before .before .before .before .before .before .before .before .before .before .before .args .qualifiers)) (now (c .before .before .before .before .before .before .before .before .before .before .before .args .letters))) (c .before .before .before .before .before .before .before .before .before .before .before .args .head) _ (c .before .before .before .judge .ensures) (now (c .before .before .before .before .before .before .before .before .before .before .before .args .out)) _ (c .before .verdict .given .1)
 
 same-length : tie.Need-same-length
 same-length c = search needs
 
 returns-2 : tie.Need-returns-2
-returns-2 c = search needs
+returns-2 c = keeping-fine (c .before .before .before .before .before .before .before .before .before .before .before .before .before .before .args .width) (c .before .before .before .before .before .before .before .before .before .before .before .before .before .before .args .truncate) (c .before .before .before .before .before .before .before .before .before .before .before .before .before .before .args .escape) (allRooms (now (c .before .before .before .before .before .before .before .before .before .before .before .before .before .before .args .texts)) (now (c .before .before .before .before .before .before .before .before .before .before .before .before .before .before .args .references)) (now (c .before .before .before .before .before .before .before .before .before .before .before .before .before .before .args .comments)) (now (c .before .before .before .before .before .before .before .before .before .before .before .before .before .before .args .features)) (now (c .before .before .before .before .before .before .before .before .before .before .before .before .before .before .args .qualifiers)) (now (c .before .before .before .before .before .before .before .before .before .before .before .before .before .before .args .letters))) (c .before .before .before .before .before .before .before .before .before .before .before .before .before .before .args .head) _ (c .before .before .before .before .before .before .judge .ensures) (now (c .before .before .before .before .before .before .before .before .before .before .before .before .before .before .args .out)) _ _ (c .before .before .before .before .enum-told .given .1) (c .before .before .keep-fine .ensures)
 
 pub keep-spec : {M : Type 1} → statement M
 keep-spec =
