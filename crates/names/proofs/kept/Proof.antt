@@ -1,9 +1,9 @@
--- `locusline::kept` meets its contract.
+-- `names::kept` meets its contract.
 use denote.Ref.{now}
-use Rattle.locusline.specs.Locus.{kept-cut, kept-short, kept-all}
+use Rattle.names.specs.Names.{kept-cut, kept-short, kept-all}
 use borrow.Author.Needs.{needs}
-use Rattle.locusline.proofs.kept.Statement.{statement}
-use Rattle.locusline.proofs.kept.Tie as tie
+use Rattle.names.proofs.kept.Statement.{statement}
+use Rattle.names.proofs.kept.Tie as tie
 
 add-if2 : tie.Need-add-if2
 add-if2 c = search needs
