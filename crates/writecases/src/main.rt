@@ -225,29 +225,17 @@ fn all_edges() {
     edges(132);
 }
 
-fn kinds_and_keys(width: usize) {
-    say(
-        b"== a kind of 15, of 16, a key of 35, of 36, at width",
-        width,
-    );
+fn kinds(width: usize) {
+    say(b"== a kind of 15, of 16, at width", width);
     feature_case(b"abcdefghijklmno", b"1..12", b"note", 1, b"", width);
     feature_case(b"abcdefghijklmnop", b"1..12", b"note", 1, b"", width);
-    feature_case(
-        b"CDS",
-        b"1",
-        b"abcdefghijklmnopqrstuvwxyzabcdefghi",
-        1,
-        b"",
-        width,
-    );
-    feature_case(
-        b"CDS",
-        b"1",
-        b"abcdefghijklmnopqrstuvwxyzabcdefghij",
-        1,
-        b"",
-        width,
-    );
+}
+
+// Two keys, of W - 25 bytes and of one more.
+fn long_keys(fits: &[u8], over: &[u8], width: usize) {
+    say(b"== a key of W - 25, of one byte more, at width", width);
+    feature_case(b"CDS", b"1", fits, 1, b"", width);
+    feature_case(b"CDS", b"1", over, 1, b"", width);
 }
 
 fn locations(width: usize) {
@@ -363,27 +351,21 @@ fn sequences() {
     letters_case(121, 121);
 }
 
-// A record whose name is the whole store but for its last three bytes.
+// A record with that name, a molecule type of eight bytes, and no date.
 fn name_case(name: &[u8], bases: u32, truncate: bool, escape: bool) {
     let mut texts = [0u8; 128];
     let a = pen::put_bytes(&mut texts, 0, name);
-    let b = pen::put_bytes(&mut texts, a, b"mRNA-ctDSYN");
-    let c = span(a, b);
+    let b = pen::put_bytes(&mut texts, a, b"mRNA-ctD");
+    let c = pen::put_bytes(&mut texts, b, b"SYN");
     let mut out = [0u8; 512];
     let rows = [0usize; 0];
     let letters = [0u8; 0];
     let head = Head {
         name: Text::At(span(0, a)),
         length: Length::Bases(bases),
-        molecule: Text::At(Span {
-            start: c.start,
-            length: 8,
-        }),
+        molecule: Text::At(span(a, b)),
         circular: true,
-        division: Span {
-            start: c.start,
-            length: 3,
-        },
+        division: span(b, c),
         date: Dated::Absent,
         definition: Text::Absent,
         accession: Text::Absent,
@@ -602,8 +584,18 @@ fn run_examples() {
 
 fn main() {
     all_edges();
-    kinds_and_keys(60);
-    kinds_and_keys(80);
+    kinds(60);
+    kinds(80);
+    long_keys(
+        b"abcdefghijklmnopqrstuvwxyzabcdefghi",
+        b"abcdefghijklmnopqrstuvwxyzabcdefghij",
+        60,
+    );
+    long_keys(
+        b"abcdefghijklmnopqrstuvwxyzabcdefghijklmnopqrstuvwxyzabc",
+        b"abcdefghijklmnopqrstuvwxyzabcdefghijklmnopqrstuvwxyzabcd",
+        80,
+    );
     locations(60);
     locations(80);
     bare_keys();
