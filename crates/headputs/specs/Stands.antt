@@ -6,7 +6,8 @@ use mathlib.Core.Bool.{Bool, true}
 use mathlib.Core.List.{List, _++_, append-assoc, append-nil}
 use native.Mathlib.Omega.{arith}
 use lib.ListN.{length, length-append, length-take, length-drop}
-use Rattle.format.specs.Bytes.{May, absent, is}
+use Rattle.format.specs.Bytes.{May, absent, is, bytes}
+use Rattle.format.specs.Header.{Field, latest, textIn, sourceIn}
 use Rattle.format.specs.Table.{Locus, Source, Table}
 use Rattle.format.specs.Rooms.{pieceText, perhaps, piecesText, headPieces, sourceOf, organismOf, startOf, spanOf, textAt, sourceAt, lengthOf, contigAt, headOf}
 use Rattle.format.specs.declared.Span.{Span}
@@ -17,15 +18,17 @@ use Rattle.format.specs.declared.Head.{Head}
 use Rattle.tokens.specs.Parts.{spanned, Ends}
 use Rattle.locus.specs.declared.LocusPlan.{LocusPlan}
 use Rattle.locus.specs.declared.LocusPlan.the-variants as plan
-use Rattle.locus.specs.Plans.{textIn, planned, TextEnds, PlanEnds}
+use Rattle.locus.specs.Plans as plans
+use Rattle.locus.specs.Plans.{planned, TextEnds, PlanEnds}
 use Rattle.header.specs.declared.MayEntry.{MayEntry}
 use Rattle.header.specs.declared.MayEntry.the-variants as may
 use Rattle.header.specs.Fields.{Stands, MayStand, mayLength}
+use Rattle.references.specs.Parts.{size}
 use Rattle.references.specs.Standing.{may-sized}
 use Rattle.gather.specs.declared.MaySource.{MaySource}
 use Rattle.gather.specs.declared.MaySource.the-variants as found
 use Rattle.gather.specs.declared.Header.{Header}
-use Rattle.gather.specs.Gathered.{SourceStands}
+use Rattle.gather.specs.Gathered.{SourceStands, Gathers}
 use Rattle.headputs.specs.declared.LocusHead.{LocusHead}
 use Rattle.headputs.specs.declared.HeaderTexts.{HeaderTexts}
 use Rattle.headputs.specs.Texts.{textOf, locusText, mayText, sourceText, headText, EntryGets, MayGets, SourceGets, HeadGets}
@@ -41,10 +44,6 @@ pub record HeadStands (s : List ℕ) (at : ℕ) (locus : LocusPlan) (h : Header)
   pub dblink : MayStand s at true (t .dblink) (h .dblink)
   pub keywords : MayStand s at true (t .keywords) (h .keywords)
   pub source : SourceStands s at (t .source) (h .source)
-
--- how many bytes a text has that may be absent
-abbrev size : May (List ℕ) → ℕ
-size t = length (pieceText (perhaps t))
 
 -- ---- one text of the header
 
@@ -114,15 +113,15 @@ module _ (s : List ℕ) where
   span-length : (x : Span) → Ends (length s) x → length (spanned s x) ≡ x .length
   span-length x h = simp (length-take, length-drop) (omega arith)
 
-  text-is : (x : Text) → textOf s x ≡ pieceText (perhaps (textIn s x))
+  text-is : (x : Text) → textOf s x ≡ pieceText (perhaps (plans.textIn s x))
   text-is text.Absent = refl
   text-is (text.At x) = refl
 
-  text-sized : (x : Text) → TextEnds (length s) x → textLength x ≡ size (textIn s x)
+  text-sized : (x : Text) → TextEnds (length s) x → textLength x ≡ size (plans.textIn s x)
   text-sized text.Absent h = refl
   text-sized (text.At x) h = sym (span-length x h)
 
-  text-placed : (place : ℕ) (x : Text) → TextEnds (length s) x → textFrom place x ≡ textAt place (textIn s x)
+  text-placed : (place : ℕ) (x : Text) → TextEnds (length s) x → textFrom place x ≡ textAt place (plans.textIn s x)
   text-placed place text.Absent h = refl
   text-placed place (text.At x) h = rw (span-length x h)
 
@@ -364,3 +363,21 @@ module _ (s : List ℕ) (at : ℕ) (locus : LocusPlan) (h : Header) (t : Table) 
           z ≡ sourceAt (y .next) (y .next + size (sourceOf (t .source))) (t .source) →
           headFrom x y z (h .references) (h .comments) features (entryAt place contig) letters ≡ headOf t
       go x a y b z d = rw (d, b, a, r, c, f, p, may-at s from keep (contigAt t) (t .contig) contig m, l) (sym (head-parts t))
+
+-- a table made of a header's fields stands so
+pub head-gathered :
+    {E : Type 0} (s : List ℕ) (at : ℕ) (fs : List Field) (locus : LocusPlan) (h : Header) (t : Table) → Gathers E s at fs h → t .locus ≡ planned s locus →
+    PlanEnds (length s) locus → t .definition ≡ latest (textIn (bytes "DEFINITION")) fs → t .accession ≡ latest (textIn (bytes "ACCESSION")) fs →
+    t .version ≡ latest (textIn (bytes "VERSION")) fs → t .dblink ≡ latest (textIn (bytes "DBLINK")) fs → t .keywords ≡ latest (textIn (bytes "KEYWORDS")) fs →
+    t .source ≡ latest sourceIn fs → HeadStands s at locus h t
+head-gathered s at fs locus h t g plan ends definition accession version dblink keywords source =
+    record {
+      plan = plan;
+      ends = ends;
+      definition = rw definition (g .definition);
+      accession = rw accession (g .accession);
+      version = rw version (g .version);
+      dblink = rw dblink (g .dblink);
+      keywords = rw keywords (g .keywords);
+      source = rw source (g .source);
+    }
