@@ -75,9 +75,15 @@ module _ (s : List ℕ) (at : ℕ) (x : Reference) (e : ReferenceEntries) (h : R
 
   reference-is : referencePieces x ≡ referencePieces (referenceOf s e)
   reference-is =
-      cc (text-is s at true (x .text) (e .text) (h .text), may-is s at true (x .authors) (e .authors) (h .authors), may-is s at true (x .consrtm) (e .consrtm) (h .consrtm),
-      text-is s at true (x .title) (e .title) (h .title), may-is s at true (x .journal) (e .journal) (h .journal), may-is s at false (x .pubmed) (e .pubmed) (h .pubmed),
-      may-is s at true (x .remark) (e .remark) (h .remark))
+      cc (
+        text-is s at true (x .text) (e .text) (h .text),
+        may-is s at true (x .authors) (e .authors) (h .authors),
+        may-is s at true (x .consrtm) (e .consrtm) (h .consrtm),
+        text-is s at true (x .title) (e .title) (h .title),
+        may-is s at true (x .journal) (e .journal) (h .journal),
+        may-is s at false (x .pubmed) (e .pubmed) (h .pubmed),
+        may-is s at true (x .remark) (e .remark) (h .remark),
+      )
 
 module _ (s : List ℕ) (at next : ℕ) (x : format.Field) where
   field-ready : (f : Field) → FieldIs s at next x f → FieldReady s f
@@ -200,8 +206,14 @@ module _ (s : List ℕ) (b : Bool) (t r : List ℕ) (start : Pens) (whole : List
           text =
               omega (arith, h .text, ap bytesOf split, bytes-append (w .done ++ foundIn s b f) (wanted b (fieldsAt (drop next s))), bytes-append (w .done) (foundIn s b f), w .puts .text);
           row =
-              omega (arith, h .row, ap numbersOf split, numbers-append (w .done ++ foundIn s b f) (wanted b (fieldsAt (drop next s))), numbers-append (w .done) (foundIn s b f),
-              w .puts .row);
+              omega (
+                arith,
+                h .row,
+                ap numbersOf split,
+                numbers-append (w .done ++ foundIn s b f) (wanted b (fieldsAt (drop next s))),
+                numbers-append (w .done) (foundIn s b f),
+                w .puts .row,
+              );
         }
 
     pub walking-more : (x y : List ℕ) (to : Pens) → Puts u v pens (foundIn s b f) x y to → Walking s b t r start whole x y to next

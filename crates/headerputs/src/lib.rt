@@ -172,7 +172,10 @@ fn put_if_reference(
         Field::Version(_) => pens,
         Field::Dblink(_) => pens,
         Field::Keywords(_) => pens,
-        Field::Source { text: _, organism: _ } => pens,
+        Field::Source {
+            text: _,
+            organism: _,
+        } => pens,
         Field::Comment(_) => pens,
         Field::Dropped => pens,
     }

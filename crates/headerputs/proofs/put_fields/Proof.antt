@@ -13,7 +13,7 @@ use Rattle.headerputs.proofs.put_fields.Statement.{statement}
 use Rattle.headerputs.proofs.put_fields.Tie as tie
 
 abbrev Inv-loop : tie.InvT-loop
-Inv-loop s at comments texts₀ place rows₀ i₀ pens₀ texts rows i pens = 
+Inv-loop s at comments texts₀ place rows₀ i₀ pens₀ texts rows i pens =
     (i ≤ length s) × (length texts ≡ length texts₀) × (length rows ≡ length rows₀) ×
     Walking s comments texts₀ rows₀ (begun place) (wanted comments (fieldsAt (drop at s))) texts rows pens i
 

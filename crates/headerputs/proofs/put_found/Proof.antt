@@ -9,7 +9,7 @@ comment-in-requires : tie.Need-comment-in-requires
 comment-in-requires c κs = search needs
 
 put-comment-requires : tie.Need-put-comment-requires
-put-comment-requires c κs = (rw (c .before .before .comment-in .ensures) (comment-ready (now (c .before .before .before .before .before .before .before .args .s)) _ (c .before .before .before .before .before .before .before .pre .0)), comment-room (now (c .before .before .before .before .before .before .before .args .s)) _ _ _ (c .before .before .before .if1 .taken) (c .before .before .comment-in .ensures) _ (c .before .before .before .before .before .before .before .pre .1))
+put-comment-requires c κs = (rw (c .before .before .comment-in .ensures) (comment-ready (now (c .before .before .before .before .before .before .before .args .s)) (c .before .before .before .before .before .before .before .args .field) (c .before .before .before .before .before .before .before .pre .0)), comment-room (now (c .before .before .before .before .before .before .before .args .s)) _ _ _ (c .before .before .before .if1 .taken) (c .before .before .comment-in .ensures) _ (c .before .before .before .before .before .before .before .pre .1))
 
 same-length : tie.Need-same-length
 same-length c = search needs
