@@ -1,13 +1,12 @@
 -- Pieces put one after the other. Assumes nothing.
-use Prim.Native.Nat.{ℕ, suc, _+_, _<_, _^_}
+use Prim.Native.Nat.{ℕ, suc, _+_}
 use mathlib.Core.Path.{_≡_, refl, sym, ap, _∙_, subst}
 use mathlib.Core.Bool.{Bool}
 use mathlib.Core.List.{List, [], _∷_, _++_, append-assoc, append-nil}
-use native.Mathlib.Nat.{add-zero, add-assoc}
+use native.Mathlib.Nat.{add-zero}
 use native.Mathlib.Omega.{arith}
 use lib.ListN.{length, length-append}
-use lib.Seq.{sets}
-use Rattle.format.specs.Bytes.{May, absent, is}
+use Rattle.format.specs.Bytes.{absent, is}
 use Rattle.format.specs.Rooms.{Piece, always, perhaps, pieceText, pieceRow, piecesText, piecesRow}
 use Rattle.pen.specs.Pen.{Wrote, Writes, sets-append}
 use Rattle.field.specs.declared.Entry.{Entry}

@@ -1,20 +1,18 @@
 -- The second walk over the header, one field at a time. Assumes nothing.
-use Prim.Native.Nat.{ℕ, _+_, _-_, _≤_, _<_, _^_}
+use Prim.Native.Nat.{ℕ, _+_, _-_, _<_, _^_}
 use mathlib.Core.Path.{_≡_, refl, sym, ap, _∙_, subst}
 use mathlib.Core.Bool.{Bool, true, false}
 use mathlib.Core.List.{List, [], _∷_, _++_, append-assoc, append-nil}
 use native.Mathlib.Omega.{arith}
 use lib.ListN.{length, drop}
-use lib.Seq.{sets}
-use Rattle.format.specs.Bytes.{May, absent, is, bytes}
-use Rattle.format.specs.Readers.{Ans, No, Cut}
+use Rattle.format.specs.Bytes.{May, absent, is}
+use Rattle.format.specs.Readers.{No, Cut}
 use Rattle.format.specs.Table.{Reference}
 use Rattle.format.specs.Header as format
-use Rattle.format.specs.Header.{headerField, every, textIn, referenceIn}
+use Rattle.format.specs.Header.{headerField, every}
 use Rattle.format.specs.Rooms.{Piece, piecesText, piecesRow, referencePieces, commentPieces, textsOf, rowsOf}
 use Rattle.laws.specs.Loops.{try-members-more, try-members-no, try-members-cut}
 use Rattle.laws.specs.Shrinks.{header-small}
-use Rattle.pen.specs.Pen.{Wrote}
 use Rattle.field.specs.declared.Entry.{Entry}
 use Rattle.header.specs.declared.MayEntry.{MayEntry}
 use Rattle.header.specs.declared.MayEntry.the-variants as may

@@ -8,7 +8,7 @@ use Rattle.format.specs.Bytes.{May, absent, is, bytes}
 use Rattle.format.specs.Table.{Reference}
 use Rattle.format.specs.Header as format
 use Rattle.format.specs.Header.{fieldText, textIn, referenceIn}
-use Rattle.format.specs.Rooms.{Piece, always, perhaps, pieceText, referencePieces, commentPieces}
+use Rattle.format.specs.Rooms.{Piece, always, perhaps, referencePieces, commentPieces}
 use Rattle.field.specs.declared.Entry.{Entry}
 use Rattle.entrytexts.specs.Texts as entry
 use Rattle.entrytexts.specs.Texts.{Gets}

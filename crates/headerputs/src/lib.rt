@@ -4,7 +4,6 @@ use header::MayEntry;
 use headerfields::Field;
 use headerfields::FieldAt;
 use references::ReferenceEntries;
-ghost use mathlib.Core.Path.{_≡_};
 ghost use mathlib.Core.Bool.{true, false};
 ghost use mathlib.Core.List.{[], _∷_};
 ghost use Prim.Native.Nat.{_+_, _≤_, _<_, _^_};
