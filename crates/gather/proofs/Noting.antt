@@ -1,6 +1,6 @@
 -- What one more field makes of a header that was gathered up to it. Assumes nothing.
 use Prim.Native.Nat.{ℕ, _+_, _≤_, _<_, _^_}
-use mathlib.Core.Path.{_≡_, refl, sym, ap, _∙_}
+use mathlib.Core.Path.{_≡_, refl, sym, _∙_}
 use mathlib.Core.Bool.{Bool, true, false}
 use mathlib.Core.List.{List, [], _∷_, _++_, append-nil}
 use native.Mathlib.Nat.{add-zero}
@@ -22,7 +22,6 @@ use Rattle.headerfields.specs.declared.Field.{Field}
 use Rattle.headerfields.specs.declared.Field.the-variants as field
 use Rattle.headerfields.specs.Fields.{EntryIs, FieldIs}
 use Rattle.gather.specs.declared.MaySource.{MaySource}
-use Rattle.gather.specs.declared.MaySource.the-variants as source
 use Rattle.gather.specs.declared.Header.{Header}
 use Rattle.gather.specs.Notes.{chosen, entryIn, later, laterSource, twiceBy, entryAmount, referenceAmount, noting, Fitting}
 use Rattle.gather.specs.Gathered.{SourceStands, Gathers}
