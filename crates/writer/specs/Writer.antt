@@ -123,6 +123,40 @@ module _ (W : ℕ) (truncate escape : Bool) (r : Rooms) (h : Head) where
       go true true false x = refl
       go true true true x = refl
 
+-- ---- the count with answers 0 and 6
+
+abbrev pub Counts : WriteAnswer → ℕ → Type 0
+Counts (answer.Done k) n = k ≡ n
+Counts (answer.Room k) n = k ≡ n
+Counts (answer.Refused why) n = Unit
+
+counts-room : (m n : ℕ) → Counts (room m n) n
+counts-room m n = go (leb n m)
+  where
+    go : (b : Bool) → Counts (pick b (answer.Done n) (answer.Room n)) n
+    go true = refl
+    go false = refl
+
+counts-answered : (v : Verdict) (a : WriteAnswer) (n : ℕ) → Counts a n → Counts (answered v a) n
+counts-answered verdict.Fine a n h = h
+counts-answered (verdict.Not why) a n h = tt
+
+counts-kept : (kept : Bool) (a : WriteAnswer) (n : ℕ) → Counts a n → Counts (pick kept a (answer.Refused unwritten.NotKept)) n
+counts-kept true a n h = h
+counts-kept false a n h = tt
+
+module _ (W : ℕ) (truncate escape : Bool) (r : Rooms) (h : Head) (n : ℕ) where
+  pub plain-counts : Counts (plainAnswer W truncate escape r h n) (length (written W truncate escape (tableOf r h)))
+  plain-counts =
+      rw (plain-is W truncate escape r h n)
+      (counts-answered (verdictOf W truncate escape r h) _ _ (counts-room n (length (written W truncate escape (tableOf r h)))))
+
+  pub keeping-counts : Counts (keepingAnswer W truncate escape r h n) (length (written W truncate escape (tableOf r h)))
+  keeping-counts =
+      rw (keeping-is W truncate escape r h n)
+      (counts-answered (verdictOf W truncate escape r h) _ _
+      (counts-kept (keeps W truncate escape (tableOf r h)) _ _ (counts-room n (length (written W truncate escape (tableOf r h))))))
+
 -- ---- number 6: measured, then written
 
 pub record Roomed (text old new : List ℕ) (a : WriteAnswer) : Type 0 where
