@@ -1,23 +1,23 @@
 -- One feature by its kind, its location and its qualifiers, and the loop over features: each turn, and each way out. Assumes nothing.
 use Prim.Native.Nat.{ℕ, _+_, _-_, _≤_, _<_}
-use mathlib.Core.Path.{_≡_, refl, sym, ap, subst, _∙_}
-use mathlib.Core.List.{List, [], _∷_, _++_}
+use mathlib.Core.Path.{_≡_, refl, ap, subst, _∙_}
+use mathlib.Core.List.{List, [], _∷_}
 use native.Mathlib.Omega.{arith}
 use lib.ListN.{length, drop, length-append}
 use Rattle.format.specs.Bytes.{each}
-use Rattle.format.specs.Table.{Qualifier, Feature}
-use Rattle.format.specs.Readers.{Ans, Got, No, Cut, bind, passing, fitTurn, tryTurn, members, end, many0, whileFits}
+use Rattle.format.specs.Table.{Feature}
+use Rattle.format.specs.Readers.{Got, No, Cut, passing, fitTurn, tryTurn, members, end, many0, whileFits}
 use Rattle.format.specs.Features.{qualifier, bare, locationText, featureFrom, feature}
-use Rattle.format.specs.Rooms.{piecesText, featurePieces, qualifierPieces, textsOf, featureText, qualifierCount}
+use Rattle.format.specs.Rooms.{featureText, qualifierCount}
 use Rattle.laws.specs.Loops.{try-members-more, try-members-no, try-members-cut, try-end-more, try-end-no, try-end-cut}
 use Rattle.laws.specs.Shrinks.{feature-small}
 use Rattle.chars.specs.Places.{part}
 use Rattle.chars.specs.Parts.{length-part}
-use Rattle.pieces.specs.Views.{Span, Valued, value-places, value-is}
+use Rattle.pieces.specs.Views.{Valued}
 use Rattle.pieces.specs.declared.Value.{Value}
 use Rattle.pieces.specs.declared.Value.the-variants as value
 use Rattle.bares.specs.Bared.{bareText}
-use Rattle.heads.specs.Headed.{PastKind, KindRead}
+use Rattle.heads.specs.Headed.{KindRead}
 use Rattle.heads.specs.declared.Kind.{Kind}
 use Rattle.heads.specs.declared.Kind.the-variants as kind
 use Rattle.qualifiers.specs.Reads.{QualifiersKnown, QualifiersAs, QualifiersRead}
@@ -25,16 +25,11 @@ use Rattle.qualifiers.specs.declared.QualifiersAt.{QualifiersAt}
 use Rattle.qualifiers.specs.declared.QualifiersAt.the-variants as all
 use Rattle.features.specs.declared.FeatureAt.{FeatureAt}
 use Rattle.features.specs.declared.FeatureAt.the-variants as one
-use Rattle.features.specs.declared.Features.{Features}
 use Rattle.features.specs.Reads.{Located, featureRest, FeatureKnown, FeatureAs, FeatureRead, featuresIn, FeaturesRead}
+use Rattle.features.specs.Texts.{whole-length}
+use Rattle.features.specs.Steps.{kind-is, kind-bad, kind-short, kinded, located, location-is, location-bad, location-short}
 
 -- ---- the qualifiers
-
-text-length : (f : Feature) → length (featureText f) ≡ length (f .kind) + length (f .location) + length (textsOf qualifierPieces (f .qualifiers))
-unfolding featureText piecesText
-text-length f =
-    omega
-    (arith, length-append (piecesText (featurePieces f)) (textsOf qualifierPieces (f .qualifiers)), length-append (f .kind) (f .location ++ []), length-append (f .location) [])
 
 module _ (s : List ℕ) (at first end location long rest : ℕ) (r : QualifiersAt) (p : Located s at first end location long rest)
     (h : QualifiersRead s rest (members (fitTurn (qualifier (location - at))) (drop rest s)) (many0 (qualifier (location - at)) (drop rest s)) r) where
@@ -55,7 +50,7 @@ module _ (s : List ℕ) (at first end location long rest : ℕ) (r : QualifiersA
       } in
       let a = p .before in let b = p .kind in let c = p .gap in let d = p .sized in let f = p .small in let g = p .ahead in let w = p .within in
       let m = k .counted in let n = k .sized in let u = k .small in let v = k .few in
-      let t = text-length the in
+      let t = whole-length the in
       let z : length (part first end s) ≡ end - first = length-part s first end (omega arith) (omega arith) in
       record {
         is =
@@ -85,57 +80,34 @@ pub ruleset resting = (rest-got, rest-fits, rest-cut)
 
 -- ---- the location
 
-module _ (s : List ℕ) (at first end location : ℕ) (r : Value) (p : (at < first) × (first < end) × (end < location) × (location ≤ length s))
+module _ (s : List ℕ) (at first end location : ℕ) (r : Value)
     (h : Valued s location (bareText (location - at) (drop location s)) (passing locationText (bare (location - at) (drop location s))) r) where
-  pub located : (long rest : ℕ) → r ≡ value.Got long rest → Located s at first end location long rest
-  located long rest e =
-      let k : Span s location (bareText (location - at) (drop location s)) long rest = value-places h e in
-      record { before = p .0; kind = p .1; gap = p .2; sized = k .long; small = k .short; ahead = k .from; within = k .within }
-
   pub location-got : (long rest : ℕ) (x : FeatureAt) → r ≡ value.Got long rest → FeatureRead s at (featureRest s at first end location rest) x
       → FeatureRead s at (featureFrom (location - at) (part first end s) (drop location s)) x
-  unfolding featureFrom
-  location-got long rest x e g = rw (value-is h e) g
+  location-got long rest x e g = rw (location-is s at first end location r h long rest e) g
 
   pub location-no : r ≡ value.No → FeatureRead s at (featureFrom (location - at) (part first end s) (drop location s)) one.No
-  unfolding featureFrom
-  location-no e = record { is = rw (← h .is, e) }
+  location-no e = record { is = location-bad s at first end location r h e }
 
   pub location-cut : r ≡ value.Cut → FeatureRead s at (featureFrom (location - at) (part first end s) (drop location s)) one.Cut
-  unfolding featureFrom
-  location-cut e = record { is = rw (← h .is, e) }
+  location-cut e = record { is = location-short s at first end location r h e }
 
 pub ruleset locating = (located, location-got, location-no, location-cut)
 
 -- ---- the kind
 
 module _ (s : List ℕ) (at : ℕ) (r : Kind) (h : KindRead s at (feature (drop at s)) r) where
-  kind-places : (first end next : ℕ) → r ≡ kind.Got first end next → (at < first) × (first < end) × (end < next) × (next ≤ length s)
-  kind-places first end next e = subst (λ (x : Kind). PastKind s at x) e (h .place)
-
-  pub kind-before : (first end next : ℕ) → r ≡ kind.Got first end next → at < first
-  kind-before first end next e = kind-places first end next e .0
-
-  pub kind-some : (first end next : ℕ) → r ≡ kind.Got first end next → first < end
-  kind-some first end next e = kind-places first end next e .1
-
-  pub kind-gap : (first end next : ℕ) → r ≡ kind.Got first end next → end < next
-  kind-gap first end next e = kind-places first end next e .2
-
-  pub kind-within : (first end next : ℕ) → r ≡ kind.Got first end next → next ≤ length s
-  kind-within first end next e = kind-places first end next e .3
-
   pub kind-got : (first end next : ℕ) (x : FeatureAt) → r ≡ kind.Got first end next
       → FeatureRead s at (featureFrom (next - at) (part first end s) (drop next s)) x → FeatureRead s at (feature (drop at s)) x
-  kind-got first end next x e g = rw (← h .is, e) g
+  kind-got first end next x e g = rw (kind-is s at r h first end next e) g
 
   pub kind-no : r ≡ kind.No → FeatureRead s at (feature (drop at s)) one.No
-  kind-no e = record { is = rw (← h .is, e) }
+  kind-no e = record { is = kind-bad s at r h e }
 
   pub kind-cut : r ≡ kind.Cut → FeatureRead s at (feature (drop at s)) one.Cut
-  kind-cut e = record { is = rw (← h .is, e) }
+  kind-cut e = record { is = kind-short s at r h e }
 
-pub ruleset kinds = (kind-before, kind-some, kind-gap, kind-within, kind-got, kind-no, kind-cut)
+pub ruleset kinds = (kinded, kind-got, kind-no, kind-cut)
 
 -- ---- the loop
 

@@ -1,17 +1,15 @@
 -- One qualifier by what follows its key, and the loop over qualifiers: each turn, and each way out. Assumes nothing.
 use Prim.Native.Nat.{ℕ, _+_, _-_, _≤_, _<_}
-use mathlib.Core.Path.{_≡_, refl, sym, ap, subst, _∙_}
+use mathlib.Core.Path.{_≡_, sym, ap, subst, _∙_}
 use mathlib.Core.Bool.{Bool}
-use mathlib.Core.List.{List, [], _∷_, _++_}
+use mathlib.Core.List.{List, [], _∷_}
 use native.Mathlib.Omega.{arith}
 use lib.ListN.{length, drop, length-append}
-use Rattle.format.specs.Bytes.{May, absent, is, bytes, same}
+use Rattle.format.specs.Bytes.{absent, is, bytes, same}
 use Rattle.format.specs.Table.{Qualifier}
-use Rattle.format.specs.Readers.{Ans, Got, No, Cut, fitTurn, members, end, many0}
+use Rattle.format.specs.Readers.{Got, Cut, fitTurn, members, end, many0}
 use Rattle.format.specs.Features.{valueOf, qualifier}
 use Rattle.format.specs.Rooms.{piecesText, qualifierPieces, textsOf}
-use Rattle.laws.specs.Loops.{fit-members-more, fit-members-stop, fit-end-more, fit-end-stop, fit-end-cut}
-use Rattle.laws.specs.Shrinks.{qualifier-small}
 use Rattle.chars.specs.Places.{part}
 use Rattle.chars.specs.Parts.{length-part}
 use Rattle.pieces.specs.Views.{Span}
@@ -26,19 +24,34 @@ use Rattle.qualifiers.specs.declared.ValueAt.{ValueAt}
 use Rattle.qualifiers.specs.declared.ValueAt.the-variants as value
 use Rattle.qualifiers.specs.declared.QualifierAt.{QualifierAt}
 use Rattle.qualifiers.specs.declared.QualifierAt.the-variants as one
-use Rattle.qualifiers.specs.declared.QualifiersAt.{QualifiersAt}
 use Rattle.qualifiers.specs.declared.QualifiersAt.the-variants as all
-use Rattle.qualifiers.specs.Reads.{qualifierIn, QualifierKnown, QualifierAs, QualifierRead, QualifiersRead}
+use Rattle.qualifiers.specs.Reads.{qualifierIn, QualifierRead, QualifiersRead}
+use Rattle.qualifiers.specs.Texts.{absent-text, with-text, texts-more, texts-none}
+use Rattle.qualifiers.specs.Turns.{
+  qualifiersIn,
+  Reached,
+  reached-none,
+  known,
+  one-more,
+  reached-more,
+  reached-less,
+  count-fits,
+  none-stop,
+  reached-stop,
+  reached-cut,
+  all-stop,
+}
 
 -- ---- the texts of a qualifier
 
-bare-length : (k : List ℕ) → length (piecesText (qualifierPieces (record { key = k; value = absent }))) ≡ length k
-unfolding piecesText
-bare-length k = omega (arith, length-append k [])
+absent-length : (k : List ℕ) → length (piecesText (qualifierPieces (record { key = k; value = absent }))) ≡ length k
+absent-length k = ap length (absent-text k)
 
 with-length : (k v : List ℕ) → length (piecesText (qualifierPieces (record { key = k; value = is v }))) ≡ length k + length v
-unfolding piecesText
-with-length k v = omega (arith, length-append k (v ++ []), length-append v [])
+with-length k v = ap length (with-text k v) ∙ length-append k v
+
+more-length : (q : Qualifier) (qs : List Qualifier) → length (textsOf qualifierPieces (q ∷ qs)) ≡ length (piecesText (qualifierPieces q)) + length (textsOf qualifierPieces qs)
+more-length q qs = ap length (texts-more q qs) ∙ length-append (piecesText (qualifierPieces q)) (textsOf qualifierPieces qs)
 
 -- ---- what follows the key
 
@@ -61,7 +74,7 @@ module _ (s : List ℕ) (at indent first end : ℕ) (joined : Bool) (r : Tail)
             record {
               is = rw (tail-is (tail.Absent next) e);
               stands = tt;
-              sized = sym (bare-length (part first end s) ∙ length-part s first end f (p .2));
+              sized = sym (absent-length (part first end s) ∙ length-part s first end f (p .2));
               key = p .1;
               keyed = p .2;
               small = omega arith;
@@ -136,28 +149,14 @@ pub ruleset keying = (key-before, key-some, key-within, qualifier-got, qualifier
 
 -- ---- the loop
 
-abbrev members-at : List ℕ → ℕ → ℕ → List Qualifier
-members-at s indent i = members (fitTurn (qualifier indent)) (drop i s)
-
 abbrev texts-at : List ℕ → ℕ → ℕ → List ℕ
-texts-at s indent i = textsOf qualifierPieces (members-at s indent i)
+texts-at s indent i = textsOf qualifierPieces (qualifiersIn s indent i)
 
--- the qualifiers from `at` up to i were counted
+-- the qualifiers from `at` up to i were counted, with the lengths of their texts
 pub record Counted (s : List ℕ) (at indent i count bytes : ℕ) : Type 0 where
-  pub within : i ≤ length s
+  pub reached : Reached s at indent i count
   pub small : bytes + at ≤ i
-  pub few : count + at ≤ i
-  pub counts : length (members-at s indent at) ≡ count + length (members-at s indent i)
   pub sizes : length (texts-at s indent at) ≡ bytes + length (texts-at s indent i)
-  pub ends : end (fitTurn (qualifier indent)) (drop at s) ≡ end (fitTurn (qualifier indent)) (drop i s)
-
-texts-more : (q : Qualifier) (qs : List Qualifier) → length (textsOf qualifierPieces (q ∷ qs)) ≡ length (piecesText (qualifierPieces q)) + length (textsOf qualifierPieces qs)
-unfolding textsOf
-texts-more q qs = length-append (piecesText (qualifierPieces q)) (textsOf qualifierPieces qs)
-
-texts-none : length (textsOf qualifierPieces []) ≡ 0
-unfolding textsOf
-texts-none = refl
 
 many0-is : (indent : ℕ) (x z : List ℕ) → end (fitTurn (qualifier indent)) x ≡ Got tt z → many0 (qualifier indent) x ≡ Got (members (fitTurn (qualifier indent)) x) z
 many0-is indent x z e = rw e
@@ -167,67 +166,45 @@ many0-none indent x e = rw e
 
 module _ (s : List ℕ) (at indent : ℕ) where
   pub counted-none : at ≤ length s → Counted s at indent at 0 0
-  counted-none h = record { within = h; small = omega arith; few = omega arith; counts = omega arith; sizes = omega arith; ends = refl }
+  counted-none h = record { reached = reached-none s at indent h; small = omega arith; sizes = omega arith }
 
   module _ (i count bytes : ℕ) (r : QualifierAt) (g : Counted s at indent i count bytes) (h : QualifierRead s i indent (qualifier indent (drop i s)) r) where
-    read-is : (x : QualifierAt) → r ≡ x → QualifierAs s i indent (qualifier indent (drop i s)) x
-    read-is x e = subst (λ (x : QualifierAt). QualifierAs s i indent (qualifier indent (drop i s)) x) e (h .is)
-
     module _ (first stop : ℕ) (joined : Bool) (v : ValueAt) (more next : ℕ) (e : r ≡ one.Got first stop joined v more next) where
-      known : QualifierKnown s i indent (qualifier indent (drop i s)) first stop joined v more next
-      known = read-is (one.Got first stop joined v more next) e
-
       pub counted-more : Counted s at indent next (count + 1) (bytes + more)
       counted-more =
-          let k = known in
-          let a = k .small in let b = g .small in let d = g .few in let f = k .sized in let u = g .counts in let w = g .sizes in
+          let k = known s at indent i count r h first stop joined v more next e in
+          let a = k .small in let b = g .small in let f = k .sized in let w = g .sizes in
           let the : Qualifier = qualifierIn s indent first stop joined v in
-          let m : members-at s indent i ≡ the ∷ members-at s indent next =
-          fit-members-more (qualifier indent) (qualifier-small indent) (drop i s) the (drop next s) (k .is) in
-          let c : length (members-at s indent i) ≡ length (the ∷ members-at s indent next) = ap length m in
-          let t : length (texts-at s indent i) ≡ length (textsOf qualifierPieces (the ∷ members-at s indent next)) =
-          ap (λ (l : List Qualifier). length (textsOf qualifierPieces l)) m in
+          let t : length (texts-at s indent i) ≡ length (textsOf qualifierPieces (the ∷ qualifiersIn s indent next)) =
+          ap (λ (l : List Qualifier). length (textsOf qualifierPieces l)) (one-more s at indent i count r h first stop joined v more next e) in
           record {
-            within = k .within;
+            reached = reached-more s at indent i count r h first stop joined v more next e (g .reached);
             small = omega arith;
-            few = omega arith;
-            counts = omega arith;
-            sizes = omega (arith, texts-more the (members-at s indent next));
-            ends = g .ends ∙ fit-end-more (qualifier indent) (qualifier-small indent) (drop i s) the (drop next s) (k .is);
+            sizes = omega (arith, more-length the (qualifiersIn s indent next));
           }
 
-      pub counted-less : length s - next < length s - i
-      counted-less = let k = known in let a = k .small in let b = k .within in omega arith
-
-      pub count-fits : count + 1 ≤ length s
-      count-fits = let k = known in let a = k .small in let b = k .within in let d = g .few in omega arith
-
       pub bytes-fit : bytes + more ≤ length s
-      bytes-fit = let k = known in let a = k .small in let b = k .within in let d = g .small in omega arith
+      bytes-fit = let k = known s at indent i count r h first stop joined v more next e in let a = k .small in let b = k .within in let d = g .small in omega arith
 
-    pub counted-stop : r ≡ one.No → QualifiersRead s at (members-at s indent at) (many0 (qualifier indent) (drop at s)) (all.Got count bytes i)
+    pub counted-stop : r ≡ one.No → QualifiersRead s at (qualifiersIn s indent at) (many0 (qualifier indent) (drop at s)) (all.Got count bytes i)
     counted-stop e =
-        let k : qualifier indent (drop i s) ≡ No = read-is one.No e in
-        let m : members-at s indent i ≡ [] = fit-members-stop (qualifier indent) (drop i s) k in
-        let c : length (members-at s indent i) ≡ 0 = ap length m in
-        let t : length (texts-at s indent i) ≡ length (textsOf qualifierPieces []) = ap (λ (l : List Qualifier). length (textsOf qualifierPieces l)) m in
-        let u = g .counts in let w = g .sizes in let b = g .small in
+        let t : length (texts-at s indent i) ≡ length (textsOf qualifierPieces []) =
+        ap (λ (l : List Qualifier). length (textsOf qualifierPieces l)) (none-stop s at indent i count r h e) in
+        let w = g .sizes in let b = g .small in
         record {
           is =
               record {
-                is = many0-is indent (drop at s) (drop i s) (g .ends ∙ fit-end-stop (qualifier indent) (drop i s) k);
-                counted = omega arith;
-                sized = omega (arith, texts-none);
+                is = many0-is indent (drop at s) (drop i s) (reached-stop s at indent i count r h (g .reached) e);
+                counted = all-stop s at indent i count r h (g .reached) e;
+                sized = omega (arith, ap length texts-none);
                 from = omega arith;
-                within = g .within;
+                within = g .reached .within;
                 small = g .small;
-                few = g .few;
+                few = g .reached .few;
               };
         }
 
-    pub counted-cut : r ≡ one.Cut → QualifiersRead s at (members-at s indent at) (many0 (qualifier indent) (drop at s)) all.Cut
-    counted-cut e =
-        let k : qualifier indent (drop i s) ≡ Cut = read-is one.Cut e in
-        record { is = many0-none indent (drop at s) (g .ends ∙ fit-end-cut (qualifier indent) (drop i s) k) }
+    pub counted-cut : r ≡ one.Cut → QualifiersRead s at (qualifiersIn s indent at) (many0 (qualifier indent) (drop at s)) all.Cut
+    counted-cut e = record { is = many0-none indent (drop at s) (reached-cut s at indent i count r h (g .reached) e) }
 
-pub ruleset counting = (counted-none, counted-more, counted-less, count-fits, bytes-fit, counted-stop, counted-cut)
+pub ruleset counting = (counted-none, counted-more, reached-less, count-fits, bytes-fit, counted-stop, counted-cut)
