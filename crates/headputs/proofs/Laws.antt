@@ -1,7 +1,7 @@
 -- Texts that may be absent, by cases; and the places of a head's texts. Assumes nothing.
 use Prim.Native.Nat.{ℕ, _+_, _-_, _<_, _^_}
-use mathlib.Core.Path.{_≡_, refl, ap}
-use mathlib.Core.List.{List, _++_}
+use mathlib.Core.Path.{_≡_, refl}
+use mathlib.Core.List.{List}
 use native.Mathlib.Omega.{arith}
 use lib.ListN.{length, take, drop}
 use Rattle.format.specs.Bytes.{bytes}
@@ -10,7 +10,6 @@ use Rattle.format.specs.declared.Text.{Text}
 use Rattle.format.specs.declared.Text.the-variants as text
 use Rattle.format.specs.declared.SourceText.{SourceText}
 use Rattle.format.specs.declared.SourceText.the-variants as source
-use Rattle.format.specs.declared.Date.{Date}
 use Rattle.tokens.specs.Parts.{spanned}
 use Rattle.locus.specs.declared.LocusPlan.{LocusPlan}
 use Rattle.locus.specs.declared.LocusPlan.the-variants as plan
