@@ -1,16 +1,16 @@
 -- The laws of the puts: what each asks for, and that together they leave the table's layout.
 use Prim.Native.Nat.{ℕ, _+_, _≤_, _<_, _^_}
 use native.Mathlib.Omega.{arith}
-use mathlib.Core.Bool.{true, false}
-use mathlib.Core.Path.{_≡_, refl, sym, ap, subst, _∙_}
+use mathlib.Core.Bool.{false}
+use mathlib.Core.Path.{_≡_, sym, ap, subst, _∙_}
 use mathlib.Core.List.{List, _++_, append-assoc}
 use lib.ListN.{length, drop, length-append}
 use lib.Seq.{sets}
-use Rattle.format.specs.Bytes.{May, absent, is, bytes, each}
+use Rattle.format.specs.Bytes.{is, bytes, each}
 use Rattle.format.specs.Table.{Table}
 use Rattle.format.specs.Header.{fieldText, every, textIn, referenceIn}
 use Rattle.format.specs.Record.{most}
-use Rattle.format.specs.Rooms.{perhaps, pieceText, piecesText, headPieces, referencePieces, commentPieces, textsOf, rowsOf, featureText, featureRows, qualifierRows, referencesAt, commentsAt, featuresAt, layout, sizes}
+use Rattle.format.specs.Rooms.{perhaps, pieceText, piecesText, headPieces, referencePieces, commentPieces, textsOf, rowsOf, featureText, referencesAt, commentsAt, featuresAt, layout, sizes}
 use Rattle.rooms.specs.LayoutLengths.{Lengths, layout-lengths}
 use Rattle.pen.specs.Pen.{Wrote, Writes, writes-nil, sets-append, wrote-append}
 use Rattle.filling.specs.Filling.{wrote-as}
@@ -23,12 +23,14 @@ use Rattle.header.specs.Fields.{Stands, MayStand}
 use Rattle.gather.specs.Gathered.{fieldsAt}
 use Rattle.features.specs.Reads.{featuresIn}
 use Rattle.middle.specs.Middles.{contigIn}
-use Rattle.headputs.specs.Texts.{headText}
+use Rattle.headputs.specs.Texts.{headText, HeadGets}
+use Rattle.headputs.specs.Stands.{HeadStands, head-gets, head-text, text-small}
 use Rattle.headerputs.specs.Puts.{Laid}
 use Rattle.featureputs.specs.Puts.{Fits, FeaturesPut}
 use Rattle.plan.specs.declared.Plan.{Plan}
-use Rattle.plan.specs.Plans.{planTable, PlanStands}
+use Rattle.plan.specs.Plans.{planTable}
 use Rattle.plan.specs.Parts.{TableParts, table-parts, SmallParts, small-parts}
+use Rattle.fill.specs.Heads.{plan-head}
 use Rattle.fill.specs.Fills.{roomsIn, ContigStands, Ready, headerText, HeaderFilled, restText, FeaturesFilled, Filled}
 
 -- ---- CONTIG
@@ -86,49 +88,57 @@ module _ (s : List ℕ) (p : Plan) (h : Ready s p) where
   pub letters-within : p .rest .«letters_at» ≤ length s
   letters-within = h .stands .rest .lettered
 
-  module _ (e : headText s (p .locus) (p .header) ≡ piecesText (headPieces (planTable s p))) where
-    pub head-bound : length (headText s (p .locus) (p .header)) < 2 ^ 64
-    head-bound = rw e (omega (arith, small .head, h .most))
+  stands : HeadStands s (p .«header_at») (p .locus) (p .header) (planTable s p)
+  stands = plan-head s p (h .stands)
 
-    module _ (t₀ t₁ : List ℕ) (a : ℕ) (u : Wrote t₀ 0 (headText s (p .locus) (p .header)) t₁ a) where
-      first-place : a ≡ referencesAt (planTable s p)
-      first-place = omega (arith, u .to, ap length e)
+  text-is : headText s (p .locus) (p .header) ≡ piecesText (headPieces (planTable s p))
+  text-is = head-text s (p .«header_at») (p .locus) (p .header) (planTable s p) stands
 
-      pub references-texts : a + length (textsOf referencePieces (every referenceIn (fieldsAt (drop (p .«header_at») s)))) < 2 ^ 64
-      references-texts = rw (← parts .references, first-place) (omega (arith, small .head, small .reference-texts, h .most))
+  pub head-there : HeadGets s (p .locus) (p .header)
+  head-there = head-gets s (p .«header_at») (p .locus) (p .header) (planTable s p) stands
 
-      pub references-rows : length (rowsOf referencePieces a (every referenceIn (fieldsAt (drop (p .«header_at») s)))) < 2 ^ 64
+  pub head-bound : length (headText s (p .locus) (p .header)) < 2 ^ 64
+  head-bound = text-small s (p .«header_at») (p .locus) (p .header) (planTable s p) stands (h .most)
+
+  module _ (t₀ t₁ : List ℕ) (a : ℕ) (u : Wrote t₀ 0 (headText s (p .locus) (p .header)) t₁ a) where
+    first-place : a ≡ referencesAt (planTable s p)
+    first-place = omega (arith, u .to, ap length text-is)
+
+    pub references-texts : a + length (textsOf referencePieces (every referenceIn (fieldsAt (drop (p .«header_at») s)))) < 2 ^ 64
+    references-texts = rw (← parts .references, first-place) (omega (arith, small .head, small .reference-texts, h .most))
+
+    pub references-rows : length (rowsOf referencePieces a (every referenceIn (fieldsAt (drop (p .«header_at») s)))) < 2 ^ 64
+    unfolding layout sizes
+    references-rows = rw (← parts .references, first-place) (omega (arith, lengths .references, small .references, h .most))
+
+    module _ (t₂ r₀ r₁ : List ℕ) (b : ℕ) (v : Laid referencePieces t₁ r₀ a (every referenceIn (fieldsAt (drop (p .«header_at») s))) t₂ r₁ b) where
+      references-laid : Laid referencePieces t₁ r₀ (referencesAt (planTable s p)) (planTable s p .references) t₂ r₁ b
+      references-laid = rw (parts .references, ← first-place) v
+
+      second-place : b ≡ commentsAt (planTable s p)
+      second-place = references-laid .texts .to
+
+      pub comments-texts : b + length (textsOf commentPieces (every (textIn (bytes "COMMENT")) (fieldsAt (drop (p .«header_at») s)))) < 2 ^ 64
+      comments-texts =
+          rw (← parts .comments, second-place) (omega (arith, small .head, small .reference-texts, small .comment-texts, h .most))
+
+      pub comments-rows : length (rowsOf commentPieces b (every (textIn (bytes "COMMENT")) (fieldsAt (drop (p .«header_at») s)))) < 2 ^ 64
       unfolding layout sizes
-      references-rows = rw (← parts .references, first-place) (omega (arith, lengths .references, small .references, h .most))
+      comments-rows = rw (← parts .comments, second-place) (omega (arith, lengths .comments, small .comments, h .most))
 
-      module _ (t₂ r₀ r₁ : List ℕ) (b : ℕ) (v : Laid referencePieces t₁ r₀ a (every referenceIn (fieldsAt (drop (p .«header_at») s))) t₂ r₁ b) where
-        references-laid : Laid referencePieces t₁ r₀ (referencesAt (planTable s p)) (planTable s p .references) t₂ r₁ b
-        references-laid = rw (parts .references, ← first-place) v
-
-        second-place : b ≡ commentsAt (planTable s p)
-        second-place = references-laid .texts .to
-
-        pub comments-texts : b + length (textsOf commentPieces (every (textIn (bytes "COMMENT")) (fieldsAt (drop (p .«header_at») s)))) < 2 ^ 64
-        comments-texts =
-            rw (← parts .comments, second-place) (omega (arith, small .head, small .reference-texts, small .comment-texts, h .most))
-
-        pub comments-rows : length (rowsOf commentPieces b (every (textIn (bytes "COMMENT")) (fieldsAt (drop (p .«header_at») s)))) < 2 ^ 64
-        unfolding layout sizes
-        comments-rows = rw (← parts .comments, second-place) (omega (arith, lengths .comments, small .comments, h .most))
-
-        pub header-filled : (t₃ c₀ c₁ : List ℕ) (z : ℕ) →
-            Laid commentPieces t₂ c₀ b (every (textIn (bytes "COMMENT")) (fieldsAt (drop (p .«header_at») s))) t₃ c₁ z →
-            HeaderFilled (planTable s p) t₀ t₃ r₀ r₁ c₀ c₁ z
-        header-filled t₃ c₀ c₁ z w =
-            let k : Laid commentPieces t₂ c₀ (commentsAt (planTable s p)) (planTable s p .comments) t₃ c₁ z = rw (parts .comments, ← second-place) w in
-            let x : Wrote t₀ 0 (piecesText (headPieces (planTable s p))) t₁ a = wrote-as e u in
-            let y : Wrote t₁ a (textsOf referencePieces (planTable s p .references)) t₂ b = rw first-place (references-laid .texts) in
-            let q : Wrote t₂ b (textsOf commentPieces (planTable s p .comments)) t₃ z = rw second-place (k .texts) in
-            record {
-              texts = wrote-append (wrote-append x y) q;
-              references = references-laid .rows;
-              comments = k .rows;
-            }
+      pub header-filled : (t₃ c₀ c₁ : List ℕ) (z : ℕ) →
+          Laid commentPieces t₂ c₀ b (every (textIn (bytes "COMMENT")) (fieldsAt (drop (p .«header_at») s))) t₃ c₁ z →
+          HeaderFilled (planTable s p) t₀ t₃ r₀ r₁ c₀ c₁ z
+      header-filled t₃ c₀ c₁ z w =
+          let k : Laid commentPieces t₂ c₀ (commentsAt (planTable s p)) (planTable s p .comments) t₃ c₁ z = rw (parts .comments, ← second-place) w in
+          let x : Wrote t₀ 0 (piecesText (headPieces (planTable s p))) t₁ a = wrote-as text-is u in
+          let y : Wrote t₁ a (textsOf referencePieces (planTable s p .references)) t₂ b = rw first-place (references-laid .texts) in
+          let q : Wrote t₂ b (textsOf commentPieces (planTable s p .comments)) t₃ z = rw second-place (k .texts) in
+          record {
+            texts = wrote-append (wrote-append x y) q;
+            references = references-laid .rows;
+            comments = k .rows;
+          }
 
   -- ---- features and CONTIG
 
@@ -179,7 +189,7 @@ module _ (s : List ℕ) (p : Plan) (h : Ready s p) where
   pub third-place : (t₀ t₁ r₀ r₁ c₀ c₁ : List ℕ) (a : ℕ) → HeaderFilled (planTable s p) t₀ t₁ r₀ r₁ c₀ c₁ a → a ≡ featuresAt (planTable s p)
   third-place t₀ t₁ r₀ r₁ c₀ c₁ a x = x .texts .to ∙ header-long (planTable s p)
 
-pub ruleset heading = (header-within, head-bound, references-texts, references-rows, comments-texts, comments-rows, header-filled)
+pub ruleset heading = (header-within, head-there, head-bound, references-texts, references-rows, comments-texts, comments-rows, header-filled)
 
 pub ruleset listing = (features-fit, contig-ready, features-filled)
 

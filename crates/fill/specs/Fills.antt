@@ -1,9 +1,9 @@
 -- What the rooms hold once the parts of a record are put.
-use Prim.Native.Nat.{ℕ, _+_, _≤_, _<_}
+use Prim.Native.Nat.{ℕ, _+_, _≤_}
 use mathlib.Core.Path.{_≡_}
 use mathlib.Core.Bool.{false}
 use mathlib.Core.List.{List, _++_}
-use lib.ListN.{length, drop}
+use lib.ListN.{length}
 use lib.Seq.{sets}
 use Rattle.format.specs.Bytes.{each}
 use Rattle.format.specs.Table.{Table}
@@ -12,11 +12,9 @@ use Rattle.format.specs.Rooms.{Rooms, perhaps, pieceText, piecesText, headPiece
 use Rattle.pen.specs.Pen.{Wrote}
 use Rattle.header.specs.declared.MayEntry.{MayEntry}
 use Rattle.header.specs.Fields.{MayStand}
-use Rattle.features.specs.Reads.{featuresIn}
 use Rattle.middle.specs.Middles.{contigIn}
 use Rattle.plan.specs.declared.Plan.{Plan}
-use Rattle.plan.specs.declared.Rest.{Rest}
-use Rattle.plan.specs.Plans.{RestStands, PlanStands}
+use Rattle.plan.specs.Plans.{PlanStands}
 
 abbrev pub roomsIn : List ℕ → List ℕ → List ℕ → List ℕ → List ℕ → List ℕ → Rooms
 roomsIn texts references comments features qualifiers letters =

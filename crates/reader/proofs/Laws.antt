@@ -1,16 +1,15 @@
 -- The laws of the entry point: what refuses, what does not fit, and what filled rooms hold.
-use Prim.Native.Nat.{ℕ, _+_, _-_, _*_, _≤_, _<_, _^_}
+use Prim.Native.Nat.{ℕ, _+_, _-_, _≤_, _<_, _^_}
 use native.Mathlib.Omega.{arith}
 use mathlib.Core.Bool.{Bool, true, false, not}
 use mathlib.Core.Path.{_≡_, refl, sym, ap, subst, _∙_}
 use mathlib.Core.List.{List, _++_}
 use lib.ListN.{length, drop, length-append, length-drop}
 use lib.Seq.{sets, sets-eq}
-use lib.Dec.{eqb, leb}
 use borrow.Author.Tests.{eq-eqb, ne-eqb, le-leb, lt-leb, not-true, not-false}
 use Rattle.format.specs.Bytes.{each}
 use Rattle.format.specs.Table.{Table}
-use Rattle.format.specs.Record.{Outcome, Read, Not, most, readRecord, readAt}
+use Rattle.format.specs.Record.{Read, Not, most, readRecord, readAt}
 use Rattle.format.specs.Rooms.{Rooms, perhaps, pieceText, piecesText, headPieces, referencePieces, commentPieces, textsOf, featureText, contigAt, layout, sizes, headOf, fits, answerOf, readAnswer, over, overRooms, roomsOf, roomsAfter}
 use Rattle.format.specs.declared.Head.{Head}
 use Rattle.format.specs.declared.Sizes.{Sizes}
@@ -19,18 +18,19 @@ use Rattle.format.specs.declared.Unread.the-variants as unread
 use Rattle.format.specs.declared.ReadAnswer.{ReadAnswer}
 use Rattle.format.specs.declared.ReadAnswer.the-variants as answer
 use Rattle.rooms.specs.LayoutLengths.{SameLengths, layout-keeps}
-use Rattle.header.specs.Fields.{mayLength}
+use Rattle.header.specs.Fields.{MayStand, mayLength}
 use Rattle.references.specs.Standing.{may-sized}
-use Rattle.headputs.specs.Places.{headBytes}
+use Rattle.headputs.specs.Stands.{HeadStands, head-sized, head-made}
 use Rattle.plan.specs.declared.Plan.{Plan}
 use Rattle.plan.specs.declared.PlanAt.{PlanAt}
 use Rattle.plan.specs.declared.PlanAt.the-variants as plan
 use Rattle.plan.specs.Plans.{planTable, PlanIs, PlanAs, Plans}
 use Rattle.plan.specs.Parts.{TableParts, table-parts, SmallParts, small-parts}
 use Rattle.middle.specs.Middles.{contigIn}
-use Rattle.fill.specs.Fills.{roomsIn, Ready, Filled}
+use Rattle.fill.specs.Fills.{Ready, Filled}
+use Rattle.fill.specs.Heads.{plan-head}
 use Rattle.reader.specs.Agree.{rooms-equal}
-use Rattle.reader.specs.Reads.{sizesIn, contigPlace, headPlan, fitsIn, Answering, Answered}
+use Rattle.reader.specs.Reads.{contigPlace, textsPlan, sizesIn, headPlan, fitsIn, Answering, Answered}
 
 -- ---- the place
 
@@ -104,7 +104,9 @@ pub ruleset entering = (refused-long, refused-beyond, refused-end, refused-plan,
 
 sets-over : (new old : List ℕ) → length (over new old) ≡ length old → sets old 0 new ≡ over new old
 sets-over new old e =
-    sets-eq new old 0 (omega (arith, e, length-append new (drop (length new) old), length-drop (length new) old))
+    let l : 0 + length new ≤ length old = omega (arith, e, length-append new (drop (length new) old), length-drop (length new) old) in
+    let z : 0 + length new ≡ length new = omega arith in
+    sets-eq new old 0 l ∙ ap (λ (k : ℕ). new ++ drop k old) z
 
 module _ (s : List ℕ) (p : Plan) (h : Ready s p) (old : Rooms) (f : fits (sizes (planTable s p)) old ≡ true) where
   pub filled-over : (new : Rooms) → Filled (planTable s p) old new → new ≡ overRooms (layout (planTable s p)) old
@@ -118,7 +120,7 @@ module _ (s : List ℕ) (p : Plan) (h : Ready s p) (old : Rooms) (f : fits (size
       (w .qualifiers ∙ sets-over (layout (planTable s p) .qualifiers) (old .qualifiers) (k .qualifiers))
       (w .letters ∙ sets-over (layout (planTable s p) .letters) (old .letters) (k .letters))
 
--- ---- sizes and head of the plan's table; e is what the head's bytes are
+-- ---- sizes and head of the plan's table
 
 texts-long : (t : Table) →
     length (layout t .texts) ≡ contigAt t + length (pieceText (perhaps (t .contig)))
@@ -149,12 +151,15 @@ fits-in : (n : Sizes) (r : Rooms) →
 unfolding fits fitsIn
 fits-in n r = refl
 
-module _ (s : List ℕ) (p : Plan) (h : Ready s p) (e : headBytes (p .locus) (p .header) ≡ length (piecesText (headPieces (planTable s p)))) where
+module _ (s : List ℕ) (p : Plan) (h : Ready s p) where
   parts : TableParts s p
   parts = table-parts s p
 
   small : SmallParts (length s) (planTable s p)
   small = small-parts s p (h .stands)
+
+  stands : HeadStands s (p .«header_at») (p .locus) (p .header) (planTable s p)
+  stands = plan-head s p (h .stands)
 
   pub contig-place : contigPlace p ≡ contigAt (planTable s p)
   contig-place =
@@ -162,32 +167,42 @@ module _ (s : List ℕ) (p : Plan) (h : Ready s p) (e : headBytes (p .locus) (p 
       let r : p .header .«reference_bytes» ≡ length (textsOf referencePieces (planTable s p .references)) = rw (parts .references) (g .reference-bytes) in
       let c : p .header .«comment_bytes» ≡ length (textsOf commentPieces (planTable s p .comments)) = rw (parts .comments) (g .comment-bytes) in
       let f : p .rest .features .bytes ≡ length (each featureText (planTable s p .features)) = rw (parts .features) (h .stands .rest .middle .read .bytes) in
-      omega (arith, e)
+      omega (arith, head-sized s (p .«header_at») (p .locus) (p .header) (planTable s p) stands)
 
   pub contig-bound : contigPlace p < 2 ^ 64
   contig-bound =
       rw contig-place (omega (arith, small .head, small .reference-texts, small .comment-texts, small .feature-texts, h .most))
+
+  contig-long : mayLength (p .rest .contig) ≡ length (pieceText (perhaps (planTable s p .contig)))
+  contig-long = rw (parts .contig) (may-sized s 0 false (contigIn s (p .rest .contig)) (p .rest .contig) (h .stands .rest .middle .contig))
 
   pub sizes-is : sizesIn p ≡ sizes (planTable s p)
   unfolding sizesIn sizes
   sizes-is =
       let g = h .stands .header in
       let m = h .stands .rest .middle in
-      let c : mayLength (p .rest .contig) ≡ length (pieceText (perhaps (planTable s p .contig))) =
-      rw (parts .contig) (may-sized s 0 false (contigIn s (p .rest .contig)) (p .rest .contig) (m .contig)) in
       sizes-equal (sizesIn p) (sizes (planTable s p))
-      (omega (arith, contig-place, texts-long (planTable s p)))
+      (omega (arith, contig-place, contig-long, texts-long (planTable s p)))
       (rw (parts .references) (g .references))
       (rw (parts .comments) (g .comments))
       (rw (parts .features) (m .read .count))
       (rw (parts .features) (m .read .qualifiers))
       (rw (parts .letters) (h .stands .rest .counted))
 
-  pub sizes-bound : sizesIn p .texts < 2 ^ 64
-  unfolding sizes
+  pub sizes-bound : textsPlan p < 2 ^ 64
   sizes-bound =
-      rw sizes-is
-      (omega (arith, texts-long (planTable s p), small .head, small .reference-texts, small .comment-texts, small .feature-texts, small .contig, h .most))
+      omega
+      (arith, contig-place, contig-long, small .head, small .reference-texts, small .comment-texts, small .feature-texts, small .contig, h .most)
+
+  head-is : headPlan p ≡ headOf (planTable s p)
+  unfolding headPlan
+  head-is =
+      let g = h .stands .header in
+      let m = h .stands .rest .middle in
+      let c : MayStand s 0 false (planTable s p .contig) (p .rest .contig) = rw (parts .contig) (m .contig) in
+      head-made s (p .«header_at») (p .locus) (p .header) (planTable s p) stands (p .rest .features .count) (contigPlace p) (p .rest .contig) (p .rest .letters) 0 false
+      (rw (parts .references) (g .references)) (rw (parts .comments) (g .comments)) (rw (parts .features) (m .read .count)) contig-place c
+      (rw (parts .letters) (h .stands .rest .counted))
 
   module _ (old : Rooms) (n : Sizes) (b : Bool) (k : n ≡ sizesIn p)
       (m : b ≡ fitsIn n (length (old .texts)) (length (old .references)) (length (old .comments)) (length (old .features)) (length (old .qualifiers)) (length (old .letters))) where
@@ -198,12 +213,12 @@ module _ (s : List ℕ) (p : Plan) (h : Ready s p) (e : headBytes (p .locus) (p 
     unfolding answerOf roomsOf
     answer-room w = record { is = rw (fits-is, not-true b w, ← sizes-is, ← k); rooms = rw (fits-is, not-true b w) }
 
-    pub answer-done : (new : Rooms) (x : Head) → not b ≡ false → Filled (planTable s p) old new → x ≡ headPlan p → headPlan p ≡ headOf (planTable s p) →
+    pub answer-done : (new : Rooms) (x : Head) → not b ≡ false → Filled (planTable s p) old new → x ≡ headPlan p →
         Answering s p old new (answer.Done x (p .rest .place))
     unfolding answerOf roomsOf
-    answer-done new x w d i j =
+    answer-done new x w d i =
         let f : fits (sizes (planTable s p)) old ≡ true = fits-is ∙ not-false b w in
         let z : length s - length (drop (p .rest .place) s) ≡ p .rest .place = rw (length-drop (p .rest .place) s) (omega (arith, h .stands .rest .within)) in
-        record { is = rw (f, z, ← j, ← i); rooms = rw f (filled-over s p h old f new d) }
+        record { is = rw (f, z, ← head-is, ← i); rooms = rw f (filled-over s p h old f new d) }
 
 pub ruleset answering = (contig-bound, sizes-bound, answer-room, answer-done)

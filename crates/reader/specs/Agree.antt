@@ -1,6 +1,6 @@
 -- Any two answers that the reader's contract permits agree.
 use Prim.Native.Nat.{ℕ}
-use mathlib.Core.Path.{_≡_, refl, ap, _∙_}
+use mathlib.Core.Path.{_≡_, ap, _∙_}
 use mathlib.Core.List.{List}
 use Rattle.format.specs.Rooms.{Rooms, roomsAfter}
 use Rattle.format.specs.declared.ReadAnswer.{ReadAnswer}

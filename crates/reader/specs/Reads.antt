@@ -22,10 +22,14 @@ use Rattle.plan.specs.Plans.{planTable}
 abbrev pub contigPlace : Plan → ℕ
 contigPlace p = headBytes (p .locus) (p .header) + p .header .«reference_bytes» + p .header .«comment_bytes» + p .rest .features .bytes
 
+-- how many bytes the store takes
+abbrev pub textsPlan : Plan → ℕ
+textsPlan p = contigPlace p + mayLength (p .rest .contig)
+
 unfoldable pub sizesIn : Plan → Sizes
 sizesIn p =
     record {
-      texts = contigPlace p + mayLength (p .rest .contig);
+      texts = textsPlan p;
       references = p .header .references;
       comments = p .header .comments;
       features = p .rest .features .count;

@@ -8,11 +8,11 @@ use plan::PlanAt;
 ghost use mathlib.Core.Path.{_≡_};
 ghost use Prim.Native.Nat.{_<_, _^_};
 ghost use Rattle.fill.specs.Fills.{roomsIn, Ready};
-ghost use Rattle.reader.specs.Reads.{sizesIn, contigPlace, headPlan, fitsIn, Answering, Answered};
+ghost use Rattle.reader.specs.Reads.{contigPlace, textsPlan, sizesIn, headPlan, fitsIn, Answering, Answered};
 
 // How much of each room a record takes.
 fn sizes_of(plan: Plan) -> Sizes
-    requires { ⌜ sizesIn plan .texts < 2 ^ 64 ⌝ }
+    requires { ⌜ textsPlan plan < 2 ^ 64 ⌝ }
     ensures { λ r. ⌜ r ≡ sizesIn plan ⌝ }
 {
     let locus = plan.locus;

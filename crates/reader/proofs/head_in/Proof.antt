@@ -1,15 +1,9 @@
-use Prim.Native.Nat.{ℕ, suc, _+_, _-_, _*_, _/_, _%_, _≤_, _<_}
-use mathlib.Core.Path.{_≡_, refl, sym, ap, _∙_}
-use lib.ListN.{length, getD, take, drop, set}
-use native.Mathlib.Omega.{arith}
-use denote.Ref.{now}
+-- `reader::head_in` meets its contract. Assumes nothing.
+use mathlib.Core.Path.{_∙_}
 use borrow.Author.Needs.{needs}
+use Rattle.reader.specs.Reads.{headPlan}
 use Rattle.reader.proofs.head_in.Statement.{statement}
 use Rattle.reader.proofs.head_in.Tie as tie
-use Rattle.reader.proofs.head_in.Reads as reads
-use Rattle.reader.proofs.head_in.Lts as lts
-use Rattle.headputs.proofs.head_bytes.Reads as head-bytes-reads
-use Rattle.headputs.proofs.head_of.Reads as head-of-reads
 
 head-bytes-requires : tie.Need-head-bytes-requires
 head-bytes-requires c κs = search needs
@@ -27,7 +21,8 @@ head-of-requires : tie.Need-head-of-requires
 head-of-requires c κs = search needs
 
 returns : tie.Need-returns
-returns c = search (RULES, needs)
+unfolding headPlan
+returns c = c^head-of .ensures ∙ rw (c^head-bytes .ensures)
 
 pub head-in-spec : {M : Type 1} → statement M
 head-in-spec =
