@@ -108,8 +108,8 @@ module _ (s : List ℕ) (keep : Bool) (e : MayEntry) (x : Entry) (q : e ≡ may.
   pub may-room : (pens : Pens) → Room pens (mayPiece s keep e ∷ []) → Room pens (alwaysPiece s keep x ∷ [])
   may-room pens h = let w : Room pens (mayPiece s keep (may.Is x) ∷ []) = rw q at h in record { text = w .text; row = w .row }
 
-  pub comment-room : (pens : Pens) → Room pens (commentFound s e) → Room pens (commentFound s (may.Is x))
-  comment-room pens h = rw q at h
+  pub commented-room : (pens : Pens) → Room pens (commentFound s e) → Room pens (commentFound s (may.Is x))
+  commented-room pens h = rw q at h
 
 pub absent-room : (s : List ℕ) (keep : Bool) (e : MayEntry) → e ≡ may.Absent → (pens : Pens) → Room pens (mayPiece s keep e ∷ []) → Room pens (perhaps absent ∷ [])
 absent-room s keep e q pens h = let w : Room pens (mayPiece s keep may.Absent ∷ []) = rw q at h in record { text = w .text; row = w .row }

@@ -46,11 +46,11 @@ module _ (s : List ℕ) (at : ℕ) (keep : Bool) where
   text-is : (t : List ℕ) (e : Entry) → Stands s at keep t e → t ≡ entryText s keep e
   text-is t e h = rw (h .again)
 
-  may-ready : (t : May (List ℕ)) (e : MayEntry) → MayStand s at keep t e → MayReady s keep e
-  may-ready absent may.Absent h = tt
-  may-ready absent (may.Is e) h = absurd h
-  may-ready (is t) may.Absent h = tt
-  may-ready (is t) (may.Is e) h = ready t e h
+  may-be-ready : (t : May (List ℕ)) (e : MayEntry) → MayStand s at keep t e → MayReady s keep e
+  may-be-ready absent may.Absent h = tt
+  may-be-ready absent (may.Is e) h = absurd h
+  may-be-ready (is t) may.Absent h = tt
+  may-be-ready (is t) (may.Is e) h = ready t e h
 
   may-is : (t : May (List ℕ)) (e : MayEntry) → MayStand s at keep t e → t ≡ mayText s keep e
   may-is absent may.Absent h = refl
@@ -63,12 +63,12 @@ module _ (s : List ℕ) (at : ℕ) (x : Reference) (e : ReferenceEntries) (h : R
   reference-ready =
       record {
         text = ready s at true (x .text) (e .text) (h .text);
-        authors = may-ready s at true (x .authors) (e .authors) (h .authors);
-        consrtm = may-ready s at true (x .consrtm) (e .consrtm) (h .consrtm);
+        authors = may-be-ready s at true (x .authors) (e .authors) (h .authors);
+        consrtm = may-be-ready s at true (x .consrtm) (e .consrtm) (h .consrtm);
         title = ready s at true (x .title) (e .title) (h .title);
-        journal = may-ready s at true (x .journal) (e .journal) (h .journal);
-        pubmed = may-ready s at false (x .pubmed) (e .pubmed) (h .pubmed);
-        remark = may-ready s at true (x .remark) (e .remark) (h .remark);
+        journal = may-be-ready s at true (x .journal) (e .journal) (h .journal);
+        pubmed = may-be-ready s at false (x .pubmed) (e .pubmed) (h .pubmed);
+        remark = may-be-ready s at true (x .remark) (e .remark) (h .remark);
       }
 
   reference-is : referencePieces x ≡ referencePieces (referenceOf s e)

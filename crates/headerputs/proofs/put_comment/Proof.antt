@@ -1,7 +1,7 @@
 -- `headerputs::put_comment` meets its contract. Assumes nothing.
 use mathlib.Core.Bool.{true}
 use denote.Ref.{now}
-use Rattle.headerputs.proofs.Putting.{may-ready, comment-room, puts-none}
+use Rattle.headerputs.proofs.Putting.{may-ready, commented-room, puts-none}
 use borrow.Author.Needs.{needs}
 use Rattle.headerputs.proofs.put_comment.Statement.{statement}
 use Rattle.headerputs.proofs.put_comment.Tie as tie
@@ -13,7 +13,7 @@ enum-known-comment : tie.Need-enum-known-comment
 enum-known-comment c = search needs
 
 put-always-requires : tie.Need-put-always-requires
-put-always-requires c κs = (may-ready (now (c .before .before .before .before .before .before .before .before .args .s)) true _ _ (c .before .before .before .comment .given .1) (c .before .before .before .before .before .before .before .before .pre .0), comment-room (now (c .before .before .before .before .before .before .before .before .args .s)) true _ _ (c .before .before .before .comment .given .1) _ (c .before .before .before .before .before .before .before .before .pre .1))
+put-always-requires c κs = (may-ready (now (c .before .before .before .before .before .before .before .before .args .s)) true _ _ (c .before .before .before .comment .given .1) (c .before .before .before .before .before .before .before .before .pre .0), commented-room (now (c .before .before .before .before .before .before .before .before .args .s)) true _ _ (c .before .before .before .comment .given .1) _ (c .before .before .before .before .before .before .before .before .pre .1))
 
 returns : tie.Need-returns
 returns c = rw (c .enum-told .given .1) (puts-none _ _ _)
