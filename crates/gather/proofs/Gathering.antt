@@ -4,7 +4,7 @@ use mathlib.Core.Path.{_≡_, refl, sym, ap, _∙_, subst}
 use mathlib.Core.List.{List, [], _∷_, _++_, append-assoc, append-nil}
 use native.Mathlib.Omega.{arith}
 use lib.ListN.{length, drop}
-use Rattle.format.specs.Readers.{Ans, Got, No, Cut, bind, mapped, members, end, tryTurn, whileFits}
+use Rattle.format.specs.Readers.{Ans, Got, No, Cut, bind, mapped, end, tryTurn, whileFits}
 use Rattle.format.specs.Header as format
 use Rattle.format.specs.Header.{headerField, latest, every}
 use Rattle.format.specs.Rooms.{textsOf}

@@ -1,6 +1,6 @@
 -- What one more field makes of a header that was gathered up to it. Assumes nothing.
 use Prim.Native.Nat.{ℕ, _+_, _≤_, _<_, _^_}
-use mathlib.Core.Path.{_≡_, refl, sym, ap, _∙_}
+use mathlib.Core.Path.{_≡_, refl, sym, _∙_}
 use mathlib.Core.Bool.{Bool, true, false}
 use mathlib.Core.List.{List, [], _∷_, _++_, append-nil}
 use native.Mathlib.Nat.{add-zero}
@@ -22,7 +22,6 @@ use Rattle.headerfields.specs.declared.Field.{Field}
 use Rattle.headerfields.specs.declared.Field.the-variants as field
 use Rattle.headerfields.specs.Fields.{EntryIs, FieldIs}
 use Rattle.gather.specs.declared.MaySource.{MaySource}
-use Rattle.gather.specs.declared.MaySource.the-variants as source
 use Rattle.gather.specs.declared.Header.{Header}
 use Rattle.gather.specs.Notes.{chosen, entryIn, later, laterSource, twiceBy, entryAmount, referenceAmount, noting, Fitting}
 use Rattle.gather.specs.Gathered.{SourceStands, Gathers}
@@ -58,51 +57,31 @@ module _ (s : List ℕ) (at next : ℕ) (x : format.Field) (n : ℕ) (word : Lis
 
 module _ (s : List ℕ) (at next : ℕ) (x : format.Field) where
   -- how many references there are in one field, and how long
-  reference-count : (f : Field) → FieldIs s at next x f → referenceAmount f .count ≡ length (found (referenceIn x))
-  reference-count (field.Definition e) h = rw (h .is)
-  reference-count (field.Accession e) h = rw (h .is)
-  reference-count (field.Version e) h = rw (h .is)
-  reference-count (field.Dblink e) h = rw (h .is)
-  reference-count (field.Keywords e) h = rw (h .is)
-  reference-count (field.Source text organism) h = rw (h .is)
-  reference-count (field.Reference entries size) h = rw (h .is)
-  reference-count (field.Comment e) h = rw (h .is)
-  reference-count field.Dropped h = rw h
-
-  reference-size : (f : Field) → FieldIs s at next x f → referenceAmount f .bytes ≡ length (textsOf referencePieces (found (referenceIn x)))
+  reference-adds : (f : Field) → FieldIs s at next x f
+      → (referenceAmount f .count ≡ length (found (referenceIn x))) × (referenceAmount f .bytes ≡ length (textsOf referencePieces (found (referenceIn x))))
   unfolding textsOf
-  reference-size (field.Definition e) h = rw (h .is)
-  reference-size (field.Accession e) h = rw (h .is)
-  reference-size (field.Version e) h = rw (h .is)
-  reference-size (field.Dblink e) h = rw (h .is)
-  reference-size (field.Keywords e) h = rw (h .is)
-  reference-size (field.Source text organism) h = rw (h .is)
-  reference-size (field.Reference entries size) h = rw (h .is, append-nil (piecesText (referencePieces (h .the)))) (h .known .sized)
-  reference-size (field.Comment e) h = rw (h .is)
-  reference-size field.Dropped h = rw h
+  reference-adds (field.Definition e) h = rw (h .is) (refl, refl)
+  reference-adds (field.Accession e) h = rw (h .is) (refl, refl)
+  reference-adds (field.Version e) h = rw (h .is) (refl, refl)
+  reference-adds (field.Dblink e) h = rw (h .is) (refl, refl)
+  reference-adds (field.Keywords e) h = rw (h .is) (refl, refl)
+  reference-adds (field.Source text organism) h = rw (h .is) (refl, refl)
+  reference-adds (field.Reference entries size) h = rw (h .is, append-nil (piecesText (referencePieces (h .the)))) (refl, h .known .sized)
+  reference-adds (field.Comment e) h = rw (h .is) (refl, refl)
+  reference-adds field.Dropped h = rw h (refl, refl)
 
-  -- what a field adds lies inside it
-  adds-small : (f : Field) → FieldIs s at next x f → at < next → referenceAmount f .bytes + entryAmount (entryIn 5 f) .bytes + at ≤ next
-  adds-small (field.Definition e) h l = omega arith
-  adds-small (field.Accession e) h l = omega arith
-  adds-small (field.Version e) h l = omega arith
-  adds-small (field.Dblink e) h l = omega arith
-  adds-small (field.Keywords e) h l = omega arith
-  adds-small (field.Source text organism) h l = omega arith
-  adds-small (field.Reference entries size) h l = omega (arith, h .known .small)
-  adds-small (field.Comment e) h l = omega (arith, h .until, h .stands .from, h .stands .small)
-  adds-small field.Dropped h l = omega arith
-
-  adds-few : (f : Field) → referenceAmount f .count + entryAmount (entryIn 5 f) .count ≤ 1
-  adds-few (field.Definition e) = omega arith
-  adds-few (field.Accession e) = omega arith
-  adds-few (field.Version e) = omega arith
-  adds-few (field.Dblink e) = omega arith
-  adds-few (field.Keywords e) = omega arith
-  adds-few (field.Source text organism) = omega arith
-  adds-few (field.Reference entries size) = omega arith
-  adds-few (field.Comment e) = omega arith
-  adds-few field.Dropped = omega arith
+  -- what a field adds lies inside it, and is one at most
+  adds-little : (f : Field) → FieldIs s at next x f → at < next
+      → (referenceAmount f .bytes + entryAmount (entryIn 5 f) .bytes + at ≤ next) × (referenceAmount f .count + entryAmount (entryIn 5 f) .count ≤ 1)
+  adds-little (field.Definition e) h l = (omega arith, omega arith)
+  adds-little (field.Accession e) h l = (omega arith, omega arith)
+  adds-little (field.Version e) h l = (omega arith, omega arith)
+  adds-little (field.Dblink e) h l = (omega arith, omega arith)
+  adds-little (field.Keywords e) h l = (omega arith, omega arith)
+  adds-little (field.Source text organism) h l = (omega arith, omega arith)
+  adds-little (field.Reference entries size) h l = (omega (arith, h .known .small), omega arith)
+  adds-little (field.Comment e) h l = (omega (arith, h .until, h .stands .from, h .stands .small), omega arith)
+  adds-little field.Dropped h l = (omega arith, omega arith)
 
 module _ (s : List ℕ) (at : ℕ) where
   entry-count : (t : May (List ℕ)) (e : MayEntry) → MayStand s at true t e → entryAmount e .count ≡ length (found t)
@@ -165,8 +144,7 @@ module _ (Ended : Type 0) (s : List ℕ) (at : ℕ) (pre : List format.Field) (h
     (k : FieldIs s (h .next) next x f) (l : h .next < next) where
   pub notes-fit : next < 2 ^ 64 → Fitting h f
   notes-fit b =
-      let small = adds-small s (h .next) next x f k l in
-      let few = adds-few s (h .next) next x f in
+      let little = adds-little s (h .next) next x f k l in
       record {
         references = omega (arith, g .few);
         reference-bytes = omega (arith, g .small);
@@ -185,8 +163,7 @@ module _ (Ended : Type 0) (s : List ℕ) (at : ℕ) (pre : List format.Field) (h
   unfolding noting
   notes-more More more b =
       let comment = found-here 5 (bytes "COMMENT") (refl, refl, refl, refl, refl, refl) in
-      let small = adds-small s (h .next) next x f k l in
-      let few = adds-few s (h .next) next x f in
+      let little = adds-little s (h .next) next x f k l in
       record {
         ended = more;
         definition = entry-more 0 (bytes "DEFINITION") (h .definition) (refl, refl, refl, refl, refl, refl) (g .definition);
@@ -198,8 +175,8 @@ module _ (Ended : Type 0) (s : List ℕ) (at : ℕ) (pre : List format.Field) (h
         twice =
             twice-more s at (textIn (bytes "DEFINITION")) pre x (h .twice) (h .definition) (entryIn 0 f) (g .twice) (g .definition)
             (found-here 0 (bytes "DEFINITION") (refl, refl, refl, refl, refl, refl));
-        references = omega (arith, g .references, reference-count s (h .next) next x f k, count-one-more referenceIn x pre);
-        reference-bytes = omega (arith, g .reference-bytes, reference-size s (h .next) next x f k, bytes-one-more referenceIn x pre referencePieces);
+        references = omega (arith, g .references, reference-adds s (h .next) next x f k .0, count-one-more referenceIn x pre);
+        reference-bytes = omega (arith, g .reference-bytes, reference-adds s (h .next) next x f k .1, bytes-one-more referenceIn x pre referencePieces);
         comments = omega (arith, g .comments, entry-count s at (textIn (bytes "COMMENT") x) (entryIn 5 f) comment, count-one-more (textIn (bytes "COMMENT")) x pre);
         comment-bytes =
             omega (arith, g .comment-bytes, entry-size s at (textIn (bytes "COMMENT") x) (entryIn 5 f) comment, bytes-one-more (textIn (bytes "COMMENT")) x pre commentPieces);

@@ -4,7 +4,7 @@ use header::MayEntry;
 use headerfields::Field;
 use headerfields::FieldAt;
 ghost use mathlib.Core.Path.{_≡_};
-ghost use Prim.Native.Nat.{_+_, _≤_, _<_, _^_};
+ghost use Prim.Native.Nat.{_+_, _≤_};
 ghost use lib.ListN.{length, drop};
 ghost use Rattle.gather.specs.Notes.{chosen, entryIn, later, laterSource, twiceBy, referenceAmount, entryAmount, unseen, noting, Fitting};
 ghost use Rattle.gather.specs.Gathered.{fieldsAt, Gathered};

@@ -9,6 +9,7 @@ use lib.ListN.{length, getD, length-append}
 use lib.Dec.{eqb, ltb}
 use borrow.Author.Tests.{lt-ltb, eqb-true}
 use Rattle.table.specs.Steps.{and-left, and-right}
+use Rattle.utf8.specs.Every.{all-append}
 use Rattle.format.specs.Bytes.{pick, some, starts, all, between, printing, blank, notBlank, but}
 use Rattle.format.specs.Locus.{ahead, tokens}
 use Rattle.format.specs.Write.{white, blanked, words, joined}
@@ -230,14 +231,6 @@ two-all s = refl
 and-true : (x : Bool) → (x && true) ≡ x
 and-true true = refl
 and-true false = refl
-
-all-append : (f : ℕ → Bool) (x y : List ℕ) → all f (x ++ y) ≡ (all f x && all f y)
-all-append f [] y = refl
-all-append f (b ∷ x) y = go (f b) (all-append f x y)
-  where
-    go : (c : Bool) → all f (x ++ y) ≡ (all f x && all f y) → (c && all f (x ++ y)) ≡ ((c && all f x) && all f y)
-    go true ih = ih
-    go false ih = refl
 
 -- what is put for a byte but a tab prints if the byte does
 cap-prints : (p : Place) (b : ℕ) → but 9 b ≡ true → all printing (cap p b) ≡ printing b

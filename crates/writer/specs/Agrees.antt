@@ -16,9 +16,9 @@ use Rattle.format.specs.declared.Unwritten.the-variants as unwritten
 use Rattle.format.specs.declared.WriteAnswer.{WriteAnswer}
 use Rattle.format.specs.declared.WriteAnswer.the-variants as answer
 use Rattle.promise.specs.Promise.{plain-agrees, keeping-agrees, thirteen-exactly, kept-as-plain, done-like-plain, Back, rooms-come-back}
-use Rattle.writer.specs.Writer.{PlainAnswered, KeepingAnswered}
+use Rattle.writer.specs.Writer.{PlainAnswered, KeepingAnswered, Counts, plain-counts, keeping-counts}
 
--- where the answer is not number 0, the slice is as it was; where it is, the text stands at its front
+-- a slice after any answer but number 0
 unchanged : (a : WriteAnswer) (text old : List ℕ) → (number a ≡ 0 → ⊥) → sliceAfter a text old ≡ old
 unchanged (answer.Done k) text old h = absurd (h refl)
 unchanged (answer.Refused why) text old h = refl
@@ -34,6 +34,14 @@ module _ (W : ℕ) (truncate escape : Bool) (r : Rooms) (h : Head) (old : List �
       (a b : WriteAnswer) (x y : List ℕ) → KeepingAnswered W truncate escape r h old x a → KeepingAnswered W truncate escape r h old y b → (a ≡ b) × (x ≡ y)
   keeping-one a b x y p q = keeping-agrees W truncate escape r h old a b x y (p .is) (p .slice) (q .is) (q .slice)
 
+  -- the number with 0 and with 6 is the length of the text
+  pub plain-counted : (a : WriteAnswer) (new : List ℕ) → PlainAnswered W truncate escape r h old new a → Counts a (length (written W truncate escape (tableOf r h)))
+  plain-counted a new p = rw (p .is) (plain-counts W truncate escape r h (length old))
+
+  pub keeping-counted : (a : WriteAnswer) (new : List ℕ) → KeepingAnswered W truncate escape r h old new a → Counts a (length (written W truncate escape (tableOf r h)))
+  keeping-counted a new p = rw (p .is) (keeping-counts W truncate escape r h (length old))
+
+  -- any answer but number 0 leaves the slice as it was
   pub plain-untouched : (a : WriteAnswer) (new : List ℕ) → PlainAnswered W truncate escape r h old new a → (number a ≡ 0 → ⊥) → new ≡ old
   plain-untouched a new p n = p .slice ∙ unchanged a (written W truncate escape (tableOf r h)) old n
 

@@ -47,6 +47,15 @@ abbrev pub answered : Verdict → WriteAnswer → WriteAnswer
 answered verdict.Fine a = a
 answered (verdict.Not why) a = answer.Refused why
 
+by-verdict :
+    (a b c : Bool) (x : WriteAnswer) →
+    pick a (pick b (pick c x (answer.Refused unwritten.NoLayout)) (answer.Refused unwritten.BadRooms)) (answer.Refused unwritten.BadWidth) ≡
+    answered (pick a (pick b (pick c verdict.Fine (verdict.Not unwritten.NoLayout)) (verdict.Not unwritten.BadRooms)) (verdict.Not unwritten.BadWidth)) x
+by-verdict false b c x = refl
+by-verdict true false c x = refl
+by-verdict true true false x = refl
+by-verdict true true true x = refl
+
 -- what is known of a table that gets as far as number 11
 pub record Passed (W : ℕ) (r : Rooms) (h : Head) : Type 0 where
   pub rooms : roomsFine r h ≡ true
@@ -97,31 +106,49 @@ module _ (W : ℕ) (truncate escape : Bool) (r : Rooms) (h : Head) where
 
   plain-is : (n : ℕ) → plainAnswer W truncate escape r h n ≡ answered (verdictOf W truncate escape r h) (room n (length (written W truncate escape (tableOf r h))))
   unfolding plainAnswer verdictOf
-  plain-is n = go (widthFine W) (roomsFine r h) (wellFormed W truncate escape (tableOf r h)) (room n (length (written W truncate escape (tableOf r h))))
-    where
-      go : (a b c : Bool) (x : WriteAnswer) →
-          pick a (pick b (pick c (pick true x (answer.Refused unwritten.NotKept)) (answer.Refused unwritten.NoLayout)) (answer.Refused unwritten.BadRooms)) (answer.Refused unwritten.BadWidth) ≡
-          answered (pick a (pick b (pick c verdict.Fine (verdict.Not unwritten.NoLayout)) (verdict.Not unwritten.BadRooms)) (verdict.Not unwritten.BadWidth)) x
-      go false b c x = refl
-      go true false c x = refl
-      go true true false x = refl
-      go true true true x = refl
+  plain-is n = by-verdict (widthFine W) (roomsFine r h) (wellFormed W truncate escape (tableOf r h)) (room n (length (written W truncate escape (tableOf r h))))
 
   keeping-is : (n : ℕ) → keepingAnswer W truncate escape r h n ≡
       answered (verdictOf W truncate escape r h)
       (pick (keeps W truncate escape (tableOf r h)) (room n (length (written W truncate escape (tableOf r h)))) (answer.Refused unwritten.NotKept))
   unfolding keepingAnswer verdictOf
   keeping-is n =
-      go (widthFine W) (roomsFine r h) (wellFormed W truncate escape (tableOf r h))
+      by-verdict (widthFine W) (roomsFine r h) (wellFormed W truncate escape (tableOf r h))
       (pick (keeps W truncate escape (tableOf r h)) (room n (length (written W truncate escape (tableOf r h)))) (answer.Refused unwritten.NotKept))
-    where
-      go : (a b c : Bool) (x : WriteAnswer) →
-          pick a (pick b (pick c x (answer.Refused unwritten.NoLayout)) (answer.Refused unwritten.BadRooms)) (answer.Refused unwritten.BadWidth) ≡
-          answered (pick a (pick b (pick c verdict.Fine (verdict.Not unwritten.NoLayout)) (verdict.Not unwritten.BadRooms)) (verdict.Not unwritten.BadWidth)) x
-      go false b c x = refl
-      go true false c x = refl
-      go true true false x = refl
-      go true true true x = refl
+
+-- ---- the count with answers 0 and 6
+
+abbrev pub Counts : WriteAnswer → ℕ → Type 0
+Counts (answer.Done k) n = k ≡ n
+Counts (answer.Room k) n = k ≡ n
+Counts (answer.Refused why) n = Unit
+
+counts-room : (m n : ℕ) → Counts (room m n) n
+counts-room m n = go (leb n m)
+  where
+    go : (b : Bool) → Counts (pick b (answer.Done n) (answer.Room n)) n
+    go true = refl
+    go false = refl
+
+counts-answered : (v : Verdict) (a : WriteAnswer) (n : ℕ) → Counts a n → Counts (answered v a) n
+counts-answered verdict.Fine a n h = h
+counts-answered (verdict.Not why) a n h = tt
+
+counts-kept : (kept : Bool) (a : WriteAnswer) (n : ℕ) → Counts a n → Counts (pick kept a (answer.Refused unwritten.NotKept)) n
+counts-kept true a n h = h
+counts-kept false a n h = tt
+
+module _ (W : ℕ) (truncate escape : Bool) (r : Rooms) (h : Head) (n : ℕ) where
+  pub plain-counts : Counts (plainAnswer W truncate escape r h n) (length (written W truncate escape (tableOf r h)))
+  plain-counts =
+      rw (plain-is W truncate escape r h n)
+      (counts-answered (verdictOf W truncate escape r h) _ _ (counts-room n (length (written W truncate escape (tableOf r h)))))
+
+  pub keeping-counts : Counts (keepingAnswer W truncate escape r h n) (length (written W truncate escape (tableOf r h)))
+  keeping-counts =
+      rw (keeping-is W truncate escape r h n)
+      (counts-answered (verdictOf W truncate escape r h) _ _
+      (counts-kept (keeps W truncate escape (tableOf r h)) _ _ (counts-room n (length (written W truncate escape (tableOf r h))))))
 
 -- ---- number 6: measured, then written
 

@@ -1,5 +1,4 @@
 -- `gather::only_if` meets its contract. Assumes nothing.
-use borrow.Author.Needs.{needs}
 use Rattle.gather.proofs.only_if.Statement.{statement}
 use Rattle.gather.proofs.only_if.Tie as tie
 
