@@ -251,7 +251,7 @@ fn ends() {
     );
     case(b"in ORIGIN", b"LOCUS a 3 bp linear SYN 1-JAN-2000\nORIGIN");
     case(
-        b"no slashes where the sections end, none later",
+        b"the letters end the input",
         b"LOCUS a 3 bp linear SYN 1-JAN-2000\nORIGIN\nacg\n",
     );
     case(
