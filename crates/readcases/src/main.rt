@@ -150,6 +150,9 @@ fn places() {
         b"lines before LOCUS",
         b"first\n\nsecond\r\nLOCUS a 3 bp linear SYN 1-JAN-2000\n//\n",
     );
+}
+
+fn more_places() {
     case(
         b"a stray CR before LOCUS",
         b"a\rb\nLOCUS a 3 bp linear SYN 1-JAN-2000\n//\n",
@@ -160,6 +163,9 @@ fn places() {
     );
     case(b"no LOCUS", b"abc\ndef\n");
     case(b"no line end before LOCUS", b"abcLOCUS x");
+}
+
+fn further_places() {
     case_at(
         b"a place inside the first record",
         b"LOCUS a 3 bp linear SYN 1-JAN-2000\n//\nLOCUS a 3 bp linear SYN 1-JAN-2000\n//\n",
@@ -182,6 +188,9 @@ fn locus_lines() {
     case(b"the word and a CR at the end", b"LOCUS\r");
     case(b"the word and a line end", b"LOCUS\n//\n");
     case(b"cut after a CR", b"LOCUS x\r");
+}
+
+fn more_locus_lines() {
     case(b"a stray CR in it", b"LOCUS x\ry\n//\n");
     case(b"ended by CR LF", b"LOCUS x\r\n//\r\n");
     case(b"no end", b"LOCUS x");
@@ -189,6 +198,9 @@ fn locus_lines() {
         b"six tokens, tabs, blanks at the end",
         b"LOCUS\ta 3 bp\tlinear SYN 1-JAN-2000 \t\n//\n",
     );
+}
+
+fn further_locus_lines() {
     case(
         b"seven tokens",
         b"LOCUS a 4294967295 bp mRNA circular PLN 31-DEC-9999\n//\n",
@@ -202,6 +214,9 @@ fn locus_lines() {
         b"LOCUS a:b 3 bp linear SYN 1-JAN-2000\n//\n",
     );
     case(b"a day of 32", b"LOCUS a 3 bp linear SYN 32-JAN-2000\n//\n");
+}
+
+fn other_locus_lines() {
     case(
         b"a month in small letters",
         b"LOCUS a 3 bp linear SYN 1-jan-2000\n//\n",
@@ -224,6 +239,9 @@ fn ends() {
         b"two slashes and a CR",
         b"LOCUS a 3 bp linear SYN 1-JAN-2000\n//\r",
     );
+}
+
+fn more_ends() {
     case(
         b"empty lines after the slashes",
         b"LOCUS a 3 bp linear SYN 1-JAN-2000\n//\n\r\n\n",
@@ -237,6 +255,9 @@ fn ends() {
         b"in FEATURES",
         b"LOCUS a 3 bp linear SYN 1-JAN-2000\nFEATURES ",
     );
+}
+
+fn further_ends() {
     case(
         b"in a kind",
         b"LOCUS a 3 bp linear SYN 1-JAN-2000\nFEATURES             Location/Qualifiers\n     misc",
@@ -250,6 +271,9 @@ fn ends() {
         b"LOCUS a 3 bp linear SYN 1-JAN-2000\nCONTIG      join(",
     );
     case(b"in ORIGIN", b"LOCUS a 3 bp linear SYN 1-JAN-2000\nORIGIN");
+}
+
+fn other_ends() {
     case(
         b"the letters end the input",
         b"LOCUS a 3 bp linear SYN 1-JAN-2000\nORIGIN\nacg\n",
@@ -282,6 +306,9 @@ fn headers() {
         b"two DEFINITIONs",
         b"LOCUS a 3 bp linear SYN 1-JAN-2000\nDEFINITION  a\nDEFINITION  b\n//\n",
     );
+}
+
+fn more_headers() {
     case(
         b"two DEFINITIONs, the second at the end",
         b"LOCUS a 3 bp linear SYN 1-JAN-2000\nDEFINITION  a\nDEFINITION  b\n",
@@ -298,6 +325,9 @@ fn headers() {
         b"a character split over lines in PUBMED",
         b"LOCUS a 3 bp linear SYN 1-JAN-2000\nREFERENCE   1\n  TITLE     t\n   PUBMED   \xc3\n            \xa9\n//\n",
     );
+}
+
+fn further_headers() {
     case(
         b"a character split over lines in a COMMENT",
         b"LOCUS a 3 bp linear SYN 1-JAN-2000\nCOMMENT     \xc3\n            \xa9\n//\n",
@@ -330,6 +360,9 @@ fn tables() {
         b"a translation over lines",
         b"LOCUS a 3 bp linear SYN 1-JAN-2000\nFEATURES             Location/Qualifiers\n     misc_feature    1..3\n                     /translation=\"MA\n                     B\"\r\n//\n",
     );
+}
+
+fn more_tables() {
     case(
         b"a bare reading after a quoted one",
         b"LOCUS a 3 bp linear SYN 1-JAN-2000\nFEATURES             Location/Qualifiers\n     misc_feature    1..3\n                     /note=\"abc\"x\n//\n",
@@ -346,6 +379,9 @@ fn tables() {
         b"slashes inside a location",
         b"LOCUS a 3 bp linear SYN 1-JAN-2000\nFEATURES             Location/Qualifiers\n     CDS             1..2//3\n//\n",
     );
+}
+
+fn further_tables() {
     case(
         b"a space in a location",
         b"LOCUS a 3 bp linear SYN 1-JAN-2000\nFEATURES             Location/Qualifiers\n     CDS             1 ..2\n//\n",
@@ -362,6 +398,9 @@ fn tables() {
         b"BASE COUNT and CONTIG",
         b"LOCUS a 3 bp linear SYN 1-JAN-2000\nFEATURES             Location/Qualifiers\n     misc_feature    1..3\nBASE COUNT  1 a\nCONTIG      join(A.1:1..2,\n            B.1:1..2)\n//\n",
     );
+}
+
+fn other_tables() {
     case(
         b"CONTIG with a space",
         b"LOCUS a 3 bp linear SYN 1-JAN-2000\nCONTIG      a b\n//\n",
@@ -386,6 +425,9 @@ fn sequences() {
         b"a tab",
         b"LOCUS a 3 bp linear SYN 1-JAN-2000\nORIGIN      \n        1 ac\tg\n//\n",
     );
+}
+
+fn more_sequences() {
     case(
         b"ORIGIN with text",
         b"LOCUS a 3 bp linear SYN 1-JAN-2000\nORIGIN      a text\n            and more\n        1 acg\n//\n",
@@ -402,6 +444,9 @@ fn sequences() {
         b"no length in LOCUS, the end of the input",
         b"LOCUS x\nORIGIN\n  1 ac",
     );
+}
+
+fn further_sequences() {
     case(
         b"no length in LOCUS, one slash",
         b"LOCUS x\nORIGIN\n  1 ac\n/x\n",
@@ -472,11 +517,26 @@ fn fewer_rooms() {
 fn main() {
     example();
     places();
+    more_places();
+    further_places();
     locus_lines();
+    more_locus_lines();
+    further_locus_lines();
+    other_locus_lines();
     ends();
+    more_ends();
+    further_ends();
+    other_ends();
     headers();
+    more_headers();
+    further_headers();
     tables();
+    more_tables();
+    further_tables();
+    other_tables();
     sequences();
+    more_sequences();
+    further_sequences();
     rooms();
     fewer_rooms();
 }

@@ -262,23 +262,34 @@ fn locations(width: usize) {
     feature_case(b"CDS", b"", b"note", 1, b"", width);
 }
 
+// A short value of that key.
+fn key_case(key: &[u8]) {
+    feature_case(b"CDS", b"1", key, 2, b"1", 80);
+}
+
 fn bare_keys() {
     line(b"== keys that are written bare, and two that are not");
-    feature_case(b"CDS", b"1", b"anticodon", 2, b"1", 80);
-    feature_case(b"CDS", b"1", b"citation", 2, b"1", 80);
-    feature_case(b"CDS", b"1", b"codon_start", 2, b"1", 80);
-    feature_case(b"CDS", b"1", b"compare", 2, b"1", 80);
-    feature_case(b"CDS", b"1", b"direction", 2, b"1", 80);
-    feature_case(b"CDS", b"1", b"estimated_length", 2, b"1", 80);
-    feature_case(b"CDS", b"1", b"mod_base", 2, b"1", 80);
-    feature_case(b"CDS", b"1", b"number", 2, b"1", 80);
-    feature_case(b"CDS", b"1", b"rpt_type", 2, b"1", 80);
-    feature_case(b"CDS", b"1", b"rpt_unit_range", 2, b"1", 80);
-    feature_case(b"CDS", b"1", b"tag_peptide", 2, b"1", 80);
-    feature_case(b"CDS", b"1", b"transl_except", 2, b"1", 80);
-    feature_case(b"CDS", b"1", b"transl_table", 2, b"1", 80);
-    feature_case(b"CDS", b"1", b"note", 2, b"1", 80);
-    feature_case(b"CDS", b"1", b"numbers", 2, b"1", 80);
+    key_case(b"anticodon");
+    key_case(b"citation");
+    key_case(b"codon_start");
+    key_case(b"compare");
+    key_case(b"direction");
+}
+
+fn more_bare_keys() {
+    key_case(b"estimated_length");
+    key_case(b"mod_base");
+    key_case(b"number");
+    key_case(b"rpt_type");
+    key_case(b"rpt_unit_range");
+}
+
+fn last_bare_keys() {
+    key_case(b"tag_peptide");
+    key_case(b"transl_except");
+    key_case(b"transl_table");
+    key_case(b"note");
+    key_case(b"numbers");
 }
 
 fn more_values() {
@@ -599,6 +610,8 @@ fn main() {
     locations(60);
     locations(80);
     bare_keys();
+    more_bare_keys();
+    last_bare_keys();
     more_values();
     definitions();
     sequences();
