@@ -19,6 +19,7 @@ use Rattle.chars.specs.declared.Step.the-variants as step
 use Rattle.chars.specs.declared.Line.{Line}
 use Rattle.chars.specs.declared.Line.the-variants as lines
 use Rattle.lines.specs.Reached.{afterLine}
+use Rattle.lines.proofs.Lent.{true-false}
 use Rattle.preamble.specs.declared.Turn.{Turn}
 use Rattle.preamble.specs.Skips.{isGot, stopped, Before, Gone, Read, Passed}
 
@@ -37,9 +38,6 @@ module _ (s : List ℕ) (at : ℕ) (o : Ans Unit) (r : Step) (h : Stepped s at o
 pub ruleset standing = (stands, stands-not, stands-cut)
 
 -- ---- where the reader stands
-
-true-false : _≡_ {A = Bool} true false → ⊥
-true-false q = let z : _≡_ {A = ℕ} 0 1 = cc in omega arith
 
 not-there : (s : List ℕ) (o : Ans Unit) → false ≡ isGot o → skipping s o ≡ mapped more (utf8Of (line s))
 not-there s (Got u r) e = let z : _≡_ {A = ℕ} 0 1 = cc in absurd (omega arith)

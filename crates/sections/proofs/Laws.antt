@@ -17,6 +17,7 @@ use Rattle.chars.specs.declared.Step.{Step}
 use Rattle.chars.specs.declared.Step.the-variants as step
 use Rattle.sections.specs.declared.RecordEnd.the-variants as ended
 use Rattle.lines.specs.Reached.{afterFeed, Fed}
+use Rattle.lines.proofs.Lent.{true-false}
 use Rattle.sections.specs.declared.Seen.{Seen}
 use Rattle.sections.specs.Ends.{EmptyPassed, Ended}
 use Rattle.sections.specs.Later.{slashesFirst, NotHere, Sought}
@@ -27,9 +28,6 @@ short [] h = refl
 short (a ∷ []) h = refl
 short (a ∷ b ∷ []) h = refl
 short (a ∷ b ∷ c ∷ l) h = absurd (omega arith)
-
-true-false : _≡_ {A = Bool} true false → ⊥
-true-false q = let z : _≡_ {A = ℕ} 0 1 = cc in omega arith
 
 -- ---- what is seen where a line begins
 
