@@ -1,0 +1,2 @@
+-- A head as numbers.
+pub mod Numbers
