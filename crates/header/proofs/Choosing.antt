@@ -1,14 +1,13 @@
 -- One reader or else another, lines that are dropped, and entries that may be missing. Assumes nothing.
 use Prim.Native.Nat.{ℕ, _≤_}
-use mathlib.Core.Path.{_≡_, refl, sym, ap, _∙_, subst}
+use mathlib.Core.Path.{_≡_, refl, sym, ap, _∙_}
 use mathlib.Core.Bool.{Bool, true, false}
 use mathlib.Core.List.{List}
 use native.Mathlib.Omega.{arith}
 use lib.ListN.{length, drop}
-use Rattle.format.specs.Bytes.{May, absent, is, bytes}
-use Rattle.format.specs.Readers.{Ans, Got, No, Cut, passing, orElse, optional, unless, tag, line, utf8Of, bind}
+use Rattle.format.specs.Bytes.{absent, is, bytes}
+use Rattle.format.specs.Readers.{Ans, Got, No, Cut, passing, orElse, optional, unless, tag, line, utf8Of}
 use Rattle.format.specs.Header.{field, maybeField, source, ignoredLine}
-use Rattle.format.specs.Table.{Source}
 use Rattle.chars.specs.declared.Step.{Step}
 use Rattle.chars.specs.declared.Step.the-variants as step
 use Rattle.chars.specs.declared.Line.{Line}
@@ -19,13 +18,14 @@ use Rattle.chars.specs.Sequence.{step-places, line-places}
 use Rattle.field.specs.declared.Entry.{Entry}
 use Rattle.field.specs.declared.EntryAt.{EntryAt}
 use Rattle.field.specs.declared.EntryAt.the-variants as entry
-use Rattle.field.specs.Entries.{Known, EntryAs, Enters}
+use Rattle.field.specs.Entries.{Enters}
 use Rattle.header.specs.declared.MayEntry.the-variants as may
 use Rattle.header.specs.declared.MayEntryAt.the-variants as may-at
 use Rattle.header.specs.declared.MayEntryAt.{MayEntryAt}
 use Rattle.header.specs.declared.MayEntry.{MayEntry}
 use Rattle.header.specs.declared.SourceAt.the-variants as source′
-use Rattle.header.specs.Fields.{sectionWord, Stands, MayKnown, MayEnterAs, MayEnter, Sources}
+use Rattle.header.specs.Fields.{sectionWord, MayEnter, Sources}
+use Rattle.header.specs.Knowing.{known-entry, no-entry, cut-entry, entry-stands, known-may, cut-may, then-got}
 
 module _ (s : List ℕ) (at : ℕ) (o p : Ans Unit) (r : Step) (h : Stepped s at o r) where
   pub else-got : (n : ℕ) → r ≡ step.Got n → Stepped s at (orElse o p) (step.Got n)
@@ -80,23 +80,22 @@ module _ (s : List ℕ) (at : ℕ) (o : Ans (List ℕ)) (r : Line) (h : Lined s 
 
 module _ (s : List ℕ) (at : ℕ) (keep : Bool) (o : Ans (List ℕ)) (r : EntryAt) (h : Enters s at keep o r) where
   pub may-cut : r ≡ entry.Cut → MayEnter s at keep (optional (drop at s) o) may-at.Cut
-  may-cut e = let w : o ≡ Cut = subst (λ (x : EntryAt). EntryAs s at keep o x) e (h .is) in record { is = rw w }
+  may-cut e = record { is = rw (cut-entry h e) }
 
   pub may-absent : at ≤ length s → r ≡ entry.No → MayEnter s at keep (optional (drop at s) o) (may-at.Got may.Absent at)
-  may-absent l e =
-      let w : o ≡ No = subst (λ (x : EntryAt). EntryAs s at keep o x) e (h .is) in
-      record { is = record { the = absent; is = rw w; stands = tt; from = omega arith; within = l } }
+  may-absent l e = record { is = record { the = absent; is = rw (no-entry h e); stands = tt; from = omega arith; within = l; small = omega arith } }
 
   pub may-is : (e : Entry) → r ≡ entry.Got e → MayEnter s at keep (optional (drop at s) o) (may-at.Got (may.Is e) (e .next))
   may-is e q =
-      let w : Known s at keep o e = subst (λ (x : EntryAt). EntryAs s at keep o x) q (h .is) in
+      let w = known-entry h q in
       record {
         is = record {
           the = is (w .the);
           is = ap (optional (drop at s)) (w .is);
-          stands = record { again = w .again; sized = w .sized; from = w .from; ahead = w .ahead; within = w .within; small = w .small };
+          stands = entry-stands w;
           from = omega (arith, w .from, w .ahead);
           within = w .within;
+          small = omega (arith, w .from, w .small);
         };
       }
 
@@ -104,49 +103,29 @@ pub ruleset maying = (may-cut, may-absent, may-is)
 
 -- ---- SOURCE
 
-entry-stands : (s : List ℕ) (at : ℕ) (keep : Bool) (o : Ans (List ℕ)) (e : Entry) (w : Known s at keep o e) → Stands s at keep (w .the) e
-entry-stands s at keep o e w = record { again = w .again; sized = w .sized; from = w .from; ahead = w .ahead; within = w .within; small = w .small }
-
-pub known-entry : {s : List ℕ} {at : ℕ} {keep : Bool} {o : Ans (List ℕ)} {r : EntryAt} {e : Entry} → Enters s at keep o r → r ≡ entry.Got e → Known s at keep o e
-known-entry {s} {at} {keep} {o} h q = subst (λ (x : EntryAt). EntryAs s at keep o x) q (h .is)
-
-abbrev organism-after : List ℕ → List ℕ → Ans Source
-organism-after text z = bind (maybeField 2 (bytes "ORGANISM") true z) λ organism z. Got (record { text = text; organism = organism }) z
-
-source-as : (xs : List ℕ) → source xs ≡ bind (field 0 (bytes "SOURCE") true xs) organism-after
-unfolding source
-source-as xs = refl
-
 module _ (s : List ℕ) (at : ℕ) (r : EntryAt) (h : Enters s at true (field 0 (bytes "SOURCE") true (drop at s)) r) where
   pub source-no : r ≡ entry.No → Sources s at (source (drop at s)) source′.No
-  source-no e =
-      let w : field 0 (bytes "SOURCE") true (drop at s) ≡ No = subst (λ (x : EntryAt). EntryAs s at true (field 0 (bytes "SOURCE") true (drop at s)) x) e (h .is) in
-      record { is = source-as (drop at s) ∙ ap (λ (o : Ans (List ℕ)). bind o organism-after) w }
+  unfolding source
+  source-no e = record { is = rw (no-entry h e) }
 
   pub source-cut : r ≡ entry.Cut → Sources s at (source (drop at s)) source′.Cut
-  source-cut e =
-      let w : field 0 (bytes "SOURCE") true (drop at s) ≡ Cut = subst (λ (x : EntryAt). EntryAs s at true (field 0 (bytes "SOURCE") true (drop at s)) x) e (h .is) in
-      record { is = source-as (drop at s) ∙ ap (λ (o : Ans (List ℕ)). bind o organism-after) w }
+  unfolding source
+  source-cut e = record { is = rw (cut-entry h e) }
 
   module _ (e : Entry) (q : MayEntryAt) (k : r ≡ entry.Got e) (m : MayEnter s (e .next) true (maybeField 2 (bytes "ORGANISM") true (drop (e .next) s)) q) where
-    text-read : source (drop at s) ≡ organism-after (known-entry h k .the) (drop (e .next) s)
-    text-read = source-as (drop at s) ∙ ap (λ (o : Ans (List ℕ)). bind o organism-after) (known-entry h k .is)
-
     pub organism-cut : q ≡ may-at.Cut → Sources s at (source (drop at s)) source′.Cut
-    organism-cut f =
-        let w : maybeField 2 (bytes "ORGANISM") true (drop (e .next) s) ≡ Cut =
-        subst (λ (x : MayEntryAt). MayEnterAs s (e .next) true (maybeField 2 (bytes "ORGANISM") true (drop (e .next) s)) x) f (m .is) in
-        record { is = text-read ∙ ap (λ (o : Ans (May (List ℕ))). bind o (λ organism z. Got (record { text = known-entry h k .the; organism = organism }) z)) w }
+    unfolding source
+    organism-cut f = record { is = rw (known-entry h k .is, cut-may m f) }
 
     pub source-got : (organism : MayEntry) (next : ℕ) → q ≡ may-at.Got organism next → Sources s at (source (drop at s)) (source′.Got e organism next)
+    unfolding source
     source-got organism next f =
-        let w : MayKnown s (e .next) true (maybeField 2 (bytes "ORGANISM") true (drop (e .next) s)) organism next =
-        subst (λ (x : MayEntryAt). MayEnterAs s (e .next) true (maybeField 2 (bytes "ORGANISM") true (drop (e .next) s)) x) f (m .is) in
+        let w = known-may m f in
         record {
           is = record {
             the = record { text = known-entry h k .the; organism = w .the };
-            is = text-read ∙ ap (λ (o : Ans (May (List ℕ))). bind o (λ organism z. Got (record { text = known-entry h k .the; organism = organism }) z)) (w .is);
-            stands = entry-stands s at true _ e (known-entry h k);
+            is = then-got _ (known-entry h k .is) (then-got _ (w .is) refl);
+            stands = entry-stands (known-entry h k);
             may = w .stands;
             from = w .from;
             within = w .within;

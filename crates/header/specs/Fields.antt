@@ -35,12 +35,18 @@ MayStand s at keep absent (may.Is e) = ⊥
 MayStand s at keep (is t) may.Absent = ⊥
 MayStand s at keep (is t) (may.Is e) = Stands s at keep t e
 
+-- how many bytes the text of an entry has, none where it is missing
+abbrev pub mayLength : MayEntry → ℕ
+mayLength may.Absent = 0
+mayLength (may.Is e) = e .length
+
 pub record MayKnown (s : List ℕ) (at : ℕ) (keep : Bool) (o : Ans (May (List ℕ))) (e : MayEntry) (next : ℕ) : Type 0 where
   pub the : May (List ℕ)
   pub is : o ≡ Got the (drop next s)
   pub stands : MayStand s at keep the e
   pub from : at ≤ next
   pub within : next ≤ length s
+  pub small : mayLength e + at ≤ next
 
 abbrev pub MayEnterAs : List ℕ → ℕ → Bool → Ans (May (List ℕ)) → MayEntryAt → Type 0
 MayEnterAs s at keep o (may-at.Got e next) = MayKnown s at keep o e next

@@ -7,10 +7,11 @@ ghost use mathlib.Core.Path.{_≡_};
 ghost use Prim.Native.Nat.{_≤_, _<_};
 ghost use lib.ListN.{length, drop};
 ghost use Rattle.format.specs.Bytes.{bytes};
-ghost use Rattle.format.specs.Readers.{orElse, tag, line, utf8Of};
-ghost use Rattle.format.specs.Header.{maybeField, source, ignoredLine};
+ghost use Rattle.format.specs.Readers.{passing, orElse, optional, tag, line, utf8Of};
+ghost use Rattle.format.specs.Header.{fieldBytes, maybeField, source, ignoredLine};
+ghost use Rattle.format.specs.Features.{locationText};
 ghost use Rattle.chars.specs.Views.{Stepped, Lined};
-ghost use Rattle.header.specs.Fields.{sectionWord, MayEnter, Sources};
+ghost use Rattle.header.specs.Fields.{sectionWord, mayLength, MayEnter, Sources};
 
 // An entry that may be missing.
 pub enum MayEntry {
@@ -86,11 +87,39 @@ pub fn dropped_at(s: &[u8], at: usize) -> Line
     }
 }
 
+// How many bytes the text of an entry has.
+pub fn may_length(e: MayEntry) -> usize
+    ensures { λ r. ⌜ r ≡ mayLength e ⌝ }
+{
+    match e {
+        MayEntry::Absent => 0,
+        MayEntry::Is(entry) => entry.length,
+    }
+}
+
 pub fn may_field_at(s: &[u8], at: usize, indent: usize, word: &[u8], keep: bool) -> MayEntryAt
     requires { ⌜ (at ≤ length (now s)) × (indent < 4096) × (length (now word) < 4096) ⌝ }
     ensures { λ r. ⌜ MayEnter (now (s .entry)) at keep (maybeField indent (now (word .entry)) keep (drop at (now (s .entry)))) r ⌝ }
 {
     match field::field_at(s, at, indent, word, keep) {
+        EntryAt::Cut => MayEntryAt::Cut,
+        EntryAt::No => MayEntryAt::Got {
+            entry: MayEntry::Absent,
+            next: at,
+        },
+        EntryAt::Got(entry) => MayEntryAt::Got {
+            entry: MayEntry::Is(entry),
+            next: entry.next,
+        },
+    }
+}
+
+// An entry that may be missing and whose text is a location.
+pub fn may_location_at(s: &[u8], at: usize, indent: usize, word: &[u8], keep: bool) -> MayEntryAt
+    requires { ⌜ (at ≤ length (now s)) × (indent < 4096) × (length (now word) < 4096) ⌝ }
+    ensures { λ r. ⌜ MayEnter (now (s .entry)) at keep (optional (drop at (now (s .entry))) (passing locationText (fieldBytes indent (now (word .entry)) keep (drop at (now (s .entry)))))) r ⌝ }
+{
+    match field::location_at(s, at, indent, word, keep) {
         EntryAt::Cut => MayEntryAt::Cut,
         EntryAt::No => MayEntryAt::Got {
             entry: MayEntry::Absent,

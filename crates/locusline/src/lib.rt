@@ -1,60 +1,38 @@
-// Parts of `locus_line` of writer.rs: name and length, molecule type, topology, and the date.
-use decimal::put_decimal;
-use decimal::width;
+// `locus_line` of writer.rs: the whole line of a table in rooms, and number 11's test of the name that it prints.
 use fieldlines::left_of;
 use fieldlines::put_padded;
 use format::Date;
+use format::Dated;
+use format::Head;
+use format::Length;
+use format::Span;
+use format::Text;
+use format::printed_date;
+use names::printed_name_fine;
+use names::put_printed_name;
 use pen::put_byte;
 use pen::put_bytes;
 use pen::put_part;
 use pen::put_spaces;
+ghost use mathlib.Core.Path.{_≡_};
 ghost use mathlib.Core.List.{[], _∷_, _++_};
 ghost use Prim.Native.Nat.{_≤_};
 ghost use lib.ListN.{length};
-ghost use Rattle.format.specs.Bytes.{decimal, is};
-ghost use Rattle.format.specs.Dates.{monthName, dateText};
-ghost use Rattle.format.specs.Write.{padded, truncated, nameAndLength, moleculeText, topologyText};
+ghost use Rattle.format.specs.Bytes.{bytes, decimal, is};
+ghost use Rattle.format.specs.Dates.{monthName, dateText, printedDate};
+ghost use Rattle.format.specs.Rooms.{spanText, mayText, mayLength, tableOf};
+ghost use Rattle.format.specs.Write.{padded, nameAndLength, lengthOr, moleculeText, topologyText};
+ghost use Rattle.names.specs.Names.{nameTest, printedOf};
 ghost use Rattle.pen.specs.Pen.{Writes};
-ghost use Rattle.locusline.specs.Locus.{dayText, yearText, Kept};
+ghost use Rattle.table.specs.Facts.{SpanIn, TextIn, HeadIn};
+ghost use Rattle.table.specs.Parts.{referenceRooms};
+ghost use Rattle.locusline.specs.Locus.{dayText, yearText};
+ghost use Rattle.locusline.specs.Line.{chosen, orUntitled, nameWith, lineStart, lineMiddle, lineEnd, lineWith};
 
 const MONTHS: [u8; 36] = *b"JANFEBMARAPRMAYJUNJULAUGSEPOCTNOVDEC";
 
-// A name and a length, apart by one space at least, over 28 columns.
-pub fn put_name_length(out: &mut [u8], at: usize, name: &[u8], n: u32) -> usize
-    requires { ⌜ length (now name) ≤ 16777216 ⌝ }
-    ensures { λ r. ⌜ Writes (now (out .entry)) at (nameAndLength (now (name .entry)) (decimal n)) (now (out .exit)) r ⌝ }
-{
-    let a = put_bytes(out, at, name);
-    let b = put_spaces(out, a, left_of(27, name.len() + width(n)) + 1);
-    put_decimal(out, b, n)
-}
-
-// How much of a name is printed beside a length of d digits.
-fn kept(name: &[u8], d: usize, truncate: bool) -> usize
-    requires { ⌜ (length (now name) ≤ 16777216) × (d ≤ 10) ⌝ }
-    ensures { λ r. ⌜ Kept truncate d (now (name .entry)) r ⌝ }
-{
-    if truncate {
-        if 28 < name.len() + 1 + d {
-            return 27 - d;
-        }
-        return name.len();
-    }
-    name.len()
-}
-
-// A name, cut where that is asked for, and a length.
-pub fn put_cut_name_length(out: &mut [u8], at: usize, name: &[u8], n: u32, truncate: bool) -> usize
-    requires { ⌜ length (now name) ≤ 16777216 ⌝ }
-    ensures { λ r. ⌜ Writes (now (out .entry)) at (nameAndLength (truncated truncate (length (decimal n)) (now (name .entry))) (decimal n)) (now (out .exit)) r ⌝ }
-{
-    let from = 0;
-    let end = kept(name, width(n), truncate);
-    put_name_length(out, at, &name[from..end], n)
-}
-
 // A molecule type in seven columns.
-pub fn put_molecule(out: &mut [u8], at: usize, molecule: &[u8], truncate: bool) -> usize
+fn put_molecule(out: &mut [u8], at: usize, molecule: &[u8], truncate: bool) -> usize
     ensures { λ r. ⌜ Writes (now (out .entry)) at (padded 7 (moleculeText truncate (is (now (molecule .entry))))) (now (out .exit)) r ⌝ }
 {
     if truncate {
@@ -66,7 +44,7 @@ pub fn put_molecule(out: &mut [u8], at: usize, molecule: &[u8], truncate: bool) 
     put_padded(out, at, molecule, 7)
 }
 
-pub fn put_topology(out: &mut [u8], at: usize, circular: bool) -> usize
+fn put_topology(out: &mut [u8], at: usize, circular: bool) -> usize
     ensures { λ r. ⌜ Writes (now (out .entry)) at (padded 8 (topologyText circular)) (now (out .exit)) r ⌝ }
 {
     if circular {
@@ -105,10 +83,213 @@ fn put_year(out: &mut [u8], at: usize, year: u16) -> usize
     put_byte(out, d, (48 + year % 10) as u8)
 }
 
-pub fn put_date(out: &mut [u8], at: usize, date: Date) -> usize
+fn put_date(out: &mut [u8], at: usize, date: Date) -> usize
     ensures { λ r. ⌜ Writes (now (out .entry)) at (dateText date) (now (out .exit)) r ⌝ }
 {
     let a = put_day(out, at, date.day);
     let b = put_month(out, a, date.month);
     put_year(out, b, date.year)
+}
+
+// The length that is printed: LOCUS's, else the letter count.
+pub fn printed_length(bases: Length, letters: usize) -> u32
+    requires { ⌜ letters ≤ 16777216 ⌝ }
+    ensures { λ r. ⌜ r ≡ lengthOr (mayLength bases) letters ⌝ }
+{
+    match bases {
+        Length::Absent => letters as u32,
+        Length::Bases(n) => n,
+    }
+}
+
+// LOCUS's name, else ACCESSION.
+fn chosen_name(name: Text, accession: Text) -> Text
+    ensures { λ r. ⌜ r ≡ chosen name accession ⌝ }
+{
+    match name {
+        Text::Absent => accession,
+        Text::At(s) => Text::At(s),
+    }
+}
+
+// The printed name of a text that is there, and the length.
+fn put_span_name(
+    out: &mut [u8],
+    at: usize,
+    texts: &[u8],
+    name: Span,
+    n: u32,
+    truncate: bool,
+    escape: bool,
+) -> usize
+    requires { ⌜ (length (now texts) ≤ 16777216) × SpanIn (now texts) name ⌝ }
+    ensures { λ r. ⌜ Writes (now (out .entry)) at (nameAndLength (printedOf truncate escape (decimal n) (spanText (now (texts .entry)) name)) (decimal n)) (now (out .exit)) r ⌝ }
+{
+    let start = name.start;
+    let end = start + name.length;
+    put_printed_name(out, at, &texts[start..end], n, truncate, escape)
+}
+
+// The printed name and the length.
+fn put_name(
+    out: &mut [u8],
+    at: usize,
+    texts: &[u8],
+    name: Text,
+    n: u32,
+    truncate: bool,
+    escape: bool,
+) -> usize
+    requires { ⌜ (length (now texts) ≤ 16777216) × TextIn (now texts) name ⌝ }
+    ensures { λ r. ⌜ Writes (now (out .entry)) at (nameAndLength (printedOf truncate escape (decimal n) (orUntitled (mayText (now (texts .entry)) name))) (decimal n)) (now (out .exit)) r ⌝ }
+{
+    match name {
+        Text::Absent => put_printed_name(out, at, b"UNTITLED", n, truncate, escape),
+        Text::At(s) => put_span_name(out, at, texts, s, n, truncate, escape),
+    }
+}
+
+// Number 11's test of the printed name of a text that is there.
+fn span_fine(texts: &[u8], name: Span, n: u32, truncate: bool, escape: bool) -> bool
+    requires { ⌜ (length (now texts) ≤ 16777216) × SpanIn (now texts) name ⌝ }
+    ensures { λ r. ⌜ r ≡ nameTest (printedOf truncate escape (decimal n) (spanText (now (texts .entry)) name)) ⌝ }
+{
+    let start = name.start;
+    let end = start + name.length;
+    printed_name_fine(&texts[start..end], n, truncate, escape)
+}
+
+// Number 11's test of the printed name of a text.
+fn text_fine(texts: &[u8], name: Text, n: u32, truncate: bool, escape: bool) -> bool
+    requires { ⌜ (length (now texts) ≤ 16777216) × TextIn (now texts) name ⌝ }
+    ensures { λ r. ⌜ r ≡ nameTest (printedOf truncate escape (decimal n) (orUntitled (mayText (now (texts .entry)) name))) ⌝ }
+{
+    match name {
+        Text::Absent => printed_name_fine(b"UNTITLED", n, truncate, escape),
+        Text::At(s) => span_fine(texts, s, n, truncate, escape),
+    }
+}
+
+// Number 11's test of the printed name.
+pub fn name_fine(texts: &[u8], head: Head, truncate: bool, escape: bool) -> bool
+    requires { ⌜ HeadIn (now texts) head × (length (now texts) ≤ 16777216) × (head .letters ≤ 16777216) ⌝ }
+    ensures { λ r. ⌜ r ≡ nameTest (nameWith truncate escape (lengthOr (mayLength (head .length)) (head .letters)) (tableOf (referenceRooms (now (texts .entry)) []) head)) ⌝ }
+{
+    let name = head.name;
+    let accession = head.accession;
+    let bases = head.length;
+    let n = printed_length(bases, head.letters);
+    text_fine(texts, chosen_name(name, accession), n, truncate, escape)
+}
+
+// A molecule type that is there.
+fn put_span_molecule(
+    out: &mut [u8],
+    at: usize,
+    texts: &[u8],
+    molecule: Span,
+    truncate: bool,
+) -> usize
+    requires { ⌜ SpanIn (now texts) molecule ⌝ }
+    ensures { λ r. ⌜ Writes (now (out .entry)) at (padded 7 (moleculeText truncate (is (spanText (now (texts .entry)) molecule)))) (now (out .exit)) r ⌝ }
+{
+    let start = molecule.start;
+    let end = start + molecule.length;
+    put_molecule(out, at, &texts[start..end], truncate)
+}
+
+// A molecule type that may be absent, in seven columns.
+fn put_molecule_text(
+    out: &mut [u8],
+    at: usize,
+    texts: &[u8],
+    molecule: Text,
+    truncate: bool,
+) -> usize
+    requires { ⌜ TextIn (now texts) molecule ⌝ }
+    ensures { λ r. ⌜ Writes (now (out .entry)) at (padded 7 (moleculeText truncate (mayText (now (texts .entry)) molecule))) (now (out .exit)) r ⌝ }
+{
+    match molecule {
+        Text::Absent => put_spaces(out, at, 7),
+        Text::At(s) => put_span_molecule(out, at, texts, s, truncate),
+    }
+}
+
+// The line up to the molecule type.
+fn put_start(
+    out: &mut [u8],
+    at: usize,
+    texts: &[u8],
+    head: Head,
+    truncate: bool,
+    escape: bool,
+) -> usize
+    requires { ⌜ HeadIn (now texts) head × (length (now texts) ≤ 16777216) × (head .letters ≤ 16777216) ⌝ }
+    ensures { λ r. ⌜ Writes (now (out .entry)) at (lineStart truncate escape (lengthOr (mayLength (head .length)) (head .letters)) (tableOf (referenceRooms (now (texts .entry)) []) head)) (now (out .exit)) r ⌝ }
+{
+    let name = head.name;
+    let accession = head.accession;
+    let bases = head.length;
+    let n = printed_length(bases, head.letters);
+    let a = put_bytes(out, at, b"LOCUS       ");
+    let b = put_name(
+        out,
+        a,
+        texts,
+        chosen_name(name, accession),
+        n,
+        truncate,
+        escape,
+    );
+    put_bytes(out, b, b" bp    ")
+}
+
+// The molecule type and the topology.
+fn put_middle(
+    out: &mut [u8],
+    at: usize,
+    texts: &[u8],
+    molecule: Text,
+    circular: bool,
+    truncate: bool,
+) -> usize
+    requires { ⌜ TextIn (now texts) molecule ⌝ }
+    ensures { λ r. ⌜ Writes (now (out .entry)) at (lineMiddle truncate (mayText (now (texts .entry)) molecule) circular) (now (out .exit)) r ⌝ }
+{
+    let a = put_molecule_text(out, at, texts, molecule, truncate);
+    let b = put_byte(out, a, 32);
+    let c = put_topology(out, b, circular);
+    put_byte(out, c, 32)
+}
+
+// The division and the date.
+fn put_line_end(out: &mut [u8], at: usize, texts: &[u8], division: Span, date: Dated) -> usize
+    requires { ⌜ SpanIn (now texts) division ⌝ }
+    ensures { λ r. ⌜ Writes (now (out .entry)) at (lineEnd (spanText (now (texts .entry)) division) date) (now (out .exit)) r ⌝ }
+{
+    let start = division.start;
+    let a = put_part(out, at, texts, start, start + division.length);
+    let b = put_byte(out, a, 32);
+    let c = put_date(out, b, printed_date(date));
+    put_byte(out, c, 10)
+}
+
+// The whole line.
+pub fn put_locus(
+    out: &mut [u8],
+    at: usize,
+    texts: &[u8],
+    head: Head,
+    truncate: bool,
+    escape: bool,
+) -> usize
+    requires { ⌜ HeadIn (now texts) head × (length (now texts) ≤ 16777216) × (head .letters ≤ 16777216) ⌝ }
+    ensures { λ r. ⌜ Writes (now (out .entry)) at (lineWith truncate escape (lengthOr (mayLength (head .length)) (head .letters)) (tableOf (referenceRooms (now (texts .entry)) []) head)) (now (out .exit)) r ⌝ }
+{
+    let molecule = head.molecule;
+    let division = head.division;
+    let date = head.date;
+    let a = put_start(out, at, texts, head, truncate, escape);
+    let b = put_middle(out, a, texts, molecule, head.circular, truncate);
+    put_line_end(out, b, texts, division, date)
 }

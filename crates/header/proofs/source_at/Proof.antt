@@ -1,6 +1,7 @@
 -- `header::source_at` meets its contract. Assumes nothing.
 use borrow.Author.Needs.{needs}
-use Rattle.header.proofs.Choosing.{known-entry, sourcing}
+use Rattle.header.specs.Knowing.{known-entry}
+use Rattle.header.proofs.Choosing.{sourcing}
 use Rattle.header.proofs.source_at.Statement.{statement}
 use Rattle.header.proofs.source_at.Tie as tie
 

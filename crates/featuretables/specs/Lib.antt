@@ -1,0 +1,3 @@
+-- The lines of features in rooms.
+pub mod Table
+pub mod Bound

@@ -1,0 +1,50 @@
+-- `fill::fill` meets its contract. Assumes nothing.
+use borrow.Author.Needs.{needs}
+use Rattle.fill.proofs.Laws.{filling, third-place}
+use Rattle.fill.proofs.fill.Statement.{statement}
+use Rattle.fill.proofs.fill.Tie as tie
+
+fill-header-requires : tie.Need-fill-header-requires
+fill-header-requires c κs = search needs
+
+fill-features-requires : tie.Need-fill-features-requires
+fill-features-requires c κs = (c .before .before .before .before .before .before .before .before .before .before .before .before .before .before .before .before .before .before .before .before .before .pre, third-place _ _ (c .before .before .before .before .before .before .before .before .before .before .before .before .before .before .before .before .before .before .before .before .before .pre) _ _ _ _ _ _ _ (c .before .before .before .before .before .before .before .before .before .fill-header .ensures))
+
+put-letters-requires : tie.Need-put-letters-requires
+put-letters-requires c κs = search needs
+
+same-length : tie.Need-same-length
+same-length c = search needs
+
+same-length-2 : tie.Need-same-length-2
+same-length-2 c = search needs
+
+same-length-3 : tie.Need-same-length-3
+same-length-3 c = search needs
+
+same-length-4 : tie.Need-same-length-4
+same-length-4 c = search needs
+
+same-length-5 : tie.Need-same-length-5
+same-length-5 c = search needs
+
+same-length-6 : tie.Need-same-length-6
+same-length-6 c = search needs
+
+returns : tie.Need-returns
+returns c = search (filling, needs)
+
+pub fill-spec : {M : Type 1} → statement M
+fill-spec =
+    tie.close
+    (tie.spec
+    fill-header-requires
+    fill-features-requires
+    put-letters-requires
+    same-length
+    same-length-2
+    same-length-3
+    same-length-4
+    same-length-5
+    same-length-6
+    returns)

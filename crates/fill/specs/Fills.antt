@@ -1,0 +1,56 @@
+-- What the rooms hold once the parts of a record are put.
+use Prim.Native.Nat.{ℕ, _+_, _≤_}
+use mathlib.Core.Path.{_≡_}
+use mathlib.Core.Bool.{false}
+use mathlib.Core.List.{List, _++_}
+use lib.ListN.{length}
+use lib.Seq.{sets}
+use Rattle.format.specs.Bytes.{each}
+use Rattle.format.specs.Table.{Table}
+use Rattle.format.specs.Record.{most}
+use Rattle.format.specs.Rooms.{Rooms, perhaps, pieceText, piecesText, headPieces, referencePieces, commentPieces, textsOf, rowsOf, featureText, featureRows, qualifierRows, referencesAt, commentsAt, featuresAt, layout}
+use Rattle.pen.specs.Pen.{Wrote}
+use Rattle.header.specs.declared.MayEntry.{MayEntry}
+use Rattle.header.specs.Fields.{MayStand}
+use Rattle.middle.specs.Middles.{contigIn}
+use Rattle.plan.specs.declared.Plan.{Plan}
+use Rattle.plan.specs.Plans.{PlanStands}
+
+abbrev pub roomsIn : List ℕ → List ℕ → List ℕ → List ℕ → List ℕ → List ℕ → Rooms
+roomsIn texts references comments features qualifiers letters =
+    record { texts = texts; references = references; comments = comments; features = features; qualifiers = qualifiers; letters = letters }
+
+pub record ContigStands (s : List ℕ) (contig : MayEntry) : Type 0 where
+  pub stands : MayStand s 0 false (contigIn s contig) contig
+
+-- the plan of a record in a slice that may be read
+pub record Ready (s : List ℕ) (p : Plan) : Type 0 where
+  pub stands : PlanStands s p
+  pub most : length s ≤ most
+
+-- ---- what was put
+
+abbrev pub headerText : Table → List ℕ
+headerText t = piecesText (headPieces t) ++ textsOf referencePieces (t .references) ++ textsOf commentPieces (t .comments)
+
+pub record HeaderFilled (t : Table) (t₀ t₁ r₀ r₁ c₀ c₁ : List ℕ) (next : ℕ) : Type 0 where
+  pub texts : Wrote t₀ 0 (headerText t) t₁ next
+  pub references : r₁ ≡ sets r₀ 0 (rowsOf referencePieces (referencesAt t) (t .references))
+  pub comments : c₁ ≡ sets c₀ 0 (rowsOf commentPieces (commentsAt t) (t .comments))
+
+abbrev pub restText : Table → List ℕ
+restText t = each featureText (t .features) ++ pieceText (perhaps (t .contig))
+
+pub record FeaturesFilled (t : Table) (t₀ t₁ f₀ f₁ q₀ q₁ : List ℕ) : Type 0 where
+  pub texts : t₁ ≡ sets t₀ (featuresAt t) (restText t)
+  pub features : f₁ ≡ sets f₀ 0 (featureRows (featuresAt t) 0 (t .features))
+  pub qualifiers : q₁ ≡ sets q₀ 0 (qualifierRows (featuresAt t) (t .features))
+
+-- each room has the table's layout from its start on
+pub record Filled (t : Table) (old new : Rooms) : Type 0 where
+  pub texts : new .texts ≡ sets (old .texts) 0 (layout t .texts)
+  pub references : new .references ≡ sets (old .references) 0 (layout t .references)
+  pub comments : new .comments ≡ sets (old .comments) 0 (layout t .comments)
+  pub features : new .features ≡ sets (old .features) 0 (layout t .features)
+  pub qualifiers : new .qualifiers ≡ sets (old .qualifiers) 0 (layout t .qualifiers)
+  pub letters : new .letters ≡ sets (old .letters) 0 (layout t .letters)

@@ -1,0 +1,3 @@
+-- The definitions that the contracts cite, and the head of a plan's table.
+pub mod Fills
+pub mod Heads

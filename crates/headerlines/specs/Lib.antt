@@ -1,0 +1,4 @@
+-- The lines of the header.
+pub mod Rows
+pub mod Header
+pub mod Bound

@@ -1,0 +1,302 @@
+// The name that a LOCUS line prints: `truncate_locus` and `escape_locus` of writer.rs.
+use chars::is_between;
+use chars::is_blank;
+use decimal::put_decimal;
+use decimal::width;
+use fieldlines::left_of;
+use pen::put_byte;
+use pen::put_bytes;
+use pen::put_spaces;
+use table::both;
+use texts::printing_all;
+ghost use mathlib.Core.Path.{_≡_};
+ghost use mathlib.Core.Bool.{_&&_, _||_};
+ghost use mathlib.Core.List.{[], _∷_};
+ghost use Prim.Native.Nat.{suc, _+_, _-_, _≤_, _<_};
+ghost use lib.ListN.{length, getD, drop};
+ghost use lib.Dec.{eqb, ltb};
+ghost use Rattle.format.specs.Bytes.{all, between, decimal, printing};
+ghost use Rattle.format.specs.Write.{white, words, joined, truncated, escapedName, nameAndLength};
+ghost use Rattle.pen.specs.Pen.{Writes};
+ghost use Rattle.names.specs.Words.{whiteOne, whiteTwo, whiteThree, whiteFrom, shown, closed, ended, nextPlace, cap, second};
+ghost use Rattle.names.specs.Names.{Kept, nameTest, printedOf};
+
+fn either(a: bool, b: bool) -> bool
+    ensures { λ r. ⌜ r ≡ (a || b) ⌝ }
+{
+    if a { true } else { b }
+}
+
+fn white_one(a: u8) -> bool
+    ensures { λ r. ⌜ r ≡ whiteOne a ⌝ }
+{
+    either(is_between(9, 13, a), a == 32)
+}
+
+fn white_two(a: u8, b: u8) -> bool
+    ensures { λ r. ⌜ r ≡ whiteTwo a b ⌝ }
+{
+    both(a == 194, either(b == 133, b == 160))
+}
+
+// The last byte of a white space of three bytes that begins E2 80.
+fn white_last(c: u8) -> bool
+    ensures { λ r. ⌜ r ≡ (between 128 138 c || (between 168 169 c || eqb c 175)) ⌝ }
+{
+    either(
+        is_between(128, 138, c),
+        either(is_between(168, 169, c), c == 175),
+    )
+}
+
+fn white_three(a: u8, b: u8, c: u8) -> bool
+    ensures { λ r. ⌜ r ≡ whiteThree a b c ⌝ }
+{
+    let ogham = both(a == 225, both(b == 154, c == 128));
+    let general = both(a == 226, both(b == 128, white_last(c)));
+    let medium = both(a == 226, both(b == 129, c == 159));
+    let ideographic = both(a == 227, both(b == 128, c == 128));
+    either(ogham, either(general, either(medium, ideographic)))
+}
+
+// How many bytes the white space has that begins with these three; 0 if none does.
+fn white_of(a: u8, b: u8, c: u8) -> usize
+    ensures { λ r. ⌜ r ≡ white a b c ⌝ }
+{
+    if white_one(a) {
+        return 1;
+    }
+    if white_two(a, b) {
+        return 2;
+    }
+    if white_three(a, b, c) {
+        return 3;
+    }
+    0
+}
+
+fn byte_at(s: &[u8], i: usize) -> u8
+    ensures { λ r. ⌜ r ≡ getD (now (s .entry)) i 0 ⌝ }
+{
+    if i < s.len() { s[i] } else { 0 }
+}
+
+// How many bytes of white space come from i on, of which n are known already.
+fn white_from(s: &[u8], i: usize, n: usize) -> usize
+    requires { ⌜ (i < length (now s)) × (length (now s) ≤ 16777216) ⌝ }
+    ensures { λ r. ⌜ r ≡ whiteFrom n (drop i (now (s .entry))) ⌝ }
+{
+    if 0 < n {
+        return n;
+    }
+    white_of(byte_at(s, i), byte_at(s, i + 1), byte_at(s, i + 2))
+}
+
+// A byte, or a space for one of white space.
+fn shown_byte(w: usize, b: u8) -> u8
+    ensures { λ r. ⌜ r ≡ shown w b ⌝ }
+{
+    if 0 < w { 32 } else { b }
+}
+
+// Where a byte stands: before the first word, in a word, or after one.
+pub enum Place {
+    Before,
+    Inside,
+    After,
+}
+
+// Where the next byte stands after a blank.
+fn closed_place(place: Place) -> Place
+    ensures { λ r. ⌜ r ≡ closed place ⌝ }
+{
+    match place {
+        Place::Before => Place::Before,
+        Place::Inside => Place::After,
+        Place::After => Place::After,
+    }
+}
+
+// Where the next byte stands.
+fn next_place(place: Place, b: u8) -> Place
+    ensures { λ r. ⌜ r ≡ nextPlace place b ⌝ }
+{
+    if is_blank(b) {
+        return closed_place(place);
+    }
+    Place::Inside
+}
+
+// This byte begins a word that is not the first.
+fn is_after(place: Place) -> bool
+    ensures { λ r. ⌜ r ≡ ended place ⌝ }
+{
+    match place {
+        Place::Before => false,
+        Place::Inside => false,
+        Place::After => true,
+    }
+}
+
+fn begins_second(place: Place, b: u8) -> bool
+    ensures { λ r. ⌜ r ≡ second place b ⌝ }
+{
+    both(is_after(place), !is_blank(b))
+}
+
+// A byte of a word, after `_` if it begins a word that is not the first; nothing for a blank.
+fn put_next(out: &mut [u8], at: usize, place: Place, b: u8) -> usize
+    ensures { λ r. ⌜ Writes (now (out .entry)) at (cap place b) (now (out .exit)) r ⌝ }
+{
+    if is_blank(b) {
+        return at;
+    }
+    if is_after(place) {
+        let next = put_byte(out, at, b'_');
+        return put_byte(out, next, b);
+    }
+    put_byte(out, at, b)
+}
+
+// The words, joined by `_`.
+fn put_joined(out: &mut [u8], at: usize, name: &[u8]) -> usize
+    requires { ⌜ length (now name) ≤ 16777216 ⌝ }
+    ensures { λ r. ⌜ Writes (now (out .entry)) at (joined (words (now (name .entry)))) (now (out .exit)) r ⌝ }
+{
+    let mut p = at;
+    let mut place = Place::Before;
+    let mut white = 0;
+    let mut i = 0;
+    while i < name.len() {
+        let w = white_from(name, i, white);
+        let b = shown_byte(w, name[i]);
+        p = put_next(out, p, place, b);
+        place = next_place(place, b);
+        white = left_of(w, 1);
+        i += 1;
+    }
+    p
+}
+
+// There are two words or more.
+fn two_words(name: &[u8]) -> bool
+    requires { ⌜ length (now name) ≤ 16777216 ⌝ }
+    ensures { λ r. ⌜ r ≡ ltb 1 (length (words (now (name .entry)))) ⌝ }
+{
+    let mut place = Place::Before;
+    let mut white = 0;
+    let mut i = 0;
+    while i < name.len() {
+        let w = white_from(name, i, white);
+        let b = shown_byte(w, name[i]);
+        if begins_second(place, b) {
+            return true;
+        }
+        place = next_place(place, b);
+        white = left_of(w, 1);
+        i += 1;
+    }
+    false
+}
+
+// All bytes of the words are 32 to 126.
+fn words_print(name: &[u8]) -> bool
+    requires { ⌜ length (now name) ≤ 16777216 ⌝ }
+    ensures { λ r. ⌜ r ≡ all printing (joined (words (now (name .entry)))) ⌝ }
+{
+    let mut white = 0;
+    let mut i = 0;
+    while i < name.len() {
+        let w = white_from(name, i, white);
+        if !is_between(32, 126, shown_byte(w, name[i])) {
+            return false;
+        }
+        white = left_of(w, 1);
+        i += 1;
+    }
+    true
+}
+
+// A name as it is, or its words joined by `_` where that is asked for and there are two or more.
+pub fn put_escaped_name(out: &mut [u8], at: usize, name: &[u8], escape: bool) -> usize
+    requires { ⌜ length (now name) ≤ 16777216 ⌝ }
+    ensures { λ r. ⌜ Writes (now (out .entry)) at (escapedName escape (now (name .entry))) (now (out .exit)) r ⌝ }
+{
+    if both(escape, two_words(name)) {
+        return put_joined(out, at, name);
+    }
+    put_bytes(out, at, name)
+}
+
+// The escaped name is not empty, and its bytes are 32 to 126.
+fn escaped_name_fine(name: &[u8], escape: bool) -> bool
+    requires { ⌜ length (now name) ≤ 16777216 ⌝ }
+    ensures { λ r. ⌜ r ≡ nameTest (escapedName escape (now (name .entry))) ⌝ }
+{
+    if both(escape, two_words(name)) {
+        return words_print(name);
+    }
+    both(0 < name.len(), printing_all(name))
+}
+
+// How many spaces part a name of so many bytes from a length of d digits.
+fn gap(used: usize, d: usize) -> usize
+    requires { ⌜ d ≤ 10 ⌝ }
+    ensures { λ r. ⌜ r ≡ suc (27 - (used + d)) ⌝ }
+{
+    if 27 <= used {
+        return 1;
+    }
+    left_of(27, used + d) + 1
+}
+
+// An escaped name and a length, apart by one space at least, over 28 columns.
+fn put_name_length(out: &mut [u8], at: usize, name: &[u8], n: u32, escape: bool) -> usize
+    requires { ⌜ length (now name) ≤ 16777216 ⌝ }
+    ensures { λ r. ⌜ Writes (now (out .entry)) at (nameAndLength (escapedName escape (now (name .entry))) (decimal n)) (now (out .exit)) r ⌝ }
+{
+    let a = put_escaped_name(out, at, name, escape);
+    let b = put_spaces(out, a, gap(a - at, width(n)));
+    put_decimal(out, b, n)
+}
+
+// How much of a name is printed beside a length of d digits.
+fn kept(name: &[u8], d: usize, truncate: bool) -> usize
+    requires { ⌜ (length (now name) ≤ 16777216) × (d ≤ 10) ⌝ }
+    ensures { λ r. ⌜ Kept truncate d (now (name .entry)) r ⌝ }
+{
+    if truncate {
+        if 28 < name.len() + 1 + d {
+            return 27 - d;
+        }
+        return name.len();
+    }
+    name.len()
+}
+
+// The printed name, cut and escaped where that is asked for, and the length.
+pub fn put_printed_name(
+    out: &mut [u8],
+    at: usize,
+    name: &[u8],
+    n: u32,
+    truncate: bool,
+    escape: bool,
+) -> usize
+    requires { ⌜ length (now name) ≤ 16777216 ⌝ }
+    ensures { λ r. ⌜ Writes (now (out .entry)) at (nameAndLength (printedOf truncate escape (decimal n) (now (name .entry))) (decimal n)) (now (out .exit)) r ⌝ }
+{
+    let from = 0;
+    let end = kept(name, width(n), truncate);
+    put_name_length(out, at, &name[from..end], n, escape)
+}
+
+// Number 11's test of the printed name.
+pub fn printed_name_fine(name: &[u8], n: u32, truncate: bool, escape: bool) -> bool
+    requires { ⌜ length (now name) ≤ 16777216 ⌝ }
+    ensures { λ r. ⌜ r ≡ nameTest (printedOf truncate escape (decimal n) (now (name .entry))) ⌝ }
+{
+    let from = 0;
+    let end = kept(name, width(n), truncate);
+    escaped_name_fine(&name[from..end], escape)
+}

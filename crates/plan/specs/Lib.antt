@@ -1,0 +1,3 @@
+-- The definitions that the contracts cite, and the parts of a plan's table.
+pub mod Plans
+pub mod Parts

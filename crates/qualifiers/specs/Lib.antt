@@ -1,0 +1,4 @@
+-- The definitions that the contracts cite, and the laws that the puts share with the scans.
+pub mod Reads
+pub mod Turns
+pub mod Texts

@@ -1,0 +1,3 @@
+-- The definitions that the contracts cite, and that two answers agree.
+pub mod Reads
+pub mod Agree

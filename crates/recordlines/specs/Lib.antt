@@ -1,0 +1,3 @@
+-- The lines after LOCUS.
+pub mod Body
+pub mod Bound

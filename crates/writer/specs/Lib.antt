@@ -1,0 +1,4 @@
+-- What the writers answer, and what follows from that.
+pub mod Bound
+pub mod Writer
+pub mod Agrees

@@ -1,0 +1,205 @@
+-- What the writers answer and leave in the slice that they are lent, and the steps by which they find it.
+use Prim.Native.Nat.{ℕ, _+_, _^_, _≤_, _<_}
+use mathlib.Core.Path.{_≡_, refl, sym, _∙_}
+use mathlib.Core.Bool.{Bool, true, false, not}
+use mathlib.Core.List.{List}
+use native.Mathlib.Omega.{arith}
+use lib.ListN.{length}
+use lib.Dec.{leb}
+use borrow.Author.Tests.{le-leb, lt-leb, leb-true, not-true, not-false}
+use Rattle.format.specs.Answers.{room, plainAnswer, keepingAnswer, sliceAfter}
+use Rattle.format.specs.Bytes.{pick}
+use Rattle.format.specs.Keeping.{keeps}
+use Rattle.format.specs.Rooms.{Rooms, tableOf, roomsFine}
+use Rattle.format.specs.WellFormed.{widthFine, wellFormed}
+use Rattle.format.specs.Write.{written}
+use Rattle.format.specs.declared.Head.{Head}
+use Rattle.format.specs.declared.Unwritten.{Unwritten}
+use Rattle.format.specs.declared.Unwritten.the-variants as unwritten
+use Rattle.format.specs.declared.WriteAnswer.{WriteAnswer}
+use Rattle.format.specs.declared.WriteAnswer.the-variants as answer
+use Rattle.pen.specs.Pen.{Writes, wrote-eq}
+use Rattle.table.specs.Steps.{and-left, and-right}
+use Rattle.writer.specs.declared.Verdict.{Verdict}
+use Rattle.writer.specs.declared.Verdict.the-variants as verdict
+
+-- ---- the contracts: a writer lent the slice `old` answers a and leaves `new`
+
+-- This rules out a writer that leaves part of the text unwritten, and one that changes the slice and then refuses.
+pub record PlainAnswered (W : ℕ) (truncate escape : Bool) (r : Rooms) (h : Head) (old new : List ℕ) (a : WriteAnswer) : Type 0 where
+  pub is : a ≡ plainAnswer W truncate escape r h (length old)
+  pub slice : new ≡ sliceAfter a (written W truncate escape (tableOf r h)) old
+
+-- This rules out a writer that always refuses by a keeping rule, and one that never does.
+pub record KeepingAnswered (W : ℕ) (truncate escape : Bool) (r : Rooms) (h : Head) (old new : List ℕ) (a : WriteAnswer) : Type 0 where
+  pub is : a ≡ keepingAnswer W truncate escape r h (length old)
+  pub slice : new ≡ sliceAfter a (written W truncate escape (tableOf r h)) old
+
+-- ---- numbers 12, 10 and 11
+
+unfoldable pub verdictOf : ℕ → Bool → Bool → Rooms → Head → Verdict
+verdictOf W truncate escape r h =
+    pick (widthFine W) (pick (roomsFine r h) (pick (wellFormed W truncate escape (tableOf r h)) verdict.Fine
+    (verdict.Not unwritten.NoLayout)) (verdict.Not unwritten.BadRooms)) (verdict.Not unwritten.BadWidth)
+
+-- what is answered by a verdict: its refusal, or what the rest of the work answers
+abbrev pub answered : Verdict → WriteAnswer → WriteAnswer
+answered verdict.Fine a = a
+answered (verdict.Not why) a = answer.Refused why
+
+by-verdict :
+    (a b c : Bool) (x : WriteAnswer) →
+    pick a (pick b (pick c x (answer.Refused unwritten.NoLayout)) (answer.Refused unwritten.BadRooms)) (answer.Refused unwritten.BadWidth) ≡
+    answered (pick a (pick b (pick c verdict.Fine (verdict.Not unwritten.NoLayout)) (verdict.Not unwritten.BadRooms)) (verdict.Not unwritten.BadWidth)) x
+by-verdict false b c x = refl
+by-verdict true false c x = refl
+by-verdict true true false x = refl
+by-verdict true true true x = refl
+
+-- what is known of a table that gets as far as number 11
+pub record Passed (W : ℕ) (r : Rooms) (h : Head) : Type 0 where
+  pub rooms : roomsFine r h ≡ true
+  pub narrowest : 60 ≤ W
+  pub widest : W ≤ 132
+
+width-facts : (W : ℕ) → widthFine W ≡ true → (60 ≤ W) × (W ≤ 132)
+width-facts W k = (leb-true 60 W (and-left (leb 60 W) (leb W 132) k), leb-true W 132 (and-right (leb 60 W) (leb W 132) k))
+
+-- the first two tests of `judge` held
+pub passed-two : (W : ℕ) (r : Rooms) (h : Head) (a b : Bool) → a ≡ widthFine W → not a ≡ false → b ≡ roomsFine r h → not b ≡ false → Passed W r h
+passed-two W r h a b e t f u =
+    let w : (60 ≤ W) × (W ≤ 132) = width-facts W (sym e ∙ not-false a t) in
+    record { rooms = sym f ∙ not-false b u; narrowest = w .0; widest = w .1 }
+
+module _ (W : ℕ) (truncate escape : Bool) (r : Rooms) (h : Head) where
+  pub verdict-width : (a : Bool) → a ≡ widthFine W → not a ≡ true → verdict.Not unwritten.BadWidth ≡ verdictOf W truncate escape r h
+  unfolding verdictOf
+  verdict-width a e t = rw (← e, not-true a t)
+
+  module _ (a : Bool) (e : a ≡ widthFine W) (t : not a ≡ false) (b : Bool) (f : b ≡ roomsFine r h) where
+    pub verdict-rooms : not b ≡ true → verdict.Not unwritten.BadRooms ≡ verdictOf W truncate escape r h
+    unfolding verdictOf
+    verdict-rooms u = rw (← e, not-false a t, ← f, not-true b u)
+
+    module _ (u : not b ≡ false) (c : Bool) (g : c ≡ wellFormed W truncate escape (tableOf r h)) where
+      pub verdict-layout : not c ≡ true → verdict.Not unwritten.NoLayout ≡ verdictOf W truncate escape r h
+      unfolding verdictOf
+      verdict-layout v = rw (← e, not-false a t, ← f, not-false b u, ← g, not-true c v)
+
+      pub verdict-fine : not c ≡ false → verdict.Fine ≡ verdictOf W truncate escape r h
+      unfolding verdictOf
+      verdict-fine v = rw (← e, not-false a t, ← f, not-false b u, ← g, not-false c v)
+
+  pub passed : (v : Verdict) → v ≡ verdictOf W truncate escape r h → v ≡ verdict.Fine → Passed W r h
+  unfolding verdictOf
+  passed v e f = go (widthFine W) refl (roomsFine r h) refl
+    where
+      none : (why : Unwritten) → verdict.Not why ≡ verdict.Fine → ⊥
+      none why k = let z : _≡_ {A = ℕ} 0 1 = cc in omega arith
+
+      go : (a : Bool) → widthFine W ≡ a → (b : Bool) → roomsFine r h ≡ b → Passed W r h
+      go false p b q = absurd (none _ (sym (rw p at e) ∙ f))
+      go true p false q = absurd (none _ (sym (rw (p, q) at e) ∙ f))
+      go true p true q =
+          let w : (60 ≤ W) × (W ≤ 132) = width-facts W p in
+          record { rooms = q; narrowest = w .0; widest = w .1 }
+
+  plain-is : (n : ℕ) → plainAnswer W truncate escape r h n ≡ answered (verdictOf W truncate escape r h) (room n (length (written W truncate escape (tableOf r h))))
+  unfolding plainAnswer verdictOf
+  plain-is n = by-verdict (widthFine W) (roomsFine r h) (wellFormed W truncate escape (tableOf r h)) (room n (length (written W truncate escape (tableOf r h))))
+
+  keeping-is : (n : ℕ) → keepingAnswer W truncate escape r h n ≡
+      answered (verdictOf W truncate escape r h)
+      (pick (keeps W truncate escape (tableOf r h)) (room n (length (written W truncate escape (tableOf r h)))) (answer.Refused unwritten.NotKept))
+  unfolding keepingAnswer verdictOf
+  keeping-is n =
+      by-verdict (widthFine W) (roomsFine r h) (wellFormed W truncate escape (tableOf r h))
+      (pick (keeps W truncate escape (tableOf r h)) (room n (length (written W truncate escape (tableOf r h)))) (answer.Refused unwritten.NotKept))
+
+-- ---- the count with answers 0 and 6
+
+abbrev pub Counts : WriteAnswer → ℕ → Type 0
+Counts (answer.Done k) n = k ≡ n
+Counts (answer.Room k) n = k ≡ n
+Counts (answer.Refused why) n = Unit
+
+counts-room : (m n : ℕ) → Counts (room m n) n
+counts-room m n = go (leb n m)
+  where
+    go : (b : Bool) → Counts (pick b (answer.Done n) (answer.Room n)) n
+    go true = refl
+    go false = refl
+
+counts-answered : (v : Verdict) (a : WriteAnswer) (n : ℕ) → Counts a n → Counts (answered v a) n
+counts-answered verdict.Fine a n h = h
+counts-answered (verdict.Not why) a n h = tt
+
+counts-kept : (kept : Bool) (a : WriteAnswer) (n : ℕ) → Counts a n → Counts (pick kept a (answer.Refused unwritten.NotKept)) n
+counts-kept true a n h = h
+counts-kept false a n h = tt
+
+module _ (W : ℕ) (truncate escape : Bool) (r : Rooms) (h : Head) (n : ℕ) where
+  pub plain-counts : Counts (plainAnswer W truncate escape r h n) (length (written W truncate escape (tableOf r h)))
+  plain-counts =
+      rw (plain-is W truncate escape r h n)
+      (counts-answered (verdictOf W truncate escape r h) _ _ (counts-room n (length (written W truncate escape (tableOf r h)))))
+
+  pub keeping-counts : Counts (keepingAnswer W truncate escape r h n) (length (written W truncate escape (tableOf r h)))
+  keeping-counts =
+      rw (keeping-is W truncate escape r h n)
+      (counts-answered (verdictOf W truncate escape r h) _ _
+      (counts-kept (keeps W truncate escape (tableOf r h)) _ _ (counts-room n (length (written W truncate escape (tableOf r h))))))
+
+-- ---- number 6: measured, then written
+
+pub record Roomed (text old new : List ℕ) (a : WriteAnswer) : Type 0 where
+  pub is : a ≡ room (length old) (length text)
+  pub slice : new ≡ sliceAfter a text old
+
+measures : {l x n : List ℕ} {k : ℕ} → Writes l 0 x n k → length x < 2 ^ 64 → k ≡ length x
+measures {l} {x} {n} {k} w h = omega (arith, w .fit (omega arith) .to)
+
+pub too-long : {l x n : List ℕ} {k : ℕ} (old : List ℕ) → Writes l 0 x n k → length x < 2 ^ 64 → length old < k → Roomed x old old (answer.Room k)
+too-long {l} {x} {n} {k} old w s f =
+    let e : k ≡ length x = measures w s in
+    let g : length old < length x = omega arith in
+    record { is = rw (lt-leb (length x) (length old) g, e); slice = refl }
+
+pub put-whole : {l x m n : List ℕ} {j k : ℕ} (old : List ℕ) → Writes l 0 x n j → length x < 2 ^ 64 → j ≤ length old → Writes old 0 x m k → Roomed x old m (answer.Done k)
+put-whole {l} {x} {m} {n} {j} {k} old w s f v =
+    let e : j ≡ length x = measures w s in
+    let d : k ≡ length x = measures v s in
+    let g : length x ≤ length old = omega arith in
+    let z : 0 + length x ≡ length x = omega arith in
+    let fits : 0 + length x ≤ length old = omega arith in
+    let fit : 0 + length x < 2 ^ 64 = omega arith in
+    record { is = rw (le-leb (length x) (length old) g, d); slice = wrote-eq (v .fit fit) fits ∙ rw z }
+
+-- ---- number 13
+
+pub record Kept (kept : Bool) (text old new : List ℕ) (a : WriteAnswer) : Type 0 where
+  pub is : a ≡ pick kept (room (length old) (length text)) (answer.Refused unwritten.NotKept)
+  pub slice : new ≡ sliceAfter a text old
+
+pub rule-broken : (b kept : Bool) (text old : List ℕ) → b ≡ kept → not b ≡ true → Kept kept text old old (answer.Refused unwritten.NotKept)
+rule-broken b kept text old e t = record { is = rw (← e, not-true b t); slice = refl }
+
+pub no-rule-broken : (b kept : Bool) (text old new : List ℕ) (a : WriteAnswer) → b ≡ kept → not b ≡ false → Roomed text old new a → Kept kept text old new a
+no-rule-broken b kept text old new a e t w = record { is = rw (← e, not-false b t) (w .is); slice = w .slice }
+
+-- ---- the answers
+
+module _ (W : ℕ) (truncate escape : Bool) (r : Rooms) (h : Head) (v : Verdict) (e : v ≡ verdictOf W truncate escape r h) (old : List ℕ) where
+  pub plain-refused : (why : Unwritten) → v ≡ verdict.Not why → PlainAnswered W truncate escape r h old old (answer.Refused why)
+  plain-refused why f = record { is = sym (plain-is W truncate escape r h (length old) ∙ rw (← e, f)); slice = refl }
+
+  pub plain-fine : (new : List ℕ) (a : WriteAnswer) → v ≡ verdict.Fine → Roomed (written W truncate escape (tableOf r h)) old new a
+      → PlainAnswered W truncate escape r h old new a
+  plain-fine new a f w = record { is = w .is ∙ sym (plain-is W truncate escape r h (length old) ∙ rw (← e, f)); slice = w .slice }
+
+  pub keeping-refused : (why : Unwritten) → v ≡ verdict.Not why → KeepingAnswered W truncate escape r h old old (answer.Refused why)
+  keeping-refused why f = record { is = sym (keeping-is W truncate escape r h (length old) ∙ rw (← e, f)); slice = refl }
+
+  pub keeping-fine : (new : List ℕ) (a : WriteAnswer) → v ≡ verdict.Fine
+      → Kept (keeps W truncate escape (tableOf r h)) (written W truncate escape (tableOf r h)) old new a → KeepingAnswered W truncate escape r h old new a
+  keeping-fine new a f w = record { is = w .is ∙ sym (keeping-is W truncate escape r h (length old) ∙ rw (← e, f)); slice = w .slice }
