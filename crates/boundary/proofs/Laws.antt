@@ -1,6 +1,6 @@
 -- From what was put and answered to what is told.
 use Prim.Native.Nat.{ℕ, _+_, _<_, _^_}
-use mathlib.Core.Path.{_≡_, refl, sym, ap, _∙_}
+use mathlib.Core.Path.{_≡_, ap, _∙_}
 use mathlib.Core.Bool.{Bool}
 use mathlib.Core.List.{List, [], _∷_, _++_}
 use native.Mathlib.Omega.{arith}
@@ -20,7 +20,7 @@ use Rattle.headnumbers.specs.Back.{head-length}
 use Rattle.pen.specs.Pen.{Writes}
 use Rattle.reader.specs.Reads.{Answered}
 use Rattle.writer.specs.Writer.{PlainAnswered, KeepingAnswered}
-use Rattle.boundary.specs.Told.{readNumber, readNumbers, sizeNumbers, Tells, ReadTold, Returns, PlainTold, KeepingTold}
+use Rattle.boundary.specs.Told.{readNumber, sizeNumbers, Tells, ReadTold, Returns, PlainTold, KeepingTold}
 
 module _ (at : ℕ) (a : ReadAnswer) (told told′ : List ℕ) (k : ℕ) where
   pub done-told : (h : Head) (p : ℕ) → a ≡ answer.Done h p → Writes told 0 (p ∷ [] ++ headNumbers h) told′ k → Tells at a told told′ 0

@@ -1,6 +1,6 @@
 -- A head as 31 numbers, and the head that numbers stand for. A text that may be absent is its start and its length plus one, and 0, 0 where it is absent, as in rows.
 use Prim.Native.Nat.{ℕ, zero, suc, _+_}
-use mathlib.Core.Bool.{Bool, true, false, not, cond, _&&_}
+use mathlib.Core.Bool.{Bool, false, not, cond, _&&_}
 use mathlib.Core.List.{List, [], _∷_, _++_}
 use lib.ListN.{length, getD}
 use lib.Dec.{eqb, ltb, leb}
@@ -12,7 +12,6 @@ use Rattle.format.specs.declared.SourceText.{SourceText}
 use Rattle.format.specs.declared.SourceText.the-variants as source
 use Rattle.format.specs.declared.Length.{Length}
 use Rattle.format.specs.declared.Length.the-variants as bases
-use Rattle.format.specs.declared.Date.{Date}
 use Rattle.format.specs.declared.Dated.{Dated}
 use Rattle.format.specs.declared.Dated.the-variants as dated
 use Rattle.format.specs.declared.Head.{Head}
