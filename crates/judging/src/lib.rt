@@ -88,27 +88,18 @@ fn judge(
     ));
 }
 
-fn judge_at(
-    input: &[u8],
-    at: usize,
-    texts: &mut [u8],
-    references: &mut [usize],
-    comments: &mut [usize],
-    features: &mut [usize],
-    qualifiers: &mut [usize],
-    letters: &mut [u8],
+// What is said of a record that was read, or not.
+fn judge_answer(
+    answer: ReadAnswer,
+    texts: &[u8],
+    references: &[usize],
+    comments: &[usize],
+    features: &[usize],
+    qualifiers: &[usize],
+    letters: &[u8],
     width: usize,
 ) -> Judged {
-    match reader::read(
-        input,
-        at,
-        texts,
-        references,
-        comments,
-        features,
-        qualifiers,
-        letters,
-    ) {
+    match answer {
         ReadAnswer::Room(_) => {
             show_number(6);
             Judged::Stop
@@ -131,6 +122,39 @@ fn judge_at(
             Judged::On(place)
         }
     }
+}
+
+fn judge_at(
+    input: &[u8],
+    at: usize,
+    texts: &mut [u8],
+    references: &mut [usize],
+    comments: &mut [usize],
+    features: &mut [usize],
+    qualifiers: &mut [usize],
+    letters: &mut [u8],
+    width: usize,
+) -> Judged {
+    let answer = reader::read(
+        input,
+        at,
+        texts,
+        references,
+        comments,
+        features,
+        qualifiers,
+        letters,
+    );
+    judge_answer(
+        answer,
+        texts,
+        references,
+        comments,
+        features,
+        qualifiers,
+        letters,
+        width,
+    )
 }
 
 // All records of the input. A record takes a byte at least, so there are no more records than bytes.

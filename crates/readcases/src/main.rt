@@ -77,12 +77,12 @@ fn read_into(
 
 // One record, into rooms that are large enough for all cases.
 fn read_one(s: &[u8], at: usize) -> Next {
-    let mut texts = [35u8; 1024];
+    let mut texts = io::buffer();
     let mut references = [7usize; 42];
     let mut comments = [7usize; 6];
     let mut features = [7usize; 24];
     let mut qualifiers = [7usize; 32];
-    let mut letters = [35u8; 128];
+    let mut letters = io::buffer();
     read_into(
         s,
         at,

@@ -105,6 +105,54 @@ fn write_out(
     numbers::write_number(answer)
 }
 
+// No record was read, by that number.
+fn unread(number: usize) -> Rewritten {
+    if number == 1 {
+        return Rewritten::AtEnd;
+    }
+    Rewritten::Refused(number)
+}
+
+// A record was written by that number.
+fn put_again(number: usize, place: usize) -> Rewritten {
+    if number == 0 {
+        return Rewritten::On(place);
+    }
+    Rewritten::Refused(number)
+}
+
+// What becomes of a record that was read, or not.
+fn after_reading(
+    answer: ReadAnswer,
+    texts: &[u8],
+    references: &[usize],
+    comments: &[usize],
+    features: &[usize],
+    qualifiers: &[usize],
+    letters: &[u8],
+    out: &mut [u8],
+    options: Options,
+) -> Rewritten {
+    match answer {
+        ReadAnswer::Room(_) => Rewritten::Refused(6),
+        ReadAnswer::Refused(why) => unread(numbers::unread_number(why)),
+        ReadAnswer::Done { head, place } => put_again(
+            write_out(
+                out,
+                texts,
+                references,
+                comments,
+                features,
+                qualifiers,
+                letters,
+                head,
+                options,
+            ),
+            place,
+        ),
+    }
+}
+
 // One record.
 fn rewrite_at(
     input: &[u8],
@@ -118,7 +166,7 @@ fn rewrite_at(
     out: &mut [u8],
     options: Options,
 ) -> Rewritten {
-    match reader::read(
+    let answer = reader::read(
         input,
         at,
         texts,
@@ -127,33 +175,18 @@ fn rewrite_at(
         features,
         qualifiers,
         letters,
-    ) {
-        ReadAnswer::Room(_) => Rewritten::Refused(6),
-        ReadAnswer::Refused(why) => {
-            let number = numbers::unread_number(why);
-            if number == 1 {
-                return Rewritten::AtEnd;
-            }
-            Rewritten::Refused(number)
-        }
-        ReadAnswer::Done { head, place } => {
-            let number = write_out(
-                out,
-                texts,
-                references,
-                comments,
-                features,
-                qualifiers,
-                letters,
-                head,
-                options,
-            );
-            if number == 0 {
-                return Rewritten::On(place);
-            }
-            Rewritten::Refused(number)
-        }
-    }
+    );
+    after_reading(
+        answer,
+        texts,
+        references,
+        comments,
+        features,
+        qualifiers,
+        letters,
+        out,
+        options,
+    )
 }
 
 // All records of the input. A record takes a byte at least, so there are no more records than bytes.

@@ -100,7 +100,7 @@ fn write_both(
     from: usize,
     width: usize,
 ) {
-    let mut out = [0u8; 2048];
+    let mut out = io::buffer();
     let rows = [0usize; 0];
     let answer = writer::write(
         &mut out,
@@ -149,7 +149,7 @@ fn put_letters(out: &mut [u8], at: usize, n: usize) -> usize {
 
 // A feature with one qualifier, whose value is n letters and then `end`. Shown are the feature's lines.
 fn feature_case(kind: &[u8], location: &[u8], key: &[u8], n: usize, end: &[u8], width: usize) {
-    let mut texts = [0u8; 1024];
+    let mut texts = io::buffer();
     pen::put_bytes(&mut texts, 0, b"P318SYN");
     let a = pen::put_bytes(&mut texts, 7, kind);
     let b = pen::put_bytes(&mut texts, a, location);
@@ -305,7 +305,7 @@ fn more_values() {
 
 // A DEFINITION of n letters and `end`.
 fn definition_case(n: usize, end: &[u8], width: usize) {
-    let mut texts = [0u8; 1024];
+    let mut texts = io::buffer();
     pen::put_bytes(&mut texts, 0, b"P318SYN");
     let a = put_letters(&mut texts, 7, n);
     let b = pen::put_bytes(&mut texts, a, end);
@@ -364,11 +364,11 @@ fn sequences() {
 
 // A record with that name, a molecule type of eight bytes, and no date.
 fn name_case(name: &[u8], bases: u32, truncate: bool, escape: bool) {
-    let mut texts = [0u8; 128];
+    let mut texts = io::buffer();
     let a = pen::put_bytes(&mut texts, 0, name);
     let b = pen::put_bytes(&mut texts, a, b"mRNA-ctD");
     let c = pen::put_bytes(&mut texts, b, b"SYN");
-    let mut out = [0u8; 512];
+    let mut out = io::buffer();
     let rows = [0usize; 0];
     let letters = [0u8; 0];
     let head = Head {
@@ -446,7 +446,7 @@ fn rooms_case(out: &mut [u8], width: usize) {
 }
 
 fn spans_case(start: usize, length: usize) {
-    let mut out = [35u8; 256];
+    let mut out = io::buffer();
     let rows = [0usize; 0];
     let letters = [0u8; 0];
     tell(writer::write(
@@ -495,7 +495,7 @@ fn rooms() {
 
 // Reads back what was written.
 fn read_back(s: &[u8]) {
-    let mut texts = [35u8; 256];
+    let mut texts = io::buffer();
     let mut references = [7usize; 14];
     let mut comments = [7usize; 2];
     let mut features = [7usize; 6];
@@ -535,7 +535,7 @@ fn read_start(s: &[u8], n: usize) {
 }
 
 fn write_and_read(texts: &[u8], features: &[usize], qualifiers: &[usize], head: Head) {
-    let mut out = [0u8; 512];
+    let mut out = io::buffer();
     let rows = [0usize; 0];
     let letters = [0u8; 0];
     match writer::write(
