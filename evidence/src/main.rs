@@ -1,4 +1,5 @@
 //! Holds the proved library against the Rust gb-io in one process, and measures both. `evidence/run` says how to call it.
+mod files;
 mod library;
 mod random;
 mod reading;
@@ -79,12 +80,16 @@ fn asked() -> Option<Asked> {
 }
 
 fn main() {
+    set_hook(Box::new(|_| {}));
+    let words: Vec<String> = std::env::args().skip(1).collect();
+    if words.first().map_or(false, |word| word == "files") {
+        on_large_stack(move || files::run(&words[1..]));
+    }
     let Some(asked) = asked() else {
-        eprintln!("usage: evidence/run reading|writing|roundtrip|speed [--count N | --full] [--seed S]");
+        eprintln!("usage: evidence/run reading|writing|roundtrip|speed [--count N | --full] [--seed S]\n       evidence/run files PATH...");
         exit(2);
     };
-    set_hook(Box::new(|_| {}));
-    let work = move || match (asked.mode.as_str(), asked.worker) {
+    on_large_stack(move || match (asked.mode.as_str(), asked.worker) {
         ("speed", _) => speed::run(asked.count),
         (_, None) => all_workers(&asked),
         (mode, Some(worker)) => {
@@ -96,7 +101,11 @@ fn main() {
             tally.hand_over();
             true
         }
-    };
+    });
+}
+
+/// Does the work and ends the program with its verdict.
+fn on_large_stack(work: impl FnOnce() -> bool + Send + 'static) -> ! {
     let done = std::thread::Builder::new().stack_size(STACK).spawn(work).unwrap().join();
     exit(if done.unwrap_or(false) { 0 } else { 1 });
 }

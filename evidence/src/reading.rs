@@ -20,7 +20,7 @@ pub fn run(count: u64, seed: u64, worker: u64) -> Tally {
         let (slice, places) = slices.next();
         for at in places {
             match judged(&slice, at, &mut r) {
-                Ok(verdict) => tally.count(verdict),
+                Ok(judged) => judged.count(&mut tally),
                 Err(_) => {
                     tally.count_left();
                     if smallest.as_ref().map_or(true, |(s, _)| slice.len() < s.len()) {
@@ -57,40 +57,53 @@ fn shrunk(mut slice: Vec<u8>, mut at: usize, r: &mut Random) -> (Vec<u8>, usize)
     (slice, at)
 }
 
-/// The departures that lie between the library and the Rust, or what is wrong.
-fn judged(slice: &[u8], at: usize, r: &mut Random) -> Result<&'static str, &'static str> {
-    if at >= slice.len() {
-        let (numbers, told, verdict) = if at > slice.len() { (3, 0, "departure 5, number 3") } else { (1, at, "agrees with the Rust, number 1") };
-        refused(slice, at, &[numbers], told, r)?;
-        return Ok(verdict);
+/// The number that the library answers, and the departures that lie between it and the Rust.
+pub struct Judged {
+    number: usize,
+    verdict: &'static str,
+}
+
+impl Judged {
+    pub fn count(&self, tally: &mut Tally) {
+        tally.count(self.verdict);
+        tally.count(&format!("number {}", self.number));
+    }
+}
+
+/// What gb-io reads with the departures for reading on.
+pub fn departed_reading(bytes: &[u8]) -> Reading {
+    departed::set(ALL, 0);
+    departed::read(bytes)
+}
+
+/// The verdict, or what is wrong.
+pub fn judged(slice: &[u8], at: usize, r: &mut Random) -> Result<Judged, &'static str> {
+    if at > slice.len() {
+        return Ok(Judged { number: refused(slice, at, &[3], 0, r)?, verdict: "departure 5, a place beyond the slice" });
     }
     let bytes = &slice[at..];
     let unchanged = asis::read(bytes);
-    departed::set(ALL, 0);
-    let expected = departed::read(bytes);
-    match &expected {
+    let expected = departed_reading(bytes);
+    let number = match &expected {
         Reading::Done(table, used) => done(slice, at, &Rooms::of(table, || 0), at + used, r)?,
-        Reading::Panicked => {
-            refused(slice, at, &[2], at, r)?;
-            return Ok("departure 5, the Rust panics");
-        }
-        _ if unchanged == Reading::None => {
-            refused(slice, at, &[2, 4], at, r)?;
-            return Ok("departure 2, None at a cut LOCUS line");
-        }
-        Reading::None => refused(slice, at, &[2, 4], at, r)?,
-        Reading::Refused => refused(slice, at, &[2, 4, 5, 7, 8, 9], at, r)?,
+        _ if bytes.is_empty() => refused(slice, at, &[1], at, r)?,
+        Reading::Panicked => refused(slice, at, &[2], at, r)?,
+        Reading::Refused if unchanged != Reading::None => refused(slice, at, &[2, 4, 5, 7, 8, 9], at, r)?,
+        Reading::None | Reading::Refused => refused(slice, at, &[2, 4], at, r)?,
+    };
+    let verdict = match expected {
+        Reading::Panicked => Some("departure 5, the Rust panics"),
+        Reading::None | Reading::Refused if unchanged == Reading::None && !bytes.is_empty() => Some("departure 2, None at a cut LOCUS line"),
+        _ if same(&unchanged, &expected) => Some("agrees with the Rust"),
+        _ => DEPARTURES.iter().find(|(mask, _)| {
+            departed::set(*mask, 0);
+            same(&departed::read(bytes), &expected)
+        }).map(|(_, name)| *name),
+    };
+    match verdict {
+        Some(verdict) => Ok(Judged { number, verdict }),
+        None => Err("no set of departures gives this answer"),
     }
-    if same(&unchanged, &expected) {
-        return Ok(if matches!(expected, Reading::Done(..)) { "agrees with the Rust, a record" } else { "agrees with the Rust, a refusal" });
-    }
-    for (mask, name) in DEPARTURES {
-        departed::set(mask, 0);
-        if same(&departed::read(bytes), &expected) {
-            return Ok(name);
-        }
-    }
-    Err("no set of departures gives this answer")
 }
 
 fn same(a: &Reading, b: &Reading) -> bool {
@@ -110,7 +123,7 @@ fn lent(lengths: [usize; 6], told: usize) -> Lent {
 }
 
 /// The library refuses with one of the numbers and touches nothing, whatever the rooms.
-fn refused(slice: &[u8], at: usize, numbers: &[usize], told: usize, r: &mut Random) -> Result<(), &'static str> {
+fn refused(slice: &[u8], at: usize, numbers: &[usize], told: usize, r: &mut Random) -> Result<usize, &'static str> {
     let mut first = 0;
     for lengths in [[0; 6], [slice.len(); 6]] {
         let mut rooms = lent(lengths, r.pick(&[1, 1, 1 + HEAD, 0]));
@@ -129,11 +142,11 @@ fn refused(slice: &[u8], at: usize, numbers: &[usize], told: usize, r: &mut Rand
             return Err("another place with a refusal");
         }
     }
-    Ok(())
+    Ok(first)
 }
 
 /// The library reads these rooms and this place, and asks for exactly that much room.
-fn done(slice: &[u8], at: usize, rooms: &Rooms, place: usize, r: &mut Random) -> Result<(), &'static str> {
+fn done(slice: &[u8], at: usize, rooms: &Rooms, place: usize, r: &mut Random) -> Result<usize, &'static str> {
     let exact = lengths(rooms);
     let mut sizes = vec![at];
     sizes.extend(rooms.sizes());
@@ -168,5 +181,5 @@ fn done(slice: &[u8], at: usize, rooms: &Rooms, place: usize, r: &mut Random) ->
             return Err("other texts, rows or letters, or a canary is dead");
         }
     }
-    Ok(())
+    Ok(0)
 }

@@ -36,7 +36,8 @@ pub fn run(count: u64, seed: u64, worker: u64) -> Tally {
     tally
 }
 
-fn round(table: &Table, how: How, r: &mut Random) -> Result<(), &'static str> {
+/// Written, and read back from its place.
+pub fn round(table: &Table, how: How, r: &mut Random) -> Result<(), &'static str> {
     let rooms = Rooms::of(table, || 0);
     let (number, size) = write(&mut [], &rooms, how);
     if number != 6 {

@@ -25,8 +25,11 @@ impl Slices {
                 let before: &[u8] = self.r.pick(&[b"header line\n" as &[u8], b"\n", b"\r\n", b"a\rb\n", b"\xff\n", b"LOCU\n", b" LOCUS x\n"]);
                 text.splice(0..0, before.iter().copied());
             }
-            let any = self.r.from_to(0, text.len());
-            let any = self.r.pick(&[any, any, any, text.len(), text.len() + 1, text.len() + 20, usize::MAX]);
+            let any = match self.r.below(25) {
+                0 => text.len(),
+                1 => self.r.pick(&[text.len() + 1, text.len() + 20, usize::MAX]),
+                _ => self.r.from_to(0, text.len()),
+            };
             return (text, [0, any]);
         }
         let mut text = Vec::new();

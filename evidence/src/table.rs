@@ -177,13 +177,14 @@ impl Table {
             out.extend(value.as_ref().map(|t| format!("{name} {}", text(t))));
         }
         for r in &self.references {
-            let may = [&r.authors, &r.consrtm, &r.journal, &r.pubmed, &r.remark].map(|t| t.as_ref().map(|t| text(t)));
-            out.push(format!("reference {} title {} others {may:?}", text(&r.text), text(&r.title)));
+            let may = [&r.authors, &r.consrtm, &r.journal, &r.pubmed, &r.remark].map(|t| t.as_ref().map_or("none".into(), |t| text(t)));
+            out.push(format!("reference {} title {} others {}", text(&r.text), text(&r.title), may.join(" ")));
         }
         out.extend(self.comments.iter().map(|c| format!("comment {}", text(c))));
         for f in &self.features {
-            let qualifiers: Vec<String> = f.qualifiers.iter().map(|(k, v)| format!("{}={:?}", text(k), v.as_ref().map(|v| text(v)))).collect();
-            out.push(format!("feature {} {} {qualifiers:?}", text(&f.kind), text(&f.location)));
+            let value = |v: &Option<Text>| v.as_ref().map_or(String::new(), |v| format!("={}", text(v)));
+            let qualifiers: Vec<String> = f.qualifiers.iter().map(|(k, v)| format!("/{}{}", text(k), value(v))).collect();
+            out.push(format!("feature {} {} {}", text(&f.kind), text(&f.location), qualifiers.join(" ")));
         }
         out.push(format!("letters {}", text(&self.letters)));
         out.join(", ")
