@@ -63,7 +63,7 @@ fn asked() -> Option<Asked> {
     let (small, full) = match mode.as_str() {
         "reading" => (500_000, 5_000_000),
         "writing" | "roundtrip" => (200_000, 1_000_000),
-        "speed" => (7, 25),
+        "speed" => (15, 60),
         _ => return None,
     };
     let mut asked = Asked { mode, count: small, seed: 1, worker: None };

@@ -140,6 +140,78 @@ impl Rooms {
     }
 }
 
+impl Rooms {
+    /// The table in the rooms; None where a text or row is outside its room, which is number 10.
+    pub fn table(&self) -> Option<Table> {
+        let h = &self.head;
+        let counts = [h[25], h[26], h[27]];
+        let rows = [&self.references, &self.comments, &self.features];
+        if h[2] > 1 << 32 || (0..3).any(|i| counts[i] > rows[i].len() / ROWS[i]) {
+            return None;
+        }
+        let source = self.perhaps(&h[21..])?;
+        Some(Table {
+            name: self.perhaps(h)?,
+            length: h[2].checked_sub(1),
+            molecule: self.perhaps(&h[3..])?,
+            circular: h[5] != 0,
+            division: self.always(&h[6..])?,
+            date: Some([h[8], h[9], h[10]]).filter(|date| *date != [0, 0, 0]),
+            definition: self.perhaps(&h[11..])?,
+            accession: self.perhaps(&h[13..])?,
+            version: self.perhaps(&h[15..])?,
+            dblink: self.perhaps(&h[17..])?,
+            keywords: self.perhaps(&h[19..])?,
+            organism: if source.is_some() { self.perhaps(&h[23..])? } else { None },
+            source,
+            references: self.references.chunks(ROWS[0]).take(counts[0]).map(|row| self.reference(row)).collect::<Option<_>>()?,
+            comments: self.comments.chunks(ROWS[1]).take(counts[1]).map(|row| self.always(row)).collect::<Option<_>>()?,
+            features: self.features_in(counts[2])?,
+            contig: self.perhaps(&h[28..])?,
+            letters: self.letters.get(..h[30])?.to_vec(),
+        })
+    }
+
+    fn always(&self, row: &[usize]) -> Option<Text> {
+        self.texts.get(row[0]..row[0].checked_add(row[1])?).map(<[u8]>::to_vec)
+    }
+
+    fn perhaps(&self, row: &[usize]) -> Option<Option<Text>> {
+        match row[1].checked_sub(1) {
+            None => Some(None),
+            Some(length) => self.always(&[row[0], length]).map(Some),
+        }
+    }
+
+    fn reference(&self, row: &[usize]) -> Option<Reference> {
+        Some(Reference {
+            text: self.always(row)?,
+            authors: self.perhaps(&row[2..])?,
+            consrtm: self.perhaps(&row[4..])?,
+            title: self.always(&row[6..])?,
+            journal: self.perhaps(&row[8..])?,
+            pubmed: self.perhaps(&row[10..])?,
+            remark: self.perhaps(&row[12..])?,
+        })
+    }
+
+    /// No feature's qualifiers start before the end of an earlier one's.
+    fn features_in(&self, count: usize) -> Option<Vec<Feature>> {
+        let mut from = 0;
+        self.features.chunks(ROWS[2]).take(count).map(|row| {
+            let mut qualifiers = Vec::new();
+            if row[5] > 0 {
+                let end = row[4].checked_add(row[5]).filter(|&end| from <= row[4] && end <= self.qualifiers.len() / ROWS[3])?;
+                for q in self.qualifiers[row[4] * ROWS[3]..end * ROWS[3]].chunks(ROWS[3]) {
+                    qualifiers.push((self.always(q)?, self.perhaps(&q[2..])?));
+                }
+                from = end;
+            }
+            Some(Feature { kind: self.always(row)?, location: self.always(&row[2..])?, qualifiers })
+        }).collect()
+    }
+}
+
 /// The store of texts as it is filled.
 struct Placing<G> {
     texts: Vec<u8>,

@@ -17,51 +17,87 @@ pub fn run(count: u64, seed: u64, worker: u64) -> Tally {
     let mut tally = Tally::default();
     let mut first = None;
     for _ in 0..count {
-        let job = tables.next();
-        let how = How { keeping: false, width: job.width, truncate: job.truncate, escape: job.escape };
-        match judged(&job.table, how, &mut r) {
+        let Job { table, width, truncate, escape } = tables.next();
+        let how = How { keeping: false, width, truncate, escape };
+        let rooms = laid(&table, &mut r);
+        match judged(&rooms, how, &mut r) {
             Ok((plain, keeping)) => {
                 tally.count(plain);
                 tally.count(keeping);
             }
-            Err(_) => {
+            Err(why) => {
                 tally.count_left();
-                first.get_or_insert(job);
+                first.get_or_insert((rooms, how, why));
             }
         }
     }
-    if let Some(Job { table, width, truncate, escape }) = first {
-        let how = How { keeping: false, width, truncate, escape };
-        let table = table.shrunk(|t| judged(t, how, &mut r).is_err());
-        let why = judged(&table, how, &mut r).err().unwrap_or("shrunk away");
-        eprintln!("left over: write at width {width}, truncation {truncate}, escaping {escape}, of {}: {why}", table.shown());
+    if let Some((rooms, how, why)) = first {
+        show(rooms, how, why, &mut r);
     }
     tally
 }
 
-/// The departures that lie between the library and the Rust, and what the keeping writer says; or what is wrong.
-fn judged(table: &Table, how: How, r: &mut Random) -> Result<(&'static str, &'static str), &'static str> {
+/// The table in order or scattered, now and then with one number changed.
+fn laid(table: &Table, r: &mut Random) -> Rooms {
     let scattered = r.chance(30);
-    let rooms = Rooms::of(table, || if scattered { r.below(3) } else { 0 });
+    let mut rooms = Rooms::of(table, || if scattered { r.below(3) } else { 0 });
+    if r.chance(12) {
+        let store = rooms.texts.len();
+        let numbers = match r.below(5) {
+            0 => &mut rooms.references,
+            1 => &mut rooms.comments,
+            2 => &mut rooms.features,
+            3 => &mut rooms.qualifiers,
+            _ => &mut rooms.head,
+        };
+        if !numbers.is_empty() {
+            let i = r.below(numbers.len());
+            numbers[i] = r.pick(&[0, 1, numbers[i].wrapping_add(1), numbers[i].wrapping_sub(1), store, store + 1, usize::MAX, 1 << 63]);
+        }
+    }
+    rooms
+}
+
+/// What is left over, as small a table as can be found for it.
+fn show(rooms: Rooms, how: How, why: &str, r: &mut Random) {
+    let How { width, truncate, escape, .. } = how;
+    let start = format!("left over: write at width {width}, truncation {truncate}, escaping {escape}, of");
+    match rooms.table().filter(|table| judged(&Rooms::of(table, || 0), how, r).is_err()) {
+        Some(table) => {
+            let table = table.shrunk(|t| judged(&Rooms::of(t, || 0), how, r).is_err());
+            eprintln!("{start} {}: {why}", table.shown());
+        }
+        None => eprintln!("{start} the head {:?}, {} bytes of texts \"{}\", rows {:?} {:?} {:?} {:?}: {why}", rooms.head, rooms.texts.len(),
+            rooms.texts.escape_ascii(), rooms.references, rooms.comments, rooms.features, rooms.qualifiers),
+    }
+}
+
+/// The departures that lie between the library and the Rust, and what the keeping writer says; or what is wrong.
+fn judged(rooms: &Rooms, how: How, r: &mut Random) -> Result<(&'static str, &'static str), &'static str> {
     let keeping = How { keeping: true, ..how };
     for how in [how, keeping] {
-        refused(&rooms, How { width: r.pick(&[0, 59, 133, usize::MAX]), ..how }, 12)?;
+        refused(rooms, How { width: r.pick(&[0, 59, 133, usize::MAX]), ..how }, 12)?;
     }
+    let Some(table) = &rooms.table() else {
+        refused(rooms, how, 10)?;
+        refused(rooms, keeping, 10)?;
+        return Ok(("departure 5, number 10", "keeping writer: 10"));
+    };
     if !laid_out(table, how) {
-        refused(&rooms, how, 11)?;
-        refused(&rooms, keeping, 11)?;
+        refused(rooms, how, 11)?;
+        refused(rooms, keeping, 11)?;
         return Ok(("departure 5, number 11", "keeping writer: 11"));
     }
     departed::set(ALL, how.width);
     let Writing::Done(bytes) = departed::write(table, how.truncate, how.escape) else {
         return Err("the departed Rust writes nothing");
     };
-    written(&rooms, how, &bytes, r)?;
+    written(rooms, how, &bytes, r)?;
     let kept = if kept(table, how) {
-        written(&rooms, keeping, &bytes, r)?;
+        written(rooms, keeping, &bytes, r)?;
         "keeping writer: writes the same"
     } else {
-        refused(&rooms, keeping, 13)?;
+        refused(rooms, keeping, 13)?;
         "keeping writer: 13"
     };
     let expected = Writing::Done(bytes);
