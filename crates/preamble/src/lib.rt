@@ -8,7 +8,7 @@ ghost use Rattle.format.specs.Bytes.{bytes};
 ghost use Rattle.format.specs.Readers.{tag};
 ghost use Rattle.format.specs.Locus.{preamble};
 ghost use Rattle.chars.specs.Views.{Stepped};
-ghost use Rattle.preamble.specs.Skips.{isGot, Skipped};
+ghost use Rattle.preamble.specs.Skips.{isGot, stopped, Gone, Read, Passed};
 
 // Whether a line begins `LOCUS` here.
 fn at_locus(s: &[u8], at: usize) -> bool
@@ -22,20 +22,49 @@ fn at_locus(s: &[u8], at: usize) -> bool
     }
 }
 
-// A line that is UTF-8.
-fn skip_line(s: &[u8], at: usize) -> Step
-    requires { ⌜ at ≤ length (now s) ⌝ }
-    ensures { λ r. ⌜ Skipped (now (s .entry)) at r ⌝ }
+// Where the reader stands: before a line that is to be passed, or at an answer.
+pub struct Turn {
+    pub more: bool,
+    pub answer: Step,
+}
+
+fn stops(answer: Step) -> Turn
+    ensures { λ r. ⌜ r ≡ stopped answer ⌝ }
 {
-    match chars::line_at(s, at) {
+    Turn {
+        more: false,
+        answer: answer,
+    }
+}
+
+// LOCUS stands here, or a line is to be passed.
+fn turn_at(s: &[u8], at: usize) -> Turn
+    requires { ⌜ at ≤ length (now s) ⌝ }
+    ensures { λ r. ⌜ Gone (now (s .entry)) at at r ⌝ }
+{
+    if at_locus(s, at) {
+        return stops(Step::Got(at));
+    }
+    Turn {
+        more: true,
+        answer: Step::No,
+    }
+}
+
+// A line was read from a place on: it must be UTF-8.
+fn past_line(s: &[u8], at: usize, line: Line) -> Turn
+    requires { ⌜ Read (now s) at line ⌝ }
+    ensures { λ r. ⌜ Passed (now (s .entry)) at line r ⌝ }
+{
+    match line {
         Line::Got { end, next } => {
             if utf8::utf8_ok(s, at, end) {
-                return Step::Got(next);
+                return turn_at(s, next);
             }
-            Step::No
+            stops(Step::No)
         }
-        Line::No => Step::No,
-        Line::Cut => Step::Cut,
+        Line::No => stops(Step::No),
+        Line::Cut => stops(Step::Cut),
     }
 }
 
@@ -44,17 +73,12 @@ pub fn preamble_at(s: &[u8], at: usize) -> Step
     requires { ⌜ at ≤ length (now s) ⌝ }
     ensures { λ r. ⌜ Stepped (now (s .entry)) at (preamble (drop at (now (s .entry)))) r ⌝ }
 {
-    let mut i = at;
-    loop {
-        if at_locus(s, i) {
-            return Step::Got(i);
-        }
-        match skip_line(s, i) {
-            Step::Got(next) => {
-                i = next;
-            }
-            Step::No => return Step::No,
-            Step::Cut => return Step::Cut,
-        }
+    let mut turn = turn_at(s, at);
+    let mut reader = lines::reader_at(s, at);
+    while turn.more {
+        let from = reader.place;
+        let line = lines::next_line(&mut reader);
+        turn = past_line(s, from, line);
     }
+    turn.answer
 }

@@ -19,10 +19,11 @@ rooms-equal a b t r c f q l =
     ∙ ap (λ (x : List ℕ). roomsIn (b .texts) (b .references) (b .comments) (b .features) x (a .letters)) q
     ∙ ap (λ (x : List ℕ). roomsIn (b .texts) (b .references) (b .comments) (b .features) (b .qualifiers) x) l
 
-after : (s : List ℕ) (at : ℕ) (old new : Rooms) (r : ReadAnswer) → Answered s at old new r → new ≡ roomsAfter s at old
-after s at old new r a = rooms-equal new (roomsAfter s at old) (a .texts) (a .references) (a .comments) (a .features) (a .qualifiers) (a .letters)
+-- the rooms afterwards, as one
+pub rooms-after : (s : List ℕ) (at : ℕ) (old new : Rooms) (r : ReadAnswer) → Answered s at old new r → new ≡ roomsAfter s at old
+rooms-after s at old new r a = rooms-equal new (roomsAfter s at old) (a .texts) (a .references) (a .comments) (a .features) (a .qualifiers) (a .letters)
 
 -- ANY TWO PERMITTED ANSWERS TO ONE CALL ARE EQUAL, and so are the rooms afterwards
 pub answers-agree : (s : List ℕ) (at : ℕ) (old new new′ : Rooms) (r r′ : ReadAnswer) → Answered s at old new r → Answered s at old new′ r′ → (r ≡ r′) × (new ≡ new′)
 answers-agree s at old new new′ r r′ a b =
-    reader-agrees s at old r r′ new new′ (a .is) (after s at old new r a) (b .is) (after s at old new′ r′ b)
+    reader-agrees s at old r r′ new new′ (a .is) (rooms-after s at old new r a) (b .is) (rooms-after s at old new′ r′ b)

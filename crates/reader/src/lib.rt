@@ -22,7 +22,11 @@ fn sizes_of(plan: Plan) -> Sizes
     let contig = rest.contig;
     let head = headputs::head_bytes(locus, fields);
     Sizes {
-        texts: head + fields.reference_bytes + fields.comment_bytes + counts.bytes + header::may_length(contig),
+        texts: head
+            + fields.reference_bytes
+            + fields.comment_bytes
+            + counts.bytes
+            + header::may_length(contig),
         references: fields.references,
         comments: fields.comments,
         features: counts.count,
@@ -80,10 +84,27 @@ fn answer(
     ensures { λ r. ⌜ Answering (now (s .entry)) plan (roomsIn (now (texts .entry)) (now (references .entry)) (now (comments .entry)) (now (features .entry)) (now (qualifiers .entry)) (now (letters .entry))) (roomsIn (now (texts .exit)) (now (references .exit)) (now (comments .exit)) (now (features .exit)) (now (qualifiers .exit)) (now (letters .exit))) r ⌝ }
 {
     let n = sizes_of(plan);
-    if !enough(n, texts.len(), references.len(), comments.len(), features.len(), qualifiers.len(), letters.len()) {
+    if !enough(
+        n,
+        texts.len(),
+        references.len(),
+        comments.len(),
+        features.len(),
+        qualifiers.len(),
+        letters.len(),
+    ) {
         return ReadAnswer::Room(n);
     }
-    fill::fill(s, plan, texts, references, comments, features, qualifiers, letters);
+    fill::fill(
+        s,
+        plan,
+        texts,
+        references,
+        comments,
+        features,
+        qualifiers,
+        letters,
+    );
     let rest = plan.rest;
     ReadAnswer::Done {
         head: head_in(plan),
@@ -115,6 +136,15 @@ pub fn read(
     }
     match plan::plan_at(s, at) {
         PlanAt::Refused(why) => ReadAnswer::Refused(why),
-        PlanAt::Ready(plan) => answer(s, plan, texts, references, comments, features, qualifiers, letters),
+        PlanAt::Ready(plan) => answer(
+            s,
+            plan,
+            texts,
+            references,
+            comments,
+            features,
+            qualifiers,
+            letters,
+        ),
     }
 }

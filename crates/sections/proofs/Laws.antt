@@ -1,14 +1,12 @@
 -- The laws of the two loops: what a turn, and each way out, makes of "the answer of the whole is the answer from here".
 use Prim.Native.Nat.{ℕ, zero, suc, _+_, _-_, _≤_, _<_}
 use native.Mathlib.Omega.{arith}
-use native.Mathlib.Numerals.{add-one}
 use mathlib.Core.Bool.{Bool, true, false, _&&_, _||_}
 use mathlib.Core.Path.{_≡_, refl, sym, ap, _∙_}
 use mathlib.Core.List.{List, [], _∷_}
 use lib.ListN.{length, getD, drop, length-drop}
-use lib.Seq.{drop-cons}
 use lib.Dec.{eqb}
-use Rattle.format.specs.Bytes.{bytes}
+use Rattle.format.specs.Bytes.{bytes, pick}
 use Rattle.format.specs.Readers.{Ans, Got, No, Cut, tag, lineEnd, tryTurn, end, whileFits}
 use Rattle.format.specs.Record.{leftBy, slashesLater}
 use Rattle.laws.specs.Loops.{try-end-more, try-end-no, try-end-cut}
@@ -18,17 +16,11 @@ use Rattle.chars.specs.Sequence.{step-places, empty-places, step-within}
 use Rattle.chars.specs.declared.Step.{Step}
 use Rattle.chars.specs.declared.Step.the-variants as step
 use Rattle.sections.specs.declared.RecordEnd.the-variants as ended
+use Rattle.lines.specs.Reached.{afterFeed, Fed}
+use Rattle.lines.proofs.Lent.{true-false}
+use Rattle.sections.specs.declared.Seen.{Seen}
 use Rattle.sections.specs.Ends.{EmptyPassed, Ended}
-
-drop-more : (s : List ℕ) (i : ℕ) → i < length s → drop i s ≡ getD s i 0 ∷ drop (i + 1) s
-drop-more s i h = rw (add-one, drop-cons s i 0)
-
-drop-three : (s : List ℕ) (i : ℕ) → 3 ≤ length s - i → drop i s ≡ getD s i 0 ∷ getD s (i + 1) 0 ∷ getD s (i + 2) 0 ∷ drop (i + 3) s
-drop-three s i h =
-    let e : i + 1 + 1 ≡ i + 2 = omega arith in
-    let f : i + 2 + 1 ≡ i + 3 = omega arith in
-    drop-more s i (omega arith) ∙ ap (λ (l : List ℕ). getD s i 0 ∷ l) (drop-more s (i + 1) (omega arith) ∙
-    ap (λ (l : List ℕ). getD s (i + 1) 0 ∷ l) (ap (λ (k : ℕ). drop k s) e ∙ drop-more s (i + 2) (omega arith) ∙ ap (λ (k : ℕ). getD s (i + 2) 0 ∷ drop k s) f))
+use Rattle.sections.specs.Later.{slashesFirst, NotHere, Sought}
 
 short : (l : List ℕ) → length l < 3 → slashesLater l ≡ false
 unfolding slashesLater
@@ -37,26 +29,89 @@ short (a ∷ []) h = refl
 short (a ∷ b ∷ []) h = refl
 short (a ∷ b ∷ c ∷ l) h = absurd (omega arith)
 
-module _ (s : List ℕ) (at i : ℕ) (r : Bool) where
-  pub later-found :
-      slashesLater (drop at s) ≡ slashesLater (drop i s) → 3 ≤ length s - i →
-      r ≡ (eqb (getD s i 0) 10 && (eqb (getD s (i + 1) 0) 47 && eqb (getD s (i + 2) 0) 47)) → r ≡ true → true ≡ slashesLater (drop at s)
-  unfolding slashesLater
-  later-found inv h e t = sym (inv ∙ rw (drop-three s i h, slashesLater, ← e, t))
+-- ---- what is seen where a line begins
 
-  pub later-on :
-      slashesLater (drop at s) ≡ slashesLater (drop i s) → 3 ≤ length s - i →
-      r ≡ (eqb (getD s i 0) 10 && (eqb (getD s (i + 1) 0) 47 && eqb (getD s (i + 2) 0) 47)) → r ≡ false →
-      slashesLater (drop at s) ≡ slashesLater (drop (i + 1) s)
-  unfolding slashesLater
-  later-on inv h e t =
-      let g : i + 1 + 1 ≡ i + 2 = omega arith in
-      let f : i + 2 + 1 ≡ i + 3 = omega arith in
-      let d : drop (i + 1) s ≡ getD s (i + 1) 0 ∷ getD s (i + 2) 0 ∷ drop (i + 3) s = cc (drop-three s i h, drop-more s i (omega arith)) in
-      inv ∙ rw (drop-three s i h, slashesLater, ← e, t, d)
+-- its first two bytes
+first-two : (l : List ℕ) → 2 ≤ length l → slashesFirst l ≡ (eqb (getD l 0 0) 47 && eqb (getD l 1 0) 47)
+first-two [] h = absurd (omega arith)
+first-two (a ∷ []) h = absurd (omega arith)
+first-two (a ∷ b ∷ l) h = refl
 
-pub later-none : (s : List ℕ) (at i : ℕ) → slashesLater (drop at s) ≡ slashesLater (drop i s) → length s - i < 3 → false ≡ slashesLater (drop at s)
-later-none s at i inv h = sym (inv ∙ short (drop i s) (rw length-drop h))
+first-short : (l : List ℕ) → length l < 2 → slashesFirst l ≡ false
+first-short [] h = refl
+first-short (a ∷ []) h = refl
+first-short (a ∷ b ∷ l) h = absurd (omega arith)
+
+module _ (l : List ℕ) where
+  pub seen-short : length l < 2 → Sought l (record { more = false; found = false })
+  seen-short h = record { on = λ q. absurd (true-false (sym q)); done = λ _. rw (first-short l h, short l (omega arith)) }
+
+  module _ (b : Bool) (h : 2 ≤ length l) (e : b ≡ (eqb (getD l 0 0) 47 && eqb (getD l 1 0) 47)) where
+    pub seen-slashes : b ≡ true → Sought l (record { more = false; found = true })
+    seen-slashes y = record { on = λ q. absurd (true-false (sym q)); done = λ _. rw (first-two l h, ← e, y) }
+
+    pub seen-other : b ≡ false → Sought l (record { more = true; found = false })
+    seen-other y = record { on = λ _. record { none = first-two l h ∙ sym e ∙ y; some = omega arith }; done = λ q. absurd (true-false q) }
+
+pub ruleset seeing = (seen-short, seen-slashes, seen-other)
+
+-- ---- a later line
+
+-- a later line begins `//`: the next one, or one after it
+by-lines : (l : List ℕ) → slashesLater l ≡ (slashesFirst (afterFeed l) || slashesLater (afterFeed l))
+unfolding slashesLater afterFeed
+by-lines [] = refl
+by-lines (a ∷ []) = go (eqb a 10) refl
+  where
+    go : (x : Bool) → eqb a 10 ≡ x → slashesLater (a ∷ []) ≡ (slashesFirst (afterFeed (a ∷ [])) || slashesLater (afterFeed (a ∷ [])))
+    go true e = rw (afterFeed, e)
+    go false e = rw (afterFeed, e)
+by-lines (a ∷ b ∷ []) = go (by-lines (b ∷ [])) (eqb a 10) refl
+  where
+    go : slashesLater (b ∷ []) ≡ (slashesFirst (afterFeed (b ∷ [])) || slashesLater (afterFeed (b ∷ []))) → (x : Bool) → eqb a 10 ≡ x
+        → slashesLater (a ∷ b ∷ []) ≡ (slashesFirst (afterFeed (a ∷ b ∷ [])) || slashesLater (afterFeed (a ∷ b ∷ [])))
+    go ih true e = rw (afterFeed, e)
+    go ih false e = rw (afterFeed, e) ih
+by-lines (a ∷ b ∷ c ∷ l) = go (by-lines (b ∷ c ∷ l)) (eqb a 10) refl
+  where
+    go : slashesLater (b ∷ c ∷ l) ≡ (slashesFirst (afterFeed (b ∷ c ∷ l)) || slashesLater (afterFeed (b ∷ c ∷ l))) → (x : Bool) → eqb a 10 ≡ x
+        → slashesLater (a ∷ b ∷ c ∷ l) ≡ (slashesFirst (afterFeed (a ∷ b ∷ c ∷ l)) || slashesLater (afterFeed (a ∷ b ∷ c ∷ l)))
+    go ih true e = rw (slashesLater, afterFeed, e)
+    go ih false e = rw (slashesLater, afterFeed, e) ih
+
+-- where the loop stands: the answer is that from p on, or it is clear
+pub record Later (s : List ℕ) (at p : ℕ) (t : Seen) : Type 0 where
+  pub on : t .more ≡ true → slashesLater (drop at s) ≡ slashesLater (drop p s)
+  pub done : t .more ≡ false → t .found ≡ slashesLater (drop at s)
+
+pub later-start : (s : List ℕ) (at : ℕ) → Later s at at (record { more = true; found = false })
+later-start s at = record { on = λ _. refl; done = λ q. absurd (true-false q) }
+
+-- how far it is to the end, and nothing more where the answer is clear
+abbrev pub left : List ℕ → ℕ → Seen → ℕ
+left s p t = pick (t .more) (suc (length s - p)) 0
+
+-- the next line was looked at
+module _ (s : List ℕ) (at p r : ℕ) (t u : Seen) (h : Later s at p t) (y : t .more ≡ true) (d : Fed s p r) (w : Sought (drop r s) u) where
+  pub later-on : Later s at r u
+  later-on =
+      let e : slashesLater (drop at s) ≡ (slashesFirst (drop r s) || slashesLater (drop r s)) = h .on y ∙ by-lines (drop p s) ∙ ap (λ (l : List ℕ). slashesFirst l || slashesLater l) (sym (d .is)) in
+      record {
+        on = λ q. let k : NotHere (drop r s) = w .on q in e ∙ ap (λ (b : Bool). b || slashesLater (drop r s)) (k .none);
+        done = λ q. w .done q ∙ sym e;
+      }
+
+  pub later-less : left s r u < left s p t
+  later-less = rw y (go (u .more) refl)
+    where
+      go : (x : Bool) → u .more ≡ x → pick (u .more) (suc (length s - r)) 0 < suc (length s - p)
+      go true q =
+          let k : NotHere (drop r s) = w .on q in
+          let i : 0 < length s - r = rw (← length-drop r s) (k .some) in
+          let f : p ≤ r = d .from in
+          let g : p < r = d .further (omega arith) in
+          rw q (omega arith)
+      go false q = rw q (omega arith)
 
 -- ---- empty lines
 
@@ -104,7 +159,5 @@ module _ (s : List ℕ) (at : ℕ) (r : Step) (h : Stepped s at (tag (bytes "//"
   end-cut e = record { is = λ t. rw (← h .is, e); place = tt }
 
 pub ruleset emptying = (empty-on, empty-less, empty-from, empty-inside, empty-no, empty-cut)
-
-pub ruleset seeking = (later-found, later-on, later-none)
 
 pub ruleset ending = (end-at, end-later, end-never, end-cut, step-within)

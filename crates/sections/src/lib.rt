@@ -2,11 +2,12 @@
 use chars::Step;
 ghost use mathlib.Core.Path.{_≡_};
 ghost use mathlib.Core.Bool.{_&&_};
-ghost use Prim.Native.Nat.{_+_, _≤_};
+ghost use Prim.Native.Nat.{_≤_};
 ghost use lib.ListN.{length, getD, drop};
 ghost use lib.Dec.{eqb};
 ghost use Rattle.format.specs.Record.{slashesLater};
 ghost use Rattle.sections.specs.Ends.{EmptyPassed, Ended};
+ghost use Rattle.sections.specs.Later.{Sought};
 
 // The place after a record, or why it does not end here.
 pub enum RecordEnd {
@@ -32,12 +33,40 @@ pub fn empty_lines(s: &[u8], at: usize) -> usize
     }
 }
 
-// Whether a line that begins here begins with `//` after a line end.
-fn slashes_start(s: &[u8], i: usize) -> bool
-    requires { ⌜ i + 3 ≤ length (now s) ⌝ }
-    ensures { λ r. ⌜ r ≡ (eqb (getD (now (s .entry)) i 0) 10 && (eqb (getD (now (s .entry)) (i + 1) 0) 47 && eqb (getD (now (s .entry)) (i + 2) 0) 47)) ⌝ }
+// What was seen where a line begins: `//`, or neither that nor the end.
+pub struct Seen {
+    pub more: bool,
+    pub found: bool,
+}
+
+// Whether what is left begins `//`.
+fn slashes_first(rest: &[u8]) -> bool
+    requires { ⌜ 2 ≤ length (now rest) ⌝ }
+    ensures { λ r. ⌜ r ≡ (eqb (getD (now (rest .entry)) 0 0) 47 && eqb (getD (now (rest .entry)) 1 0) 47) ⌝ }
 {
-    s[i] == 10 && (s[i + 1] == 47 && s[i + 2] == 47)
+    rest[0] == 47 && rest[1] == 47
+}
+
+// Whether what is left begins `//`, and if not, whether a later line may.
+fn seen_in(rest: &[u8]) -> Seen
+    ensures { λ r. ⌜ Sought (now (rest .entry)) r ⌝ }
+{
+    if rest.len() < 2 {
+        return Seen {
+            more: false,
+            found: false,
+        };
+    }
+    if slashes_first(rest) {
+        return Seen {
+            more: false,
+            found: true,
+        };
+    }
+    Seen {
+        more: true,
+        found: false,
+    }
 }
 
 // Whether a line beginning `//` stands after the place.
@@ -45,14 +74,16 @@ pub fn slashes_later(s: &[u8], at: usize) -> bool
     requires { ⌜ at ≤ length (now s) ⌝ }
     ensures { λ r. ⌜ r ≡ slashesLater (drop at (now (s .entry))) ⌝ }
 {
-    let mut i = at;
-    while 3 <= s.len() - i {
-        if slashes_start(s, i) {
-            return true;
-        }
-        i += 1;
+    let mut reader = lines::reader_at(s, at);
+    let mut seen = Seen {
+        more: true,
+        found: false,
+    };
+    while seen.more {
+        lines::next_feed(&mut reader);
+        seen = seen_in(lines::rest(reader));
     }
-    false
+    seen.found
 }
 
 // `//` and the empty lines after it, where the sections end.

@@ -1,6 +1,6 @@
 -- `reader::answer` meets its contract. Assumes nothing.
 use borrow.Author.Needs.{needs}
-use Rattle.reader.proofs.Laws.{answering}
+use Rattle.reader.proofs.Laws.{answering, answer-done}
 use Rattle.reader.proofs.answer.Statement.{statement}
 use Rattle.reader.proofs.answer.Tie as tie
 
@@ -38,7 +38,7 @@ same-length-6 : tie.Need-same-length-6
 same-length-6 c = search needs
 
 returns-2 : tie.Need-returns-2
-returns-2 c = search (answering, needs)
+returns-2 c = answer-done _ _ (c .before .before .before .before .before .before .before .before .before .before .before .before .before .before .before .before .before .before .before .before .before .before .before .before .before .before .before .before .before .before .before .pre) _ _ _ (c .before .before .before .before .before .before .before .before .before .before .before .before .before .before .before .before .before .before .before .before .before .before .before .sizes-of .ensures) (c .before .before .before .before .before .before .before .before .before .before .before .before .before .before .before .before .before .before .before .before .before .before .enough .ensures) _ _ (c .before .before .before .before .before .before .before .before .before .before .before .before .before .before .before .before .before .before .before .before .before .if1 .left) (c .before .before .before .before .before .before .before .before .before .before .before .before .before .before .fill .ensures) (c .head-in .ensures)
 
 pub answer-spec : {M : Type 1} → statement M
 answer-spec =

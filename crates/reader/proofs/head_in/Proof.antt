@@ -22,7 +22,7 @@ head-of-requires c κs = search needs
 
 returns : tie.Need-returns
 unfolding headPlan
-returns c = c^head-of .ensures ∙ rw (c^head-bytes .ensures)
+returns c = c .head-of .ensures ∙ rw (c .before .before .before .before .head-bytes .ensures)
 
 pub head-in-spec : {M : Type 1} → statement M
 head-in-spec =

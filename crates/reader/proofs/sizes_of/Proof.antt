@@ -24,7 +24,7 @@ add-t12 c = search needs
 
 returns : tie.Need-returns
 unfolding sizesIn
-returns c = rw (c^head-bytes .ensures, c^may-length .ensures)
+returns c = rw (c .before .before .before .before .head-bytes .ensures, c .may-length .ensures)
 
 pub sizes-of-spec : {M : Type 1} → statement M
 sizes-of-spec =

@@ -1,0 +1,418 @@
+//! GenBank records, read and written by proved code.
+//!
+//! [`records`] goes through a file, [`Record::write`] and [`Record::keep`] give the bytes of a record. What the keeping writer gives
+//! reads back as the same record; where it cannot promise that, it refuses with number 13.
+//!
+//! ```no_run
+//! let file = std::fs::read("plasmids.gb").unwrap();
+//! for record in vilggodan::records(&file) {
+//!     let record = record.unwrap();
+//!     for feature in record.features() {
+//!         println!("{}", String::from_utf8_lossy(feature.kind));
+//!     }
+//! }
+//! ```
+
+mod raw;
+
+use std::fmt;
+
+/// Why a record was not read or not written.
+#[derive(Clone, Copy, Debug, PartialEq, Eq)]
+pub struct Error {
+    /// The number of the answer, 1 to 13.
+    pub number: usize,
+    /// The same in words.
+    pub reason: &'static str,
+}
+
+impl Error {
+    fn of(number: usize) -> Error {
+        let reason = match number {
+            1 => "the place is the end of the input",
+            2 => "the input ends inside the record",
+            3 => "the place is beyond the input, or the input is longer than 16,777,216 bytes",
+            4 => "no LOCUS line",
+            5 => "a second DEFINITION",
+            6 => "the room is too small",
+            7 => "// does not stand where the sections end",
+            8 => "the letters do not number the length that LOCUS gives",
+            9 => "a byte in the sequence that cannot stand there",
+            10 => "the table does not lie in its rooms",
+            11 => "a text that cannot be laid out",
+            12 => "the width is not 60 to 132",
+            _ => "a keeping rule is broken",
+        };
+        Error { number, reason }
+    }
+}
+
+impl fmt::Display for Error {
+    fn fmt(&self, f: &mut fmt::Formatter<'_>) -> fmt::Result {
+        write!(f, "{}, {}", self.number, self.reason)
+    }
+}
+
+impl std::error::Error for Error {}
+
+/// How a record is laid out.
+#[derive(Clone, Copy, Debug, PartialEq, Eq)]
+pub struct Layout {
+    /// 60 to 132; any other width is refused with number 12.
+    pub width: usize,
+    /// Cuts a name and leaves out a molecule type that are too long for the LOCUS line.
+    pub truncate: bool,
+    /// Joins the words of a name by `_`.
+    pub escape: bool,
+}
+
+impl Default for Layout {
+    /// Width 80, nothing cut and nothing joined.
+    fn default() -> Layout {
+        Layout {
+            width: 80,
+            truncate: false,
+            escape: false,
+        }
+    }
+}
+
+#[derive(Clone, Copy, Debug, PartialEq, Eq)]
+pub struct Date {
+    pub day: u8,
+    pub month: u8,
+    pub year: u16,
+}
+
+/// A literature reference.
+#[derive(Clone, Copy, Debug, PartialEq, Eq)]
+pub struct Reference<'a> {
+    pub text: &'a [u8],
+    pub authors: Option<&'a [u8]>,
+    pub consrtm: Option<&'a [u8]>,
+    pub title: &'a [u8],
+    pub journal: Option<&'a [u8]>,
+    pub pubmed: Option<&'a [u8]>,
+    pub remark: Option<&'a [u8]>,
+}
+
+/// A feature: its kind, where it lies, and its qualifiers.
+#[derive(Clone, Copy)]
+pub struct Feature<'a> {
+    pub kind: &'a [u8],
+    pub location: &'a [u8],
+    record: &'a Record,
+    first: usize,
+    count: usize,
+}
+
+impl<'a> Feature<'a> {
+    pub fn qualifiers(&self) -> impl Iterator<Item = Qualifier<'a>> {
+        let record = self.record;
+        (self.first..self.first + self.count).map(move |i| record.qualifier(4 * i))
+    }
+}
+
+/// A key with a value or without one.
+#[derive(Clone, Copy, Debug, PartialEq, Eq)]
+pub struct Qualifier<'a> {
+    pub key: &'a [u8],
+    pub value: Option<&'a [u8]>,
+}
+
+const HEAD: usize = 31;
+
+/// A record in rooms of its own, which grow as reading needs it.
+#[derive(Clone, Debug)]
+pub struct Record {
+    texts: Vec<u8>,
+    references: Vec<usize>,
+    comments: Vec<usize>,
+    features: Vec<usize>,
+    qualifiers: Vec<usize>,
+    letters: Vec<u8>,
+    head: [usize; HEAD],
+}
+
+impl Default for Record {
+    fn default() -> Record {
+        Record::new()
+    }
+}
+
+impl Record {
+    /// A record without any text, row or letter.
+    pub fn new() -> Record {
+        Record {
+            texts: Vec::new(),
+            references: Vec::new(),
+            comments: Vec::new(),
+            features: Vec::new(),
+            qualifiers: Vec::new(),
+            letters: Vec::new(),
+            head: [0; HEAD],
+        }
+    }
+
+    /// Reads the record at a place of `s` in place of this one, and gives the place after it. The rooms are used again, and grow where they are too
+    /// small. Where no record is read this one stays as it is.
+    pub fn read(&mut self, s: &[u8], at: usize) -> Result<usize, Error> {
+        loop {
+            let mut told = [0; 1 + HEAD];
+            // Safety: each pointer is that of a slice with the length beside it, and those of one that is written to are borrowed here alone.
+            let number = unsafe {
+                raw::vilggodan_read(
+                    s.as_ptr(),
+                    s.len(),
+                    at,
+                    self.texts.as_mut_ptr(),
+                    self.texts.len(),
+                    self.references.as_mut_ptr(),
+                    self.references.len(),
+                    self.comments.as_mut_ptr(),
+                    self.comments.len(),
+                    self.features.as_mut_ptr(),
+                    self.features.len(),
+                    self.qualifiers.as_mut_ptr(),
+                    self.qualifiers.len(),
+                    self.letters.as_mut_ptr(),
+                    self.letters.len(),
+                    told.as_mut_ptr(),
+                    told.len(),
+                )
+            };
+            match number {
+                0 => {
+                    self.head.copy_from_slice(&told[1..]);
+                    return Ok(told[0]);
+                }
+                6 => self.grow(&told[1..7]),
+                _ => return Err(Error::of(number)),
+            }
+        }
+    }
+
+    /// Makes each room at least as large as the sizes say.
+    fn grow(&mut self, sizes: &[usize]) {
+        grow(&mut self.texts, sizes[0]);
+        grow(&mut self.references, 14 * sizes[1]);
+        grow(&mut self.comments, 2 * sizes[2]);
+        grow(&mut self.features, 6 * sizes[3]);
+        grow(&mut self.qualifiers, 4 * sizes[4]);
+        grow(&mut self.letters, sizes[5]);
+    }
+
+    /// The record's bytes by the plain writer.
+    pub fn write(&self, layout: Layout) -> Result<Vec<u8>, Error> {
+        self.written(false, layout)
+    }
+
+    /// The record's bytes by the keeping writer: they read back as this record, or the answer is 13.
+    pub fn keep(&self, layout: Layout) -> Result<Vec<u8>, Error> {
+        self.written(true, layout)
+    }
+
+    fn written(&self, keeping: bool, layout: Layout) -> Result<Vec<u8>, Error> {
+        let writer = if keeping {
+            raw::vilggodan_keep
+        } else {
+            raw::vilggodan_write
+        };
+        let mut out = Vec::new();
+        loop {
+            let mut told = [0];
+            // Safety: each pointer is that of a slice with the length beside it, and `out` and `told` are borrowed here alone.
+            let number = unsafe {
+                writer(
+                    out.as_mut_ptr(),
+                    out.len(),
+                    self.texts.as_ptr(),
+                    self.texts.len(),
+                    self.references.as_ptr(),
+                    self.references.len(),
+                    self.comments.as_ptr(),
+                    self.comments.len(),
+                    self.features.as_ptr(),
+                    self.features.len(),
+                    self.qualifiers.as_ptr(),
+                    self.qualifiers.len(),
+                    self.letters.as_ptr(),
+                    self.letters.len(),
+                    self.head.as_ptr(),
+                    self.head.len(),
+                    layout.width,
+                    layout.truncate,
+                    layout.escape,
+                    told.as_mut_ptr(),
+                    told.len(),
+                )
+            };
+            match number {
+                0 => {
+                    out.truncate(told[0]);
+                    return Ok(out);
+                }
+                6 => grow(&mut out, told[0]),
+                _ => return Err(Error::of(number)),
+            }
+        }
+    }
+
+    fn span(&self, start: usize, length: usize) -> &[u8] {
+        &self.texts[start..start + length]
+    }
+
+    /// The text whose start and length stand at a place of a row.
+    fn text_in(&self, row: &[usize], at: usize) -> &[u8] {
+        self.span(row[at], row[at + 1])
+    }
+
+    /// The same of one that may be absent: it has its length plus one.
+    fn may_text_in(&self, row: &[usize], at: usize) -> Option<&[u8]> {
+        row[at + 1]
+            .checked_sub(1)
+            .map(|length| self.span(row[at], length))
+    }
+
+    pub fn name(&self) -> Option<&[u8]> {
+        self.may_text_in(&self.head, 0)
+    }
+
+    /// The length that the LOCUS line gives.
+    pub fn length(&self) -> Option<usize> {
+        self.head[2].checked_sub(1)
+    }
+
+    pub fn molecule(&self) -> Option<&[u8]> {
+        self.may_text_in(&self.head, 3)
+    }
+
+    pub fn is_circular(&self) -> bool {
+        self.head[5] != 0
+    }
+
+    pub fn division(&self) -> &[u8] {
+        self.text_in(&self.head, 6)
+    }
+
+    pub fn date(&self) -> Option<Date> {
+        match self.head[8] {
+            0 => None,
+            day => Some(Date {
+                day: day as u8,
+                month: self.head[9] as u8,
+                year: self.head[10] as u16,
+            }),
+        }
+    }
+
+    /// DEFINITION, ACCESSION, VERSION, DBLINK, KEYWORDS, SOURCE, ORGANISM and CONTIG, each with its word, those that are there.
+    pub fn texts(&self) -> impl Iterator<Item = (&'static str, &[u8])> {
+        const PLACES: [(&str, usize); 8] = [
+            ("DEFINITION", 11),
+            ("ACCESSION", 13),
+            ("VERSION", 15),
+            ("DBLINK", 17),
+            ("KEYWORDS", 19),
+            ("SOURCE", 21),
+            ("ORGANISM", 23),
+            ("CONTIG", 28),
+        ];
+        PLACES
+            .into_iter()
+            .filter_map(|(word, at)| self.may_text_in(&self.head, at).map(|text| (word, text)))
+    }
+
+    /// The one of [`Record::texts`] that has this word.
+    pub fn text(&self, word: &str) -> Option<&[u8]> {
+        self.texts().find(|(w, _)| *w == word).map(|(_, text)| text)
+    }
+
+    pub fn references(&self) -> impl Iterator<Item = Reference<'_>> {
+        self.references
+            .chunks_exact(14)
+            .take(self.head[25])
+            .map(|row| Reference {
+                text: self.text_in(row, 0),
+                authors: self.may_text_in(row, 2),
+                consrtm: self.may_text_in(row, 4),
+                title: self.text_in(row, 6),
+                journal: self.may_text_in(row, 8),
+                pubmed: self.may_text_in(row, 10),
+                remark: self.may_text_in(row, 12),
+            })
+    }
+
+    pub fn comments(&self) -> impl Iterator<Item = &[u8]> {
+        self.comments
+            .chunks_exact(2)
+            .take(self.head[26])
+            .map(|row| self.text_in(row, 0))
+    }
+
+    pub fn features(&self) -> impl Iterator<Item = Feature<'_>> {
+        self.features
+            .chunks_exact(6)
+            .take(self.head[27])
+            .map(|row| Feature {
+                kind: self.text_in(row, 0),
+                location: self.text_in(row, 2),
+                record: self,
+                first: row[4],
+                count: row[5],
+            })
+    }
+
+    fn qualifier(&self, at: usize) -> Qualifier<'_> {
+        let row = &self.qualifiers[at..at + 4];
+        Qualifier {
+            key: self.text_in(row, 0),
+            value: self.may_text_in(row, 2),
+        }
+    }
+
+    /// The letters of the sequence.
+    pub fn letters(&self) -> &[u8] {
+        &self.letters[..self.head[30]]
+    }
+}
+
+fn grow<T: Copy + Default>(room: &mut Vec<T>, size: usize) {
+    if room.len() < size {
+        room.resize(size, T::default());
+    }
+}
+
+/// The records of a file, one after the other. A refusal is the last item.
+pub fn records(s: &[u8]) -> Records<'_> {
+    Records { s, next: Some(0) }
+}
+
+/// See [`records`].
+#[derive(Clone, Debug)]
+pub struct Records<'a> {
+    s: &'a [u8],
+    next: Option<usize>,
+}
+
+impl Iterator for Records<'_> {
+    type Item = Result<Record, Error>;
+
+    fn next(&mut self) -> Option<Self::Item> {
+        let mut record = Record::new();
+        match record.read(self.s, self.next?) {
+            Ok(place) => {
+                self.next = Some(place);
+                Some(Ok(record))
+            }
+            Err(error) => {
+                self.next = None;
+                if error.number == 1 {
+                    None
+                } else {
+                    Some(Err(error))
+                }
+            }
+        }
+    }
+}

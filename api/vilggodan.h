@@ -1,0 +1,101 @@
+/* Vilggodan: GenBank records read and written, by proved code. Link target/staticlib/libboundary.a, which `rt staticlib boundary` makes (x86-64 Linux).
+ *
+ * A slice is passed as a pointer and then a length, which counts elements. Pointers are never NULL, also where the length is 0, and slices that are
+ * written to overlap no other. Nothing else is asked of the arguments: every call ends and has an answer, and changes nothing but what is said here.
+ * No call allocates, and calls do not share anything, so threads may call at once.
+ *
+ * ANSWERS. Each function returns a number:
+ *    0  done
+ *    1  the place is the end of the input: no more records
+ *    2  the input ends inside the record
+ *    3  the place is beyond the input, or the input is longer than 16,777,216 bytes
+ *    4  no LOCUS line
+ *    5  a second DEFINITION
+ *    6  the room is too small; the exact sizes are told
+ *    7  `//` does not stand where the sections end
+ *    8  the letters do not number the length that LOCUS gives
+ *    9  a byte in the sequence that cannot stand there
+ *   10  the table does not lie in its rooms
+ *   11  a text that cannot be laid out
+ *   12  the width is not 60 to 132
+ *   13  a keeping rule is broken
+ * With any number but 0 no room and no output is changed; `told` is always written.
+ *
+ * ROOMS. A table lies in six rooms: bytes of texts, rows of numbers, bytes of letters. A text in `texts` is a start and a length; one that may be absent is a start
+ * and its length plus one, and 0, 0 where it is absent.
+ *    references  14 numbers a row: text; AUTHORS, CONSRTM (may be absent); TITLE; JOURNAL, PUBMED, REMARK (may be absent)
+ *    comments     2 numbers a row: text
+ *    features     6 numbers a row: kind; location; first qualifier's row; number of qualifiers
+ *    qualifiers   4 numbers a row: key; value (may be absent)
+ *
+ * HEAD. What a table holds outside the rooms, as 31 numbers:
+ *    0, 1 name (may be absent)          2 length plus one, or 0      3, 4 molecule type (may be absent)   5 circular: 1, linear: 0
+ *    6, 7 division                      8, 9, 10 day, month, year, or 0, 0, 0
+ *   11 DEFINITION, 13 ACCESSION, 15 VERSION, 17 DBLINK, 19 KEYWORDS, 21 SOURCE, 23 ORGANISM: two numbers each, each may be absent,
+ *      and ORGANISM is looked at only where SOURCE is
+ *   25 references, 26 comments, 27 features: how many rows           28, 29 CONTIG (may be absent)        30 how many letters
+ */
+#ifndef VILGGODAN_H
+#define VILGGODAN_H
+
+#include <stdbool.h>
+#include <stddef.h>
+#include <stdint.h>
+
+#ifdef __cplusplus
+extern "C" {
+#endif
+
+/* How many numbers a head has, and how many `told` wants for reading. */
+enum { VILGGODAN_HEAD = 31, VILGGODAN_TOLD = 32 };
+
+/* Reads the record that starts at the place `at` of `s` into the rooms. Returns 0 to 9. Told:
+ *    0   [0] the place after the record, [1] to [31] the head. The rooms hold the table; what it does not take of them is unchanged.
+ *    6   [0] `at`, [1] to [6] what the record takes: bytes of texts, rows of references, comments, features, qualifiers, and letters.
+ *    3   [0] 0.    Any other: [0] `at`.
+ * What falls past the end of `told` is lost. */
+size_t vilggodan_read(
+    const uint8_t *s, size_t s_length,
+    size_t at,
+    uint8_t *texts, size_t texts_length,
+    size_t *references, size_t references_length,
+    size_t *comments, size_t comments_length,
+    size_t *features, size_t features_length,
+    size_t *qualifiers, size_t qualifiers_length,
+    uint8_t *letters, size_t letters_length,
+    size_t *told, size_t told_length);
+
+/* Writes the table in the rooms to `out` at a width of 60 to 132, as gb-io does. Returns 0, 6, 10, 11 or 12. Told: [0] the bytes written with 0, the bytes
+ * that it takes with 6, and 0 with any other.
+ * `head` is 31 numbers, as read (told + 1). Fewer, or a length above 4,294,967,295, is 10; a date that is none is 11. Any number but 0 at [5] is circular.
+ * `truncate` cuts what is too long for the LOCUS line; `escape` joins the words of the name by `_`. */
+size_t vilggodan_write(
+    uint8_t *out, size_t out_length,
+    const uint8_t *texts, size_t texts_length,
+    const size_t *references, size_t references_length,
+    const size_t *comments, size_t comments_length,
+    const size_t *features, size_t features_length,
+    const size_t *qualifiers, size_t qualifiers_length,
+    const uint8_t *letters, size_t letters_length,
+    const size_t *head, size_t head_length,
+    size_t width, bool truncate, bool escape,
+    size_t *told, size_t told_length);
+
+/* The same by the keeping writer: it answers 13 where a keeping rule is broken. What it writes reads back as the same table. */
+size_t vilggodan_keep(
+    uint8_t *out, size_t out_length,
+    const uint8_t *texts, size_t texts_length,
+    const size_t *references, size_t references_length,
+    const size_t *comments, size_t comments_length,
+    const size_t *features, size_t features_length,
+    const size_t *qualifiers, size_t qualifiers_length,
+    const uint8_t *letters, size_t letters_length,
+    const size_t *head, size_t head_length,
+    size_t width, bool truncate, bool escape,
+    size_t *told, size_t told_length);
+
+#ifdef __cplusplus
+}
+#endif
+
+#endif

@@ -1,0 +1,50 @@
+-- `boundary::vilggodan_read` meets its contract.
+use borrow.Author.Needs.{needs}
+use Rattle.boundary.proofs.Laws.{read-told}
+use Rattle.boundary.proofs.vilggodan_read.Statement.{statement}
+use Rattle.boundary.proofs.vilggodan_read.Tie as tie
+
+read-requires : tie.Need-read-requires
+read-requires c κs = search needs
+
+tell-read-requires : tie.Need-tell-read-requires
+tell-read-requires c κs = search needs
+
+same-length : tie.Need-same-length
+same-length c = search needs
+
+same-length-2 : tie.Need-same-length-2
+same-length-2 c = search needs
+
+same-length-3 : tie.Need-same-length-3
+same-length-3 c = search needs
+
+same-length-4 : tie.Need-same-length-4
+same-length-4 c = search needs
+
+same-length-5 : tie.Need-same-length-5
+same-length-5 c = search needs
+
+same-length-6 : tie.Need-same-length-6
+same-length-6 c = search needs
+
+same-length-7 : tie.Need-same-length-7
+same-length-7 c = search needs
+
+returns : tie.Need-returns
+returns c = read-told _ _ _ _ _ _ _ _ (c .before .before .before .before .before .before .before .before .before .before .before .before .before .before .before .before .read .ensures) (c .before .before .tell-read .ensures)
+
+pub vilggodan-read-spec : {M : Type 1} → statement M
+vilggodan-read-spec =
+    tie.close
+    (tie.spec
+    read-requires
+    tell-read-requires
+    same-length
+    same-length-2
+    same-length-3
+    same-length-4
+    same-length-5
+    same-length-6
+    same-length-7
+    returns)

@@ -1,0 +1,2 @@
+-- What the exported functions return and tell.
+pub mod Told

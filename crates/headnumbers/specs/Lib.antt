@@ -1,0 +1,3 @@
+-- A head as numbers, and back.
+pub mod Numbers
+pub mod Back

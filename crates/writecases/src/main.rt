@@ -1,0 +1,621 @@
+// Tables that hit the edges of lines, columns and rules at the widths 60, 61, 79, 80 and 132: what the plain writer writes, and what the keeping writer
+// answers. Two are read back: document 01's run examples.
+use format::Date;
+use format::Dated;
+use format::Head;
+use format::Length;
+use format::ReadAnswer;
+use format::SourceText;
+use format::Span;
+use format::Text;
+use format::WriteAnswer;
+
+fn line(word: &[u8]) {
+    io::write_all(1, word);
+    io::write_all(1, b"\n");
+}
+
+fn say(word: &[u8], n: usize) {
+    io::write_all(1, word);
+    io::write_all(1, b" ");
+    io::print_decimal(1, n as u64);
+    io::write_all(1, b"\n");
+}
+
+// What was written, from the given place on.
+fn show_from(out: &[u8], from: usize, n: usize) {
+    if n <= out.len() {
+        if from <= n {
+            io::write_all(1, &out[from..n]);
+        }
+    }
+}
+
+fn tell(answer: WriteAnswer) {
+    io::print_decimal(1, numbers::write_number(answer) as u64);
+    say(b"", numbers::write_value(answer));
+}
+
+fn span(start: usize, end: usize) -> Span {
+    if end < start {
+        return Span {
+            start: 0,
+            length: 0,
+        };
+    }
+    Span {
+        start: start,
+        length: end - start,
+    }
+}
+
+// What a row holds for a text that is there: its length plus one.
+fn one_more(n: usize) -> usize {
+    if 4096 < n {
+        return 0;
+    }
+    n + 1
+}
+
+// The head of a record P318 of that many bases; its texts are the store's first seven bytes.
+fn head_with(bases: u32, definition: Text, features: usize, letters: usize) -> Head {
+    Head {
+        name: Text::At(Span {
+            start: 0,
+            length: 4,
+        }),
+        length: Length::Bases(bases),
+        molecule: Text::Absent,
+        circular: false,
+        division: Span {
+            start: 4,
+            length: 3,
+        },
+        date: Dated::On(Date {
+            day: 1,
+            month: 3,
+            year: 2024,
+        }),
+        definition: definition,
+        accession: Text::Absent,
+        version: Text::Absent,
+        dblink: Text::Absent,
+        keywords: Text::Absent,
+        source: SourceText::Absent,
+        references: 0,
+        comments: 0,
+        features: features,
+        contig: Text::Absent,
+        letters: letters,
+    }
+}
+
+// Writes the table plainly and shows what stands from a place on; then says what the keeping writer answers.
+fn write_both(
+    texts: &[u8],
+    features: &[usize],
+    qualifiers: &[usize],
+    letters: &[u8],
+    head: Head,
+    from: usize,
+    width: usize,
+) {
+    let mut out = [0u8; 2048];
+    let rows = [0usize; 0];
+    let answer = writer::write(
+        &mut out,
+        texts,
+        &rows,
+        &rows,
+        features,
+        qualifiers,
+        letters,
+        head,
+        width,
+        false,
+        false,
+    );
+    tell(answer);
+    match answer {
+        WriteAnswer::Done(n) => show_from(&out, from, n),
+        WriteAnswer::Refused(_) => {}
+        WriteAnswer::Room(_) => {}
+    }
+    tell(writer::keep(
+        &mut out,
+        texts,
+        &rows,
+        &rows,
+        features,
+        qualifiers,
+        letters,
+        head,
+        width,
+        false,
+        false,
+    ));
+}
+
+// n letters.
+fn put_letters(out: &mut [u8], at: usize, n: usize) -> usize {
+    let mut left = n;
+    let mut p = at;
+    while 0 < left {
+        p = pen::put_byte(out, p, 97);
+        left -= 1;
+    }
+    p
+}
+
+// A feature with one qualifier, whose value is n letters and then `end`. Shown are the feature's lines.
+fn feature_case(kind: &[u8], location: &[u8], key: &[u8], n: usize, end: &[u8], width: usize) {
+    let mut texts = [0u8; 1024];
+    pen::put_bytes(&mut texts, 0, b"P318SYN");
+    let a = pen::put_bytes(&mut texts, 7, kind);
+    let b = pen::put_bytes(&mut texts, a, location);
+    let c = pen::put_bytes(&mut texts, b, key);
+    let d = put_letters(&mut texts, c, n);
+    let e = pen::put_bytes(&mut texts, d, end);
+    let of_kind = span(7, a);
+    let of_location = span(a, b);
+    let of_key = span(b, c);
+    let of_value = span(c, e);
+    let features = [
+        of_kind.start,
+        of_kind.length,
+        of_location.start,
+        of_location.length,
+        0,
+        1,
+    ];
+    let qualifiers = [
+        of_key.start,
+        of_key.length,
+        of_value.start,
+        one_more(of_value.length),
+    ];
+    let letters = [0u8; 0];
+    write_both(
+        &texts,
+        &features,
+        &qualifiers,
+        &letters,
+        head_with(12, Text::Absent, 1, 0),
+        121,
+        width,
+    );
+}
+
+// A note of letters that ends around the edge: the last columns of a line, and what follows them there.
+fn edge(name: &[u8], end: &[u8], width: usize) {
+    if width < 34 {
+        return;
+    }
+    let mut k = 0usize;
+    while k < 7 {
+        io::write_all(1, name);
+        say(b" at width", width);
+        feature_case(
+            b"misc_feature",
+            b"1..12",
+            b"note",
+            width - 33 + k,
+            end,
+            width,
+        );
+        k += 1;
+    }
+}
+
+fn edges(width: usize) {
+    edge(b"== letters", b"", width);
+    edge(b"== a space", b" bc", width);
+    edge(b"== a quote", b"\"bc", width);
+    edge(b"== LF", b"\nbc", width);
+    edge(b"== two bytes", b"\xc3\xa9bc", width);
+    edge(b"== three bytes", b"\xe2\x82\xacbc", width);
+    edge(b"== four bytes", b"\xf0\x9d\x84\x9ebc", width);
+}
+
+fn all_edges() {
+    edges(60);
+    edges(61);
+    edges(79);
+    edges(80);
+    edges(132);
+}
+
+fn kinds(width: usize) {
+    say(b"== a kind of 15, of 16, at width", width);
+    feature_case(b"abcdefghijklmno", b"1..12", b"note", 1, b"", width);
+    feature_case(b"abcdefghijklmnop", b"1..12", b"note", 1, b"", width);
+}
+
+// Two keys, of W - 25 bytes and of one more.
+fn long_keys(fits: &[u8], over: &[u8], width: usize) {
+    say(b"== a key of W - 25, of one byte more, at width", width);
+    feature_case(b"CDS", b"1", fits, 1, b"", width);
+    feature_case(b"CDS", b"1", over, 1, b"", width);
+}
+
+fn locations(width: usize) {
+    say(
+        b"== a location with commas, without, empty, at width",
+        width,
+    );
+    feature_case(
+        b"CDS",
+        b"join(100..200,300..400,500..600,700..800,900..1000,1100..1200,1300..1400,1500..1600,1700..1800,1900..2000,2100..2200,2300..2400)",
+        b"note",
+        1,
+        b"",
+        width,
+    );
+    feature_case(
+        b"CDS",
+        b"aaaaaaaaaabbbbbbbbbbccccccccccddddddddddeeeeeeeeeeffffffffffgggggggggghhhhhhhhhhiiiiiiiiiijjjjjjjjjjkkkkkkkkkkllllllllll",
+        b"note",
+        1,
+        b"",
+        width,
+    );
+    feature_case(b"CDS", b"", b"note", 1, b"", width);
+}
+
+// A short value of that key.
+fn key_case(key: &[u8]) {
+    feature_case(b"CDS", b"1", key, 2, b"1", 80);
+}
+
+fn bare_keys() {
+    line(b"== keys that are written bare, and two that are not");
+    key_case(b"anticodon");
+    key_case(b"citation");
+    key_case(b"codon_start");
+    key_case(b"compare");
+    key_case(b"direction");
+}
+
+fn more_bare_keys() {
+    key_case(b"estimated_length");
+    key_case(b"mod_base");
+    key_case(b"number");
+    key_case(b"rpt_type");
+    key_case(b"rpt_unit_range");
+}
+
+fn last_bare_keys() {
+    key_case(b"tag_peptide");
+    key_case(b"transl_except");
+    key_case(b"transl_table");
+    key_case(b"note");
+    key_case(b"numbers");
+}
+
+fn more_values() {
+    line(
+        b"== a translation over lines, a comma-broken value, a bare value with LF, a key with =, a value that is not UTF-8",
+    );
+    feature_case(b"CDS", b"1", b"translation", 150, b"", 60);
+    feature_case(b"CDS", b"1", b"anticodon", 40, b",aa,seq:tgc)", 60);
+    feature_case(b"CDS", b"1", b"citation", 1, b"\nb", 60);
+    feature_case(b"CDS", b"1", b"a=b", 1, b"", 60);
+    feature_case(b"CDS", b"1", b"note", 1, b"\xff", 60);
+}
+
+// A DEFINITION of n letters and `end`.
+fn definition_case(n: usize, end: &[u8], width: usize) {
+    let mut texts = [0u8; 1024];
+    pen::put_bytes(&mut texts, 0, b"P318SYN");
+    let a = put_letters(&mut texts, 7, n);
+    let b = pen::put_bytes(&mut texts, a, end);
+    let rows = [0usize; 0];
+    let letters = [0u8; 0];
+    write_both(
+        &texts,
+        &rows,
+        &rows,
+        &letters,
+        head_with(12, Text::At(span(7, b)), 0, 0),
+        0,
+        width,
+    );
+}
+
+fn definitions() {
+    line(
+        b"== a DEFINITION of 66, 67, 68, 69 letters, with words, with a final LF, with a CR, empty, at width 80",
+    );
+    definition_case(66, b"", 80);
+    definition_case(67, b"", 80);
+    definition_case(68, b"", 80);
+    definition_case(69, b"", 80);
+    definition_case(60, b" and more words", 80);
+    definition_case(3, b"\n", 80);
+    definition_case(3, b"\rb", 80);
+    definition_case(0, b"", 80);
+    definition_case(0, b" a", 80);
+}
+
+// n letters of sequence.
+fn letters_case(bases: u32, n: usize) {
+    let mut letters = [97u8; 120];
+    let rows = [0usize; 0];
+    write_both(
+        b"P318SYN",
+        &rows,
+        &rows,
+        &letters,
+        head_with(bases, Text::Absent, 0, n),
+        0,
+        80,
+    );
+}
+
+fn sequences() {
+    line(b"== 59, 60, 61, 120 letters; 3 where LOCUS says 4; more than the room has");
+    letters_case(59, 59);
+    letters_case(60, 60);
+    letters_case(61, 61);
+    letters_case(120, 120);
+    letters_case(4, 3);
+    letters_case(121, 121);
+}
+
+// A record with that name, a molecule type of eight bytes, and no date.
+fn name_case(name: &[u8], bases: u32, truncate: bool, escape: bool) {
+    let mut texts = [0u8; 128];
+    let a = pen::put_bytes(&mut texts, 0, name);
+    let b = pen::put_bytes(&mut texts, a, b"mRNA-ctD");
+    let c = pen::put_bytes(&mut texts, b, b"SYN");
+    let mut out = [0u8; 512];
+    let rows = [0usize; 0];
+    let letters = [0u8; 0];
+    let head = Head {
+        name: Text::At(span(0, a)),
+        length: Length::Bases(bases),
+        molecule: Text::At(span(a, b)),
+        circular: true,
+        division: span(b, c),
+        date: Dated::Absent,
+        definition: Text::Absent,
+        accession: Text::Absent,
+        version: Text::Absent,
+        dblink: Text::Absent,
+        keywords: Text::Absent,
+        source: SourceText::Absent,
+        references: 0,
+        comments: 0,
+        features: 0,
+        contig: Text::Absent,
+        letters: 0,
+    };
+    let answer = writer::write(
+        &mut out,
+        &texts,
+        &rows,
+        &rows,
+        &rows,
+        &rows,
+        &letters,
+        head,
+        80,
+        truncate,
+        escape,
+    );
+    tell(answer);
+    match answer {
+        WriteAnswer::Done(n) => show_from(&out, 0, n),
+        WriteAnswer::Refused(_) => {}
+        WriteAnswer::Room(_) => {}
+    }
+}
+
+fn names() {
+    line(
+        b"== names of 24 and 25 with length 123; the switches; words; white space of two and three bytes; an empty name",
+    );
+    name_case(b"abcdefghijklmnopqrstuvwx", 123, false, false);
+    name_case(b"abcdefghijklmnopqrstuvwxy", 123, false, false);
+    name_case(b"abcdefghijklmnopqrstuvwxy", 123, true, false);
+    name_case(b"two words", 123, false, false);
+    name_case(b"two words", 123, false, true);
+    name_case(b" two \xc2\xa0 three\xe2\x80\x83words ", 123, false, true);
+    name_case(b"one\xc2\xa0", 123, false, true);
+    name_case(b"a long name of more than 28 bytes", 4294967295, true, true);
+    name_case(b"", 1, false, false);
+}
+
+// The width, and the slice that is too short or empty.
+fn rooms_case(out: &mut [u8], width: usize) {
+    let rows = [0usize; 0];
+    let letters = [0u8; 0];
+    tell(writer::write(
+        out,
+        b"P318SYN",
+        &rows,
+        &rows,
+        &rows,
+        &rows,
+        &letters,
+        head_with(12, Text::Absent, 0, 0),
+        width,
+        false,
+        false,
+    ));
+}
+
+fn spans_case(start: usize, length: usize) {
+    let mut out = [35u8; 256];
+    let rows = [0usize; 0];
+    let letters = [0u8; 0];
+    tell(writer::write(
+        &mut out,
+        b"P318SYN",
+        &rows,
+        &rows,
+        &rows,
+        &rows,
+        &letters,
+        head_with(
+            12,
+            Text::At(Span {
+                start: start,
+                length: length,
+            }),
+            0,
+            0,
+        ),
+        80,
+        false,
+        false,
+    ));
+}
+
+fn rooms() {
+    line(
+        b"== widths 59, 60, 132, 133; a slice of the exact size, one byte too short, an empty one",
+    );
+    let mut out = [35u8; 83];
+    let mut short = [35u8; 82];
+    let mut empty = [35u8; 0];
+    rooms_case(&mut out, 59);
+    rooms_case(&mut out, 60);
+    rooms_case(&mut out, 132);
+    rooms_case(&mut out, 133);
+    rooms_case(&mut out, 80);
+    rooms_case(&mut short, 80);
+    rooms_case(&mut empty, 80);
+    line(b"== a span at the store's end, past it, one that would wrap");
+    spans_case(7, 0);
+    spans_case(0, 8);
+    spans_case(8, 0);
+    spans_case(5, 18446744073709551615);
+}
+
+// Reads back what was written.
+fn read_back(s: &[u8]) {
+    let mut texts = [35u8; 256];
+    let mut references = [7usize; 14];
+    let mut comments = [7usize; 2];
+    let mut features = [7usize; 6];
+    let mut qualifiers = [7usize; 4];
+    let mut letters = [35u8; 16];
+    match reader::read(
+        s,
+        0,
+        &mut texts,
+        &mut references,
+        &mut comments,
+        &mut features,
+        &mut qualifiers,
+        &mut letters,
+    ) {
+        ReadAnswer::Done { head, place } => {
+            say(b"0", place);
+            showtable::show_table(
+                &texts,
+                &references,
+                &comments,
+                &features,
+                &qualifiers,
+                &letters,
+                head,
+            );
+        }
+        ReadAnswer::Refused(why) => say(b"refused by", numbers::unread_number(why)),
+        ReadAnswer::Room(_) => line(b"6"),
+    }
+}
+
+fn read_start(s: &[u8], n: usize) {
+    if n <= s.len() {
+        read_back(&s[0..n]);
+    }
+}
+
+fn write_and_read(texts: &[u8], features: &[usize], qualifiers: &[usize], head: Head) {
+    let mut out = [0u8; 512];
+    let rows = [0usize; 0];
+    let letters = [0u8; 0];
+    match writer::write(
+        &mut out,
+        texts,
+        &rows,
+        &rows,
+        features,
+        qualifiers,
+        &letters,
+        head,
+        80,
+        false,
+        false,
+    ) {
+        WriteAnswer::Done(n) => read_start(&out, n),
+        WriteAnswer::Refused(_) => line(b"refused"),
+        WriteAnswer::Room(_) => line(b"6"),
+    }
+}
+
+fn run_examples() {
+    line(
+        b"== a kind of 16 bytes written with a note reads as 7; of 15 as itself; a final LF is lost",
+    );
+    let rows = [0usize; 0];
+    let note = [29usize, 4, 33, 2];
+    let sixteen = [7usize, 16, 23, 5, 0, 1];
+    let fifteen = [7usize, 15, 23, 5, 0, 1];
+    write_and_read(
+        b"P318SYNabcdefghijklmnop1..12-notex",
+        &sixteen,
+        &note,
+        head_with(12, Text::Absent, 1, 0),
+    );
+    write_and_read(
+        b"P318SYNabcdefghijklmnop1..12-notex",
+        &fifteen,
+        &note,
+        head_with(12, Text::Absent, 1, 0),
+    );
+    write_and_read(
+        b"P318SYNlost\n",
+        &rows,
+        &rows,
+        head_with(
+            12,
+            Text::At(Span {
+                start: 7,
+                length: 5,
+            }),
+            0,
+            0,
+        ),
+    );
+}
+
+fn main() {
+    all_edges();
+    kinds(60);
+    kinds(80);
+    long_keys(
+        b"abcdefghijklmnopqrstuvwxyzabcdefghi",
+        b"abcdefghijklmnopqrstuvwxyzabcdefghij",
+        60,
+    );
+    long_keys(
+        b"abcdefghijklmnopqrstuvwxyzabcdefghijklmnopqrstuvwxyzabc",
+        b"abcdefghijklmnopqrstuvwxyzabcdefghijklmnopqrstuvwxyzabcd",
+        80,
+    );
+    locations(60);
+    locations(80);
+    bare_keys();
+    more_bare_keys();
+    last_bare_keys();
+    more_values();
+    definitions();
+    sequences();
+    names();
+    rooms();
+    run_examples();
+}
