@@ -1,7 +1,7 @@
 //! Files of records: each record held against gb-io, and through the keeping writer at width 80 where that keeps it.
 use crate::library::{write, How};
 use crate::random::Random;
-use crate::reading::{departed_reading, judged};
+use crate::reading::{departed_reading, judged, MOST};
 use crate::roundtrip::round;
 use crate::rules::{kept, laid_out};
 use crate::table::{Rooms, Table};
@@ -36,6 +36,9 @@ fn one_file(path: &str, slice: &[u8], r: &mut Random, tally: &mut Tally) {
                 tally.count_left();
             }
         }
+        if slice.len() > MOST {
+            return tally.count("files: over 16,777,216 bytes");
+        }
         let Reading::Done(table, used) = departed_reading(&slice[at..]) else {
             return tally.count("files: ended by a refusal");
         };
@@ -52,10 +55,21 @@ fn lost_locus(name: &str, bytes: &[u8], table: &Table, tally: &mut Tally) {
     if table.name.is_some() {
         return;
     }
-    let gb_io = matches!(asis::read(bytes), Reading::Done(whole, _) if whole.name.is_some());
-    tally.count(if gb_io { "records: LOCUS values that gb-io reads are lost" } else { "records: no LOCUS values, in gb-io neither or an error there" });
     let line = bytes.split(|&b| b == b'\n').find(|line| line.starts_with(b"LOCUS")).unwrap_or(b"");
     println!("LOCUS values lost in {name}: {}", line.escape_ascii());
+    let line = String::from_utf8_lossy(line);
+    let has = |words: &[&str]| line.split_whitespace().any(|token| words.contains(&token));
+    let why = match () {
+        _ if has(&["aa"]) => "a protein, its length in aa",
+        _ if !has(&["bp"]) => "no length",
+        _ if !has(&["linear", "circular"]) => "no topology",
+        _ => "no division or date",
+    };
+    let gb_io = match asis::read(bytes) {
+        Reading::Done(whole, _) if whole.name.is_some() => "gb-io has them",
+        _ => "gb-io has none",
+    };
+    tally.count(&format!("records: LOCUS values lost, {why}; {gb_io}"));
 }
 
 fn keeping(table: &Table, name: &str, r: &mut Random, tally: &mut Tally) {

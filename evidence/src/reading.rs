@@ -11,6 +11,9 @@ const DEPARTURES: [(u32, &str); 7] = [(2, "departure 1"), (4, "departure 2"), (8
     (12, "departures 2 and 3"), (ALL, "departures 1, 2 and 3")];
 const ALL: u32 = 14;
 
+/// The longest slice.
+pub const MOST: usize = 16_777_216;
+
 pub fn run(count: u64, seed: u64, worker: u64) -> Tally {
     let mut slices = Slices::new(Random::new(seed, worker, 1));
     let mut r = Random::new(seed, worker, 2);
@@ -78,8 +81,8 @@ pub fn departed_reading(bytes: &[u8]) -> Reading {
 
 /// The verdict, or what is wrong.
 pub fn judged(slice: &[u8], at: usize, r: &mut Random) -> Result<Judged, &'static str> {
-    if at > slice.len() {
-        return Ok(Judged { number: refused(slice, at, &[3], 0, r)?, verdict: "departure 5, a place beyond the slice" });
+    if at > slice.len() || slice.len() > MOST {
+        return Ok(Judged { number: refused(slice, at, &[3], 0, r)?, verdict: "departure 5, a place beyond the slice or a slice too long" });
     }
     let bytes = &slice[at..];
     let unchanged = asis::read(bytes);
@@ -125,7 +128,7 @@ fn lent(lengths: [usize; 6], told: usize) -> Lent {
 /// The library refuses with one of the numbers and touches nothing, whatever the rooms.
 fn refused(slice: &[u8], at: usize, numbers: &[usize], told: usize, r: &mut Random) -> Result<usize, &'static str> {
     let mut first = 0;
-    for lengths in [[0; 6], [slice.len(); 6]] {
+    for lengths in [[0; 6], [slice.len().min(1000); 6]] {
         let mut rooms = lent(lengths, r.pick(&[1, 1, 1 + HEAD, 0]));
         let number = rooms.read(slice, at);
         if !numbers.contains(&number) {
