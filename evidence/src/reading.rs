@@ -1,0 +1,188 @@
+//! Differential reading: each slice from two places, with rooms empty, exact, one short and too large.
+use crate::library::Lent;
+use crate::random::Random;
+use crate::slices::Slices;
+use crate::table::{Rooms, HEAD, ROWS};
+use crate::tally::Tally;
+use crate::{asis, departed, Reading};
+
+/// Sets of departures by their masks, the small ones first, and what they are called.
+const DEPARTURES: [(u32, &str); 7] = [(2, "departure 1"), (4, "departure 2"), (8, "departure 3"), (6, "departures 1 and 2"), (10, "departures 1 and 3"),
+    (12, "departures 2 and 3"), (ALL, "departures 1, 2 and 3")];
+const ALL: u32 = 14;
+
+/// The longest slice.
+pub const MOST: usize = 16_777_216;
+
+pub fn run(count: u64, seed: u64, worker: u64) -> Tally {
+    let mut slices = Slices::new(Random::new(seed, worker, 1));
+    let mut r = Random::new(seed, worker, 2);
+    let mut tally = Tally::default();
+    let mut smallest: Option<(Vec<u8>, usize)> = None;
+    for _ in 0..count {
+        let (slice, places) = slices.next();
+        for at in places {
+            match judged(&slice, at, &mut r) {
+                Ok(judged) => judged.count(&mut tally),
+                Err(_) => {
+                    tally.count_left();
+                    if smallest.as_ref().map_or(true, |(s, _)| slice.len() < s.len()) {
+                        smallest = Some((slice.clone(), at));
+                    }
+                }
+            }
+        }
+    }
+    if let Some((slice, at)) = smallest {
+        let (slice, at) = shrunk(slice, at, &mut r);
+        let why = judged(&slice, at, &mut r).err().unwrap_or("shrunk away");
+        eprintln!("left over: read at {} of \"{}\": {}", at, slice.escape_ascii(), why);
+    }
+    tally
+}
+
+/// A smaller slice that is still left over.
+fn shrunk(mut slice: Vec<u8>, mut at: usize, r: &mut Random) -> (Vec<u8>, usize) {
+    let mut piece = slice.len() / 2;
+    while piece > 0 {
+        let mut i = 0;
+        while i + piece <= slice.len() {
+            let less = [&slice[..i], &slice[i + piece..]].concat();
+            let place = if at <= i { at } else { i.max(at.saturating_sub(piece)) };
+            if judged(&less, place, r).is_err() {
+                (slice, at) = (less, place);
+            } else {
+                i += piece;
+            }
+        }
+        piece /= 2;
+    }
+    (slice, at)
+}
+
+/// The number that the library answers, and the departures that lie between it and the Rust.
+pub struct Judged {
+    number: usize,
+    verdict: &'static str,
+}
+
+impl Judged {
+    pub fn count(&self, tally: &mut Tally) {
+        tally.count(self.verdict);
+        tally.count(&format!("number {}", self.number));
+    }
+}
+
+/// What gb-io reads with the departures for reading on.
+pub fn departed_reading(bytes: &[u8]) -> Reading {
+    departed::set(ALL, 0);
+    departed::read(bytes)
+}
+
+/// The verdict, or what is wrong.
+pub fn judged(slice: &[u8], at: usize, r: &mut Random) -> Result<Judged, &'static str> {
+    if at > slice.len() || slice.len() > MOST {
+        return Ok(Judged { number: refused(slice, at, &[3], 0, r)?, verdict: "departure 5, a place beyond the slice or a slice too long" });
+    }
+    let bytes = &slice[at..];
+    let unchanged = asis::read(bytes);
+    let expected = departed_reading(bytes);
+    let number = match &expected {
+        Reading::Done(table, used) => done(slice, at, &Rooms::of(table, || 0), at + used, r)?,
+        _ if bytes.is_empty() => refused(slice, at, &[1], at, r)?,
+        Reading::Panicked => refused(slice, at, &[2], at, r)?,
+        Reading::Refused if unchanged != Reading::None => refused(slice, at, &[2, 4, 5, 7, 8, 9], at, r)?,
+        Reading::None | Reading::Refused => refused(slice, at, &[2, 4], at, r)?,
+    };
+    let verdict = match expected {
+        Reading::Panicked => Some("departure 5, the Rust panics"),
+        Reading::None | Reading::Refused if unchanged == Reading::None && !bytes.is_empty() => Some("departure 2, None at a cut LOCUS line"),
+        _ if same(&unchanged, &expected) => Some("agrees with the Rust"),
+        _ => DEPARTURES.iter().find(|(mask, _)| {
+            departed::set(*mask, 0);
+            same(&departed::read(bytes), &expected)
+        }).map(|(_, name)| *name),
+    };
+    match verdict {
+        Some(verdict) => Ok(Judged { number, verdict }),
+        None => Err("no set of departures gives this answer"),
+    }
+}
+
+fn same(a: &Reading, b: &Reading) -> bool {
+    let refusal = |x: &Reading| matches!(x, Reading::None | Reading::Refused);
+    a == b || (refusal(a) && refusal(b))
+}
+
+/// How long the rooms must be, in bytes and numbers.
+fn lengths(rooms: &Rooms) -> [usize; 6] {
+    let sizes = rooms.sizes();
+    [sizes[0], sizes[1] * ROWS[0], sizes[2] * ROWS[1], sizes[3] * ROWS[2], sizes[4] * ROWS[3], sizes[5]]
+}
+
+fn lent(lengths: [usize; 6], told: usize) -> Lent {
+    let [a, b, c, d, e, f] = lengths;
+    Lent::new([a, b, c, d, e, f, told])
+}
+
+/// The library refuses with one of the numbers and touches nothing, whatever the rooms.
+fn refused(slice: &[u8], at: usize, numbers: &[usize], told: usize, r: &mut Random) -> Result<usize, &'static str> {
+    let mut first = 0;
+    for lengths in [[0; 6], [slice.len().min(1000); 6]] {
+        let mut rooms = lent(lengths, r.pick(&[1, 1, 1 + HEAD, 0]));
+        let number = rooms.read(slice, at);
+        if !numbers.contains(&number) {
+            return Err("another number than a refusal that is due");
+        }
+        if first != 0 && number != first {
+            return Err("another refusal with other rooms");
+        }
+        first = number;
+        if !rooms.holds(&Rooms::default()) {
+            return Err("a refusal touched a room");
+        }
+        if !rooms.told(&[told]) {
+            return Err("another place with a refusal");
+        }
+    }
+    Ok(first)
+}
+
+/// The library reads these rooms and this place, and asks for exactly that much room.
+fn done(slice: &[u8], at: usize, rooms: &Rooms, place: usize, r: &mut Random) -> Result<usize, &'static str> {
+    let exact = lengths(rooms);
+    let mut sizes = vec![at];
+    sizes.extend(rooms.sizes());
+    let mut short = exact;
+    let needed: Vec<usize> = (0..6).filter(|&i| exact[i] > 0).collect();
+    let i = r.pick(&needed);
+    short[i] -= 1;
+    for small in [[0; 6], short] {
+        let mut room = lent(small, r.pick(&[7, 7, 1 + HEAD, 3]));
+        if room.read(slice, at) != 6 {
+            return Err("not 6, though the rooms are too small");
+        }
+        if !room.told(&sizes) {
+            return Err("other sizes with 6");
+        }
+        if !room.holds(&Rooms::default()) {
+            return Err("6 touched a room");
+        }
+    }
+    let mut answer = vec![place];
+    answer.extend(&rooms.head);
+    let more = exact.map(|n| n + r.below(20));
+    for large in [exact, more] {
+        let mut room = lent(large, r.pick(&[1 + HEAD, 1 + HEAD, 40, 9]));
+        if room.read(slice, at) != 0 {
+            return Err("not 0, though the rooms are large enough");
+        }
+        if !room.told(&answer) {
+            return Err("another place or head");
+        }
+        if !room.holds(rooms) {
+            return Err("other texts, rows or letters, or a canary is dead");
+        }
+    }
+    Ok(0)
+}

@@ -1,0 +1,66 @@
+//! Round trip: a kept table is written by the keeping writer after another text, read back from its place, and must be the same.
+use crate::library::{write, How, Lent};
+use crate::random::Random;
+use crate::rules::{kept, laid_out};
+use crate::table::{Rooms, Table, HEAD, ROWS};
+use crate::tables::{Job, Tables};
+use crate::tally::Tally;
+
+pub fn run(count: u64, seed: u64, worker: u64) -> Tally {
+    let mut tables = Tables::new(Random::new(seed, worker, 5));
+    let mut r = Random::new(seed, worker, 6);
+    let mut tally = Tally::default();
+    let mut first = None;
+    let mut done = 0;
+    while done < count {
+        let Job { table, width, .. } = tables.next_kept();
+        let how = How { keeping: true, width, truncate: false, escape: false };
+        if !(laid_out(&table, how) && kept(&table, how)) {
+            tally.count("made, but not kept (not counted as a round trip)");
+            continue;
+        }
+        done += 1;
+        match round(&table, how, &mut r) {
+            Ok(()) => tally.count("kept, written, read back, equal"),
+            Err(_) => {
+                tally.count_left();
+                first.get_or_insert((table, how));
+            }
+        }
+    }
+    if let Some((table, how)) = first {
+        let table = table.shrunk(|t| laid_out(t, how) && kept(t, how) && round(t, how, &mut r).is_err());
+        let why = round(&table, how, &mut r).err().unwrap_or("shrunk away");
+        eprintln!("left over: round trip at width {}, of {}: {why}", how.width, table.shown());
+    }
+    tally
+}
+
+/// Written, and read back from its place.
+pub fn round(table: &Table, how: How, r: &mut Random) -> Result<(), &'static str> {
+    let rooms = Rooms::of(table, || 0);
+    let (number, size) = write(&mut [], &rooms, how);
+    if number != 6 {
+        return Err("the keeping writer does not ask for room");
+    }
+    let at = r.pick(&[0, 0, 1, 70]);
+    let after = r.pick(&["", "", "LOCUS x\n", "x"]);
+    let mut slice = vec![b'#'; at + size];
+    if write(&mut slice[at..], &rooms, how) != (0, size) {
+        return Err("the keeping writer does not write");
+    }
+    let end = slice.len();
+    slice.extend(after.as_bytes());
+    let [texts, references, comments, features, qualifiers, letters] = rooms.sizes();
+    let rows = [references * ROWS[0], comments * ROWS[1], features * ROWS[2], qualifiers * ROWS[3]];
+    let mut lent = Lent::new([texts, rows[0], rows[1], rows[2], rows[3], letters, 1 + HEAD]);
+    if lent.read(&slice, at) != 0 {
+        return Err("the reader does not read it");
+    }
+    let mut told = vec![end];
+    told.extend(&rooms.head);
+    if !lent.told(&told) || !lent.holds(&rooms) {
+        return Err("the reader reads another table");
+    }
+    Ok(())
+}

@@ -1,0 +1,168 @@
+//! Speed: gb-io, the proved library and memcpy on the same inputs, turn by turn.
+use crate::library::{self, How};
+use crate::random::Random;
+use crate::table::{Feature, Reference, Rooms, Table, HEAD, ROWS};
+use crate::{asis, Writing};
+use gb_io_asis::reader::{parse_slice, SeqReader};
+use gb_io_asis::seq::Seq;
+use gb_io_asis::writer::SeqWriter;
+use std::hint::black_box;
+use std::time::Instant;
+
+const WIDTH: usize = 80;
+
+/// Bytes that one contender goes through in one round, at least.
+const ROUND: usize = 4 << 20;
+
+const GB_IO: [&str; 2] = ["gb-io, parse_slice", "gb-io, SeqReader"];
+const GB_IO_WRITES: [&str; 1] = ["gb-io, SeqWriter"];
+const OTHERS: [&str; 3] = ["library, asked for sizes first", "library, room at hand", "memcpy"];
+
+/// False where the library and gb-io do not do the same work.
+pub fn run(rounds: u64) -> bool {
+    let mut r = Random::new(1, 0, 7);
+    let inputs = [("genome, 10 MB", table(&mut r, 7_560_000, 4_000)), ("plasmid, 12 kB", table(&mut r, 5_000, 28)),
+        ("feature-heavy, 4 MB", table(&mut r, 6_000, 19_500)), ("letters alone, 10 MB", table(&mut r, 8_280_000, 0)),
+        ("letters alone, 64 KiB", table(&mut r, 51_700, 0)), ("letters alone, 16 MiB", table(&mut r, 13_244_000, 0))];
+    println!("speed: {rounds} rounds, turn by turn; nanoseconds for a byte of the record's text, best and worst round;");
+    println!("how many times the speed of the faster gb-io (best against best; worst round), and how many times memcpy's time");
+    inputs.into_iter().all(|(name, table)| measured(name, &table, rounds).is_some())
+}
+
+fn measured(name: &str, table: &Table, rounds: u64) -> Option<()> {
+    let Writing::Done(text) = asis::write(table, false, false) else {
+        return None;
+    };
+    let seq = parse_slice(&text).ok()?.pop()?;
+    let rooms = read_asked(&text)?;
+    let mut room = rooms.clone();
+    let size = size_of(&rooms)?;
+    let mut out = vec![0; text.len().max(size)];
+    let repeats = ROUND / text.len() + 1;
+    let mut reading = vec![Vec::new(); GB_IO.len() + OTHERS.len()];
+    let mut writing = vec![Vec::new(); GB_IO_WRITES.len() + OTHERS.len()];
+    for _ in 0..rounds {
+        reading[0].push(timed(repeats, || parse_slice(black_box(&text)).unwrap()));
+        reading[1].push(timed(repeats, || SeqReader::new(black_box(&text[..])).next().unwrap().unwrap()));
+        reading[2].push(timed(repeats, || read_asked(black_box(&text)).unwrap()));
+        reading[3].push(timed(repeats, || read_at_hand(black_box(&text), &mut room)));
+        reading[4].push(timed(repeats, || out[..text.len()].copy_from_slice(black_box(&text))));
+        writing[0].push(timed(repeats, || write_gb_io(black_box(&seq))));
+        writing[1].push(timed(repeats, || write_asked(black_box(&rooms)).unwrap()));
+        writing[2].push(timed(repeats, || library::write(&mut out[..size], black_box(&rooms), HOW)));
+        writing[3].push(timed(repeats, || out[..text.len()].copy_from_slice(black_box(&text))));
+    }
+    if room.texts != rooms.texts || room.letters != rooms.letters || rooms.letters != seq.seq {
+        return None;
+    }
+    println!("\n{name}: {} bytes, {} features, {} letters", text.len(), seq.features.len(), seq.seq.len());
+    show("reading", text.len(), &GB_IO, &reading);
+    show("writing", text.len(), &GB_IO_WRITES, &writing);
+    Some(())
+}
+
+fn show(what: &str, bytes: usize, gb_io: &[&str], times: &[Vec<f64>]) {
+    let least = |times: &[f64]| times.iter().copied().fold(f64::INFINITY, f64::min);
+    let most = |times: &[f64]| times.iter().copied().fold(0.0, f64::max);
+    let rounds = times[0].len();
+    let gb_io_rounds: Vec<f64> = (0..rounds).map(|i| least(&times[..gb_io.len()].iter().map(|own| own[i]).collect::<Vec<_>>())).collect();
+    let memcpy = least(&times[times.len() - 1]);
+    for (name, own) in gb_io.iter().chain(&OTHERS).zip(times) {
+        let ratios: Vec<f64> = gb_io_rounds.iter().zip(own).map(|(gb_io, own)| gb_io / own).collect();
+        let each = 1e9 / bytes as f64;
+        println!("  {what} {name:<31} {:>8.3} to {:>8.3} ns   {:>6.2} times gb-io, worst {:>6.2}   {:>7.1} memcpy", least(own) * each, most(own) * each,
+            least(&gb_io_rounds) / least(own), least(&ratios), least(own) / memcpy);
+    }
+}
+
+/// Seconds for one call.
+fn timed<T>(repeats: usize, mut call: impl FnMut() -> T) -> f64 {
+    let start = Instant::now();
+    for _ in 0..repeats {
+        black_box(call());
+    }
+    start.elapsed().as_secs_f64() / repeats as f64
+}
+
+const HOW: How = How { keeping: false, width: WIDTH, truncate: false, escape: false };
+
+/// Sizes first, then rooms of these sizes, then the record.
+fn read_asked(text: &[u8]) -> Option<Rooms> {
+    let mut told = [0; 1 + HEAD];
+    let number = library::read(text, 0, &mut [], [&mut [], &mut [], &mut [], &mut []], &mut [], &mut told);
+    if number != 6 {
+        return None;
+    }
+    let row = |i: usize| vec![0; told[2 + i] * ROWS[i]];
+    let mut rooms = Rooms { texts: vec![0; told[1]], references: row(0), comments: row(1), features: row(2), qualifiers: row(3), letters: vec![0; told[6]],
+        head: Vec::new() };
+    rooms.head = read_at_hand(text, &mut rooms)?;
+    Some(rooms)
+}
+
+/// The head of the record that is read into these rooms.
+fn read_at_hand(text: &[u8], rooms: &mut Rooms) -> Option<Vec<usize>> {
+    let mut told = [0; 1 + HEAD];
+    let Rooms { texts, references, comments, features, qualifiers, letters, .. } = rooms;
+    let number = library::read(text, 0, texts, [references, comments, features, qualifiers], letters, &mut told);
+    (number == 0).then(|| told[1..].to_vec())
+}
+
+fn size_of(rooms: &Rooms) -> Option<usize> {
+    match library::write(&mut [], rooms, HOW) {
+        (6, size) => Some(size),
+        _ => None,
+    }
+}
+
+fn write_asked(rooms: &Rooms) -> Option<Vec<u8>> {
+    let mut out = vec![0; size_of(rooms)?];
+    (library::write(&mut out, rooms, HOW).0 == 0).then_some(out)
+}
+
+fn write_gb_io(seq: &Seq) -> Vec<u8> {
+    let mut out = Vec::new();
+    SeqWriter::new(&mut out).write(seq).unwrap();
+    out
+}
+
+/// A record with this many letters and features, in the manner of a bacterial genome.
+fn table(r: &mut Random, letters: usize, features: usize) -> Table {
+    let some = |text: &str| Some(text.as_bytes().to_vec());
+    let mut t = Table {
+        name: some("NC_000001"),
+        length: Some(letters),
+        molecule: some("DNA"),
+        circular: true,
+        division: b"BCT".to_vec(),
+        date: Some([1, 3, 2024]),
+        definition: some("A record made to be measured, complete genome."),
+        accession: some("NC_000001"),
+        version: some("NC_000001.1"),
+        letters: (0..letters).map(|_| r.pick(b"acgt")).collect(),
+        ..Table::default()
+    };
+    if features > 0 {
+        t.source = some("Escherichia coli");
+        t.organism = some("Escherichia coli\nBacteria; Pseudomonadota; Gammaproteobacteria.");
+        t.references = vec![Reference { text: b"1  (bases 1 to 5000)".to_vec(), title: b"Direct Submission".to_vec(), journal: some("Unpublished"), ..Reference::default() }];
+    }
+    t.features = (0..features).map(|i| feature(r, i)).collect();
+    t
+}
+
+/// Every fourth is a CDS with a translation, the others are short.
+fn feature(r: &mut Random, i: usize) -> Feature {
+    let start = 1 + 300 * i;
+    let range = format!("{}..{}", start, start + 299);
+    let location = if r.chance(40) { format!("complement({range})") } else { range };
+    let mut qualifiers = vec![(b"gene".to_vec(), format!("gen{i}")), (b"locus_tag".to_vec(), format!("B_{i:05}"))];
+    if i % 4 == 0 {
+        let translation: Vec<u8> = (0..99).map(|_| r.pick(b"MKLVAGDERSTIP")).collect();
+        qualifiers.extend([(b"codon_start".to_vec(), "1".into()), (b"transl_table".to_vec(), "11".into()),
+            (b"product".to_vec(), "a protein of some length that needs more than one line to be told".into()),
+            (b"translation".to_vec(), String::from_utf8(translation).unwrap())]);
+    }
+    let kind = if i % 4 == 0 { "CDS" } else { "gene" };
+    Feature { kind: kind.into(), location: location.into_bytes(), qualifiers: qualifiers.into_iter().map(|(k, v)| (k, Some(v.into_bytes()))).collect() }
+}
