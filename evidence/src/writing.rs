@@ -88,8 +88,9 @@ fn judged(rooms: &Rooms, how: How, r: &mut Random) -> Result<(&'static str, &'st
         refused(rooms, keeping, 11)?;
         return Ok(("departure 5, number 11", "keeping writer: 11"));
     }
+    let held = &held(table);
     departed::set(ALL, how.width);
-    let Writing::Done(bytes) = departed::write(table, how.truncate, how.escape) else {
+    let Writing::Done(bytes) = departed::write(held, how.truncate, how.escape) else {
         return Err("the departed Rust writes nothing");
     };
     written(rooms, how, &bytes, r)?;
@@ -100,6 +101,9 @@ fn judged(rooms: &Rooms, how: How, r: &mut Random) -> Result<(&'static str, &'st
         refused(rooms, keeping, 13)?;
         "keeping writer: 13"
     };
+    if held != table {
+        return Ok(("departure 5, a name that the Rust cannot hold", kept));
+    }
     let expected = Writing::Done(bytes);
     if asis::write(table, how.truncate, how.escape) == expected {
         return Ok(("agrees with the Rust", kept));
@@ -111,6 +115,18 @@ fn judged(rooms: &Rooms, how: How, r: &mut Random) -> Result<(&'static str, &'st
         }
     }
     Err("no set of departures gives this answer")
+}
+
+/// The table with as much of its name as is UTF-8: the Rust holds no other names. Of a name that can be printed, truncation cuts off what is not.
+fn held(table: &Table) -> Table {
+    let mut held = table.clone();
+    if let Some(name) = &mut held.name {
+        if let Err(e) = std::str::from_utf8(name) {
+            let n = e.valid_up_to();
+            name.truncate(n);
+        }
+    }
+    held
 }
 
 fn refused(rooms: &Rooms, how: How, number: usize) -> Result<(), &'static str> {
