@@ -10,7 +10,9 @@ use Rattle.format.specs.Table.{Locus, Source, Reference, Qualifier, Feature, Ta
 use Rattle.format.specs.Record.{Outcome, Read, Not}
 use Rattle.format.specs.declared.Dated.{Dated}
 use Rattle.format.specs.declared.Dated.the-variants as dated
-use Rattle.format.specs.Bytes.{number, digits}
+use Rattle.format.specs.Answers.{keepingAnswer, number}
+use Rattle.format.specs.Bytes.{digits}
+use Rattle.format.specs.Bytes.{number as decimal}
 use Rattle.format.specs.Dates.{monthName, dateText}
 use Rattle.format.specs.Features.{featuresHeader, bare, escape, quotedTurn, quoted, value, valueOf, qualifier, featureFrom, feature}
 use Rattle.format.specs.Header.{fieldText, fieldBytes, field, reference, source, ignoredLine, headerField, latest, every}
@@ -19,6 +21,7 @@ use Rattle.format.specs.Locus.{preamble, tokens, dateOf, dateToken, locusFrom, 
 use Rattle.format.specs.Origin.{originTag, letters}
 use Rattle.format.specs.Readers.{tag, until, line, lineEnd, membersUpTo, endUpTo, members, end}
 use Rattle.format.specs.Record.{features, slashesLater, middle, tableFrom, readRecord, readAt}
+use Rattle.format.specs.Rooms.{textsOf, rowsOf, featureText, featureRows, qualifierRows, qualifierCount, piecesText, piecesRow, layout, sizes, headOf, rowsFrom, tableOf, rowsFine, featuresFine, lengthsFine, headFine, countsFine, roomsFine}
 use Rattle.format.specs.Utf8.{chars, utf8}
 use Rattle.format.specs.WellFormed.{referenceTexts, headerTexts, locusFine, qualifierFine, featureFine, lettersFine, wellFormed}
 use Rattle.format.specs.Wrap.{fill, closing, linesAfter, wrapped, wrapText, lastComma, breakAt, commaLines, wrapLocation}
@@ -73,13 +76,13 @@ same-table a b =
     same-locus (a .locus) (b .locus) && (same-may (a .definition) (b .definition) && (same-pubmed (a .references) (b .references) &&
     same-features (a .features) (b .features)))
 
--- what is written at width 60 is read as the same table
+-- what is written is read as the same table
 back : Table → Outcome → Bool
 back t (Read u rest) = same-table t u
 back t (Not why) = false
 
-pub comes-back : Bool → Bool → Table → Bool
-comes-back truncate escape t = back t (readRecord (written 60 truncate escape t))
+pub comes-back : ℕ → Bool → Bool → Table → Bool
+comes-back W truncate escape t = back t (readRecord (written W truncate escape t))
 
 -- ---- the tables: a value for each place that a rule speaks of
 
@@ -115,7 +118,7 @@ plain = locus-of (is (bytes "P318")) (is 12) (is (bytes "DNA")) (bytes "SYN") da
 named : List ℕ → Table
 named n = with-locus (is n) (is 123) (is (bytes "DNA")) (bytes "SYN") day
 
-with-definition : List ℕ → Table
+pub with-definition : List ℕ → Table
 with-definition d = table plain (is d) [] []
 
 with-pubmed : List ℕ → Table
@@ -210,11 +213,11 @@ examples =
 pub verdict : Example → List Bool
 verdict e =
     wellFormed 60 (e .truncate) (e .escape) (e .broken) ∷ keeps 60 (e .truncate) (e .escape) (e .broken) ∷
-    comes-back (e .truncate) (e .escape) (e .broken) ∷ wellFormed 60 false false (e .mended) ∷ keeps 60 false false (e .mended) ∷
-    comes-back false false (e .mended) ∷ []
+    comes-back 60 (e .truncate) (e .escape) (e .broken) ∷ wellFormed 60 false false (e .mended) ∷ keeps 60 false false (e .mended) ∷
+    comes-back 60 false false (e .mended) ∷ []
 
 pub each-rule-earns-its-place : map verdict examples ≡ map (λ e. true ∷ false ∷ false ∷ true ∷ true ∷ true ∷ []) examples
-unfolding same-may same-number same-date same-locus same-pubmed same-qualifiers same-features same-table back comes-back table day locus-of with-locus plain named with-definition with-pubmed with-feature with-kind with-location with-value rule examples verdict number digits monthName dateText featuresHeader bare escape quotedTurn quoted value valueOf qualifier featureFrom feature fieldText fieldBytes field reference source ignoredLine headerField latest every locusKept linesKept headerKept bareKept valueKept qualifierKept featureKept keeps preamble tokens dateOf dateToken locusFrom locusOf locusLine locus originTag letters tag until line lineEnd membersUpTo endUpTo members end features slashesLater middle tableFrom readRecord readAt chars utf8 referenceTexts headerTexts locusFine qualifierFine featureFine lettersFine wellFormed fill closing linesAfter wrapped wrapText lastComma breakAt commaLines wrapLocation lengthText white blanked words joined printedName locusText fieldLines referenceLines headerLines commaKey bareKey valueLines qualifierLines featureLines featuresLines letterLines originLines written
+unfolding same-may same-number same-date same-locus same-pubmed same-qualifiers same-features same-table back comes-back table day locus-of with-locus plain named with-definition with-pubmed with-feature with-kind with-location with-value rule examples verdict decimal digits monthName dateText featuresHeader bare escape quotedTurn quoted value valueOf qualifier featureFrom feature fieldText fieldBytes field reference source ignoredLine headerField latest every locusKept linesKept headerKept bareKept valueKept qualifierKept featureKept keeps preamble tokens dateOf dateToken locusFrom locusOf locusLine locus originTag letters tag until line lineEnd membersUpTo endUpTo members end features slashesLater middle tableFrom readRecord readAt chars utf8 referenceTexts headerTexts locusFine qualifierFine featureFine lettersFine wellFormed fill closing linesAfter wrapped wrapText lastComma breakAt commaLines wrapLocation lengthText white blanked words joined printedName locusText fieldLines referenceLines headerLines commaKey bareKey valueLines qualifierLines featureLines featuresLines letterLines originLines written
 each-rule-earns-its-place = refl
 
 -- ---- where a rule is stricter than needed: these break one, and come back all the same
@@ -238,7 +241,38 @@ stricter =
     []
 
 pub stricter-than-needed :
-    map (λ t. wellFormed 60 false false t ∷ keeps 60 false false t ∷ comes-back false false t ∷ []) stricter ≡
+    map (λ t. wellFormed 60 false false t ∷ keeps 60 false false t ∷ comes-back 60 false false t ∷ []) stricter ≡
     map (λ t. true ∷ false ∷ true ∷ []) stricter
-unfolding same-may same-number same-date same-locus same-pubmed same-qualifiers same-features same-table back comes-back table day locus-of with-locus plain named with-definition with-pubmed with-feature with-kind with-location with-value rule stricter verdict number digits monthName dateText featuresHeader bare escape quotedTurn quoted value valueOf qualifier featureFrom feature fieldText fieldBytes field reference source ignoredLine headerField latest every locusKept linesKept headerKept bareKept valueKept qualifierKept featureKept keeps preamble tokens dateOf dateToken locusFrom locusOf locusLine locus originTag letters tag until line lineEnd membersUpTo endUpTo members end features slashesLater middle tableFrom readRecord readAt chars utf8 referenceTexts headerTexts locusFine qualifierFine featureFine lettersFine wellFormed fill closing linesAfter wrapped wrapText lastComma breakAt commaLines wrapLocation lengthText white blanked words joined printedName locusText fieldLines referenceLines headerLines commaKey bareKey valueLines qualifierLines featureLines featuresLines letterLines originLines written
+unfolding same-may same-number same-date same-locus same-pubmed same-qualifiers same-features same-table back comes-back table day locus-of with-locus plain named with-definition with-pubmed with-feature with-kind with-location with-value rule stricter verdict decimal digits monthName dateText featuresHeader bare escape quotedTurn quoted value valueOf qualifier featureFrom feature fieldText fieldBytes field reference source ignoredLine headerField latest every locusKept linesKept headerKept bareKept valueKept qualifierKept featureKept keeps preamble tokens dateOf dateToken locusFrom locusOf locusLine locus originTag letters tag until line lineEnd membersUpTo endUpTo members end features slashesLater middle tableFrom readRecord readAt chars utf8 referenceTexts headerTexts locusFine qualifierFine featureFine lettersFine wellFormed fill closing linesAfter wrapped wrapText lastComma breakAt commaLines wrapLocation lengthText white blanked words joined printedName locusText fieldLines referenceLines headerLines commaKey bareKey valueLines qualifierLines featureLines featuresLines letterLines originLines written
 stricter-than-needed = refl
+
+-- ---- the width: a table that breaks a rule is refused by 13 at 60 to 132 alone, by 12 below and above
+
+pub final-feed : Table
+final-feed = with-definition (bytes "a\n")
+
+pub numbers-by-width :
+    map (λ W. number (keepingAnswer W false false (layout final-feed) (headOf final-feed) 0)) (20 ∷ 59 ∷ 60 ∷ 132 ∷ 133 ∷ []) ≡
+    12 ∷ 12 ∷ 13 ∷ 13 ∷ 12 ∷ []
+unfolding final-feed keepingAnswer roomsFine lengthsFine headFine countsFine rowsFine featuresFine tableOf layout headOf sizes rowsFrom textsOf rowsOf featureText featureRows qualifierRows qualifierCount piecesText piecesRow same-may same-number same-date same-locus same-pubmed same-qualifiers same-features same-table back comes-back table day locus-of with-locus plain named with-definition with-pubmed with-feature with-kind with-location with-value decimal digits monthName dateText featuresHeader bare escape quotedTurn quoted value valueOf qualifier featureFrom feature fieldText fieldBytes field reference source ignoredLine headerField latest every locusKept linesKept headerKept bareKept valueKept qualifierKept featureKept keeps preamble tokens dateOf dateToken locusFrom locusOf locusLine locus originTag letters tag until line lineEnd membersUpTo endUpTo members end features slashesLater middle tableFrom readRecord readAt chars utf8 referenceTexts headerTexts locusFine qualifierFine featureFine lettersFine wellFormed fill closing linesAfter wrapped wrapText lastComma breakAt commaLines wrapLocation lengthText white blanked words joined printedName locusText fieldLines referenceLines headerLines commaKey bareKey valueLines qualifierLines featureLines featuresLines letterLines originLines written
+numbers-by-width = refl
+
+-- rules are held against the width that is written at: this keeps the rules of 132, and does not come back at 60
+pub rules-of-another-width :
+    keeps 132 false false (with-definition (replicate 47 97 ++ bytes " b")) ∷ comes-back 60 false false (with-definition (replicate 47 97 ++ bytes " b")) ∷ [] ≡
+    true ∷ false ∷ []
+unfolding same-may same-number same-date same-locus same-pubmed same-qualifiers same-features same-table back comes-back table day locus-of with-locus plain named with-definition with-pubmed with-feature with-kind with-location with-value decimal digits monthName dateText featuresHeader bare escape quotedTurn quoted value valueOf qualifier featureFrom feature fieldText fieldBytes field reference source ignoredLine headerField latest every locusKept linesKept headerKept bareKept valueKept qualifierKept featureKept keeps preamble tokens dateOf dateToken locusFrom locusOf locusLine locus originTag letters tag until line lineEnd membersUpTo endUpTo members end features slashesLater middle tableFrom readRecord readAt chars utf8 referenceTexts headerTexts locusFine qualifierFine featureFine lettersFine wellFormed fill closing linesAfter wrapped wrapText lastComma breakAt commaLines wrapLocation lengthText white blanked words joined printedName locusText fieldLines referenceLines headerLines commaKey bareKey valueLines qualifierLines featureLines featuresLines letterLines originLines written
+rules-of-another-width = refl
+
+-- and where the width alone is too small: these keep the rules of a width of 20, and come back all the same
+pub narrow : List Table
+narrow =
+    with-definition (bytes "abcdefg") ∷
+    table plain absent [] (record { kind = replicate 13 97; location = bytes "1..12"; qualifiers = [] } ∷ []) ∷
+    []
+
+pub narrower-than-needed :
+    map (λ t. wellFormed 20 false false t ∷ keeps 20 false false t ∷ comes-back 20 false false t ∷ []) narrow ≡
+    map (λ t. true ∷ true ∷ true ∷ []) narrow
+unfolding narrow same-may same-number same-date same-locus same-pubmed same-qualifiers same-features same-table back comes-back table day locus-of with-locus plain named with-definition with-pubmed with-feature with-kind with-location with-value decimal digits monthName dateText featuresHeader bare escape quotedTurn quoted value valueOf qualifier featureFrom feature fieldText fieldBytes field reference source ignoredLine headerField latest every locusKept linesKept headerKept bareKept valueKept qualifierKept featureKept keeps preamble tokens dateOf dateToken locusFrom locusOf locusLine locus originTag letters tag until line lineEnd membersUpTo endUpTo members end features slashesLater middle tableFrom readRecord readAt chars utf8 referenceTexts headerTexts locusFine qualifierFine featureFine lettersFine wellFormed fill closing linesAfter wrapped wrapText lastComma breakAt commaLines wrapLocation lengthText white blanked words joined printedName locusText fieldLines referenceLines headerLines commaKey bareKey valueLines qualifierLines featureLines featuresLines letterLines originLines written
+narrower-than-needed = refl

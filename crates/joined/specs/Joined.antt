@@ -3,6 +3,7 @@ use Prim.Native.Nat.{ℕ, _≤_, _<_}
 use mathlib.Core.Bool.{Bool, true}
 use mathlib.Core.List.{List}
 use mathlib.Core.Path.{_≡_, ap, _∙_}
+use native.Mathlib.Omega.{arith}
 use lib.ListN.{take}
 use Rattle.format.specs.Rooms.{Rooms, tableOf, sizes, fits}
 use Rattle.format.specs.declared.Head.{Head}
@@ -29,7 +30,7 @@ pub still-the-same :
     ((n : ℕ) → h .length ≡ given.Bases n → n < 4294967296) → k ≤ 16777216 → (before after : Rooms) (a : ReadAnswer) →
     fits (sizes (tableOf r h)) before ≡ true → Answered (take k new) 0 before after a → Same r h k after a
 still-the-same W truncate escape r h old new k p n m before after a f q =
-    let b : Back r h (take k new) k before = comes-back W truncate escape r h old k new p n m before f in
+    let b : Back r h (take k new) k before = comes-back W truncate escape r h old k new p (λ j d. omega (arith, n j d)) (omega (arith, m)) before f in
     record {
       head = b .head;
       done = q .is ∙ b .done;

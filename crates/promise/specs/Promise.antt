@@ -4,6 +4,7 @@ use mathlib.Core.Bool.{Bool, true, false}
 use mathlib.Core.Logic.{_↔_}
 use mathlib.Core.Path.{_≡_, sym, ap, _∙_}
 use mathlib.Core.List.{List, _++_}
+use native.Mathlib.Omega.{arith}
 use lib.ListN.{length, take}
 use lib.Dec.{leb}
 use Rattle.format.specs.Bytes.{is, each, all}
@@ -45,7 +46,7 @@ pub record-comes-back :
     readAt (before ++ (written W truncate escape t ++ rest)) (length before) ≡ Read t rest
 record-comes-back W truncate escape before t rest k e m =
     kept-inside W truncate escape (width-fine W (k .narrowest) (k .widest)) before t rest
-    (can-keep W truncate escape t (k .laidOut) (k .rules) (length-fits t (k .bases))) e m
+    (can-keep W truncate escape t (k .laidOut) (k .rules) (length-fits t (λ n d. omega (arith, k .bases n d)))) e m
 
 -- Empty lines that follow the record are taken with it, whether they end with LF or with CR LF. They are no part of the table, and the next record
 -- is read from behind them.
@@ -54,7 +55,7 @@ pub empty-lines-are-taken :
     lineEnds rest ≡ false → leb (length (before ++ (written W truncate escape t ++ (each endBytes lines ++ rest)))) most ≡ true →
     readAt (before ++ (written W truncate escape t ++ (each endBytes lines ++ rest))) (length before) ≡ Read t rest
 empty-lines-are-taken W truncate escape before t lines rest k e m =
-    lines-inside W truncate escape before t lines rest (width-fine W (k .narrowest) (k .widest)) (k .laidOut) (k .rules) (length-fits t (k .bases)) e m
+    lines-inside W truncate escape before t lines rest (width-fine W (k .narrowest) (k .widest)) (k .laidOut) (k .rules) (length-fits t (λ n d. omega (arith, k .bases n d))) e m
 
 -- Tables that are written one after the other are read back, all of them and in their order, each from the place where the one before ended. After
 -- the last one the reader says that there is no more.
@@ -96,11 +97,12 @@ pub rooms-come-back :
     ((n : ℕ) → h .length ≡ given.Bases n → n < 4294967296) → k ≤ 16777216 →
     (q : Rooms) → fits (sizes (tableOf r h)) q ≡ true → Back r h (take k new) k q
 rooms-come-back W truncate escape r h old new k e s n m q f =
-    let l = head-length-fits r h n in
+    let l = head-length-fits r h (λ j d. omega (arith, n j d)) in
+    let u : k ≤ 16777216 = omega (arith, m) in
     record {
       head = headOf (tableOf r h);
-      done = read-done W truncate escape r h old k e l m q f new s;
-      same = read-back W truncate escape r h old k e l m q f new s;
+      done = read-done W truncate escape r h old k e l u q f new s;
+      same = read-back W truncate escape r h old k e l u q f new s;
     }
 
 -- ---- number 13
@@ -112,7 +114,7 @@ pub thirteen-exactly :
     wellFormed W truncate escape (tableOf r h) ≡ true →
     (keepingAnswer W truncate escape r h n ≡ answer.Refused unwritten.NotKept) ↔ (keeps W truncate escape (tableOf r h) ≡ false)
 thirteen-exactly W truncate escape r h n l u a b =
-    (rule-broken W truncate escape r h n, refused-by-rule W truncate escape r h n (width-fine W l u) a b)
+    (rule-broken W truncate escape r h n, refused-by-rule W truncate escape r h n (width-fine W (omega (arith, l)) (omega (arith, u))) a b)
 
 -- Number 13 is that answer and no other. Number 0 with a count is the answer that so many bytes are written, and no other.
 pub numbers-name-answers :
