@@ -55,7 +55,7 @@ comma-lines (suc n) W indent used t = go (λ u s. comma-lines n W indent u s) (l
         (more-lines indent (breakAt (W - used) t) t (commaLines n W indent indent (drop (breakAt (W - used) t) t)) (ih indent (drop (breakAt (W - used) t) t)))
 
 key-more : (k : List ℕ) → length k ≤ 15 → padded 15 k ++ bytes " " ≡ k ++ spaces (16 - length k)
-key-more k h = padded-more 15 k h
+key-more k h = padded-more 15 k (omega (arith, h))
 
 regroup : (a b c l d e : List ℕ) → a ++ b ++ c ++ (l ++ d) ++ e ≡ a ++ ((b ++ c) ++ (l ++ (d ++ e)))
 regroup a b c l d e = simp append-assoc

@@ -25,7 +25,7 @@ module _ {A : Type 0} (turn : List ℕ → Ans (Turn A)) (small : Shrinks turn) 
       go :
           ((r : List ℕ) → length r < n → length r < m → membersUpTo turn n r ≡ membersUpTo turn m r) → (o : Ans (Turn A)) → turn s ≡ o →
           membersUpTo turn (suc n) s ≡ membersUpTo turn (suc m) s
-      go ih (Got (more a) r) e = let l : length r < length s = small s a r e in rw (membersUpTo, e, ih r (omega arith) (omega arith))
+      go ih (Got (more a) r) e = let l : length r < length s = omega (arith, small s a r e) in rw (membersUpTo, e, ih r (omega arith) (omega arith))
       go ih (Got stop r) e = rw (membersUpTo, e)
       go ih No e = rw (membersUpTo, e)
       go ih Cut e = rw (membersUpTo, e)
@@ -39,7 +39,7 @@ module _ {A : Type 0} (turn : List ℕ → Ans (Turn A)) (small : Shrinks turn) 
       go :
           ((r : List ℕ) → length r < n → length r < m → endUpTo turn n r ≡ endUpTo turn m r) → (o : Ans (Turn A)) → turn s ≡ o →
           endUpTo turn (suc n) s ≡ endUpTo turn (suc m) s
-      go ih (Got (more a) r) e = let l : length r < length s = small s a r e in rw (endUpTo, e, ih r (omega arith) (omega arith))
+      go ih (Got (more a) r) e = let l : length r < length s = omega (arith, small s a r e) in rw (endUpTo, e, ih r (omega arith) (omega arith))
       go ih (Got stop r) e = rw (endUpTo, e)
       go ih No e = rw (endUpTo, e)
       go ih Cut e = rw (endUpTo, e)
@@ -47,11 +47,11 @@ module _ {A : Type 0} (turn : List ℕ → Ans (Turn A)) (small : Shrinks turn) 
   pub members-more : (s : List ℕ) (a : A) (r : List ℕ) → turn s ≡ Got (more a) r → members turn s ≡ a ∷ members turn r
   unfolding members membersUpTo
   members-more s a r e =
-      let l : length r < length s = small s a r e in rw (membersUpTo, e, members-enough (length s) (suc (length r)) r l (omega arith))
+      let l : length r < length s = omega (arith, small s a r e) in rw (membersUpTo, e, members-enough (length s) (suc (length r)) r l (omega arith))
 
   pub end-more : (s : List ℕ) (a : A) (r : List ℕ) → turn s ≡ Got (more a) r → end turn s ≡ end turn r
   unfolding end endUpTo
-  end-more s a r e = let l : length r < length s = small s a r e in rw (endUpTo, e, end-enough (length s) (suc (length r)) r l (omega arith))
+  end-more s a r e = let l : length r < length s = omega (arith, small s a r e) in rw (endUpTo, e, end-enough (length s) (suc (length r)) r l (omega arith))
 
   pub loop-more : (s : List ℕ) (a : A) (r : List ℕ) → turn s ≡ Got (more a) r → loop turn s ≡ mapped (λ l. a ∷ l) (loop turn r)
   loop-more s a r e = rw (end-more s a r e, members-more s a r e) (go (end turn r))

@@ -76,7 +76,7 @@ qualifiers-fine r at from q f g h k =
     let n : ℕ = length (f .qualifiers) in
     let m : ℕ = length (r .qualifiers) / 4 in
     rw (
-      le-leb from q h,
+      le-leb from q (omega (arith, h)),
       le-leb q m (omega arith),
       le-leb n (m - q) (omega arith),
       rows-fine (λ at x. AllGood (r .texts) (r .qualifiers) at 0 (qualifierPieces x)) 4 (qualifierRowFine r) (qualifier-fine r) q (f .qualifiers)
