@@ -1,39 +1,20 @@
-//! Reads records from standard input and writes each again, at width 80, to standard output; `keep` asks for the keeping writer. Tells on standard
-//! error what each record is.
-use std::io::{Read, Write};
+//! The program `rewrite` for inputs of up to 16,777,216 bytes: the rooms grow as a record needs it. The top script of that name starts it where the proved
+//! program's rooms are too small. Its answers are the proved library's; this loop around them is not proved.
+mod arguments;
 
-fn run() -> Result<(), Box<dyn std::error::Error>> {
-    let keeping = std::env::args().nth(1).as_deref() == Some("keep");
-    let mut input = Vec::new();
-    std::io::stdin().read_to_end(&mut input)?;
+use std::io::Write;
+
+fn main() -> std::io::Result<()> {
+    let Some((layout, keep)) = arguments::asked() else {
+        arguments::end("usage: rewrite [WIDTH] [keep] [truncate] [escape]   (WIDTH: 60 to 132, else 80)", 2)
+    };
+    let input = arguments::input()?;
     for (i, record) in vilggodan::records(&input).enumerate() {
-        let told = |error| format!("record {}: {error}", i + 1);
-        let record = record.map_err(told)?;
-        let layout = vilggodan::Layout::default();
-        let written = if keeping {
-            record.keep(layout)
-        } else {
-            record.write(layout)
-        };
-        std::io::stdout().write_all(&written.map_err(told)?)?;
-        eprintln!(
-            "record {}: {}, {} features with {} qualifiers, {} letters",
-            i + 1,
-            String::from_utf8_lossy(record.name().unwrap_or(b"without a name")),
-            record.features().count(),
-            record
-                .features()
-                .map(|feature| feature.qualifiers().count())
-                .sum::<usize>(),
-            record.letters().len(),
-        );
+        let written = record.and_then(|record| if keep { record.keep(layout) } else { record.write(layout) });
+        match written {
+            Ok(text) => std::io::stdout().write_all(&text)?,
+            Err(error) => arguments::end(&format!("record {}: {error}", i + 1), 1),
+        }
     }
     Ok(())
-}
-
-fn main() {
-    if let Err(error) = run() {
-        eprintln!("{error}");
-        std::process::exit(1);
-    }
 }

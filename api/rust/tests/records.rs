@@ -1,0 +1,82 @@
+//! The safe wrapper on the examples of document 01 and at the edges of its answers.
+use vilggodan::{records, Layout, Record};
+
+const P318: &[u8] = b"LOCUS       P318                      12 bp    DNA     circular SYN 01-MAR-2024
+DEFINITION  Test plasmid.
+FEATURES             Location/Qualifiers
+     misc_feature    1..12
+                     /note=\"says \"\"keep\"\"\"
+                     /pseudo
+ORIGIN      
+        1 acgtacgtac gt
+//
+";
+
+fn first(s: &[u8]) -> Record {
+    records(s).next().expect("a record").expect("that is read")
+}
+
+#[test]
+fn texts_and_rows() {
+    let record = first(P318);
+    assert_eq!(record.name(), Some(&b"P318"[..]));
+    assert_eq!(record.length(), Some(12));
+    assert!(record.is_circular());
+    assert_eq!(record.text("DEFINITION"), Some(&b"Test plasmid."[..]));
+    assert_eq!(record.text("KEYWORDS"), None);
+    assert_eq!(record.letters(), b"acgtacgtacgt");
+    let features: Vec<_> = record.features().collect();
+    assert_eq!(features.len(), 1);
+    assert_eq!((features[0].kind, features[0].location), (&b"misc_feature"[..], &b"1..12"[..]));
+    let qualifiers: Vec<_> = features[0].qualifiers().map(|q| (q.key, q.value)).collect();
+    assert_eq!(qualifiers, [(&b"note"[..], Some(&b"says \"keep\""[..])), (&b"pseudo"[..], None)]);
+}
+
+#[test]
+fn written_again() {
+    let record = first(P318);
+    assert_eq!(record.write(Layout::default()).unwrap(), P318);
+    assert_eq!(record.keep(Layout::default()).unwrap(), P318);
+}
+
+#[test]
+fn record_after_record() {
+    let file = [P318, b"\n", P318].concat();
+    assert_eq!(records(&file).filter(Result::is_ok).count(), 2);
+}
+
+#[test]
+fn refusals_have_numbers() {
+    let number = |s: &[u8]| records(s).next().unwrap().unwrap_err().number;
+    assert_eq!(number(b"no record\n"), 4);
+    assert_eq!(number(&P318[..200]), 2);
+    assert_eq!(number(&vec![b' '; 16_777_217]), 3);
+    let record = first(P318);
+    let layout = |width| Layout { width, ..Layout::default() };
+    assert_eq!(record.write(layout(59)).unwrap_err().number, 12);
+    assert_eq!(record.write(layout(133)).unwrap_err().number, 12);
+    let no_date = String::from_utf8(P318.to_vec()).unwrap().replace(" 01-MAR-2024", "");
+    let unread_locus = first(no_date.as_bytes());
+    assert_eq!(unread_locus.keep(Layout::default()).unwrap_err().number, 13);
+    assert!(unread_locus.write(Layout::default()).is_ok());
+}
+
+#[test]
+fn a_refusal_leaves_the_record() {
+    let mut record = first(P318);
+    assert_eq!(record.read(b"no record\n", 0).unwrap_err().number, 4);
+    assert_eq!(record.read(P318, P318.len()).unwrap_err().number, 1);
+    assert_eq!(record.read(P318, P318.len() + 1).unwrap_err().number, 3);
+    assert_eq!(record.write(Layout::default()).unwrap(), P318);
+}
+
+#[test]
+fn larger_and_smaller_by_turns() {
+    let mut record = Record::new();
+    let small = b"LOCUS       S 0 bp linear SYN 01-MAR-2024\n//\n";
+    for s in [&small[..], P318, &small[..]] {
+        assert_eq!(record.read(s, 0), Ok(s.len()));
+    }
+    assert_eq!(record.features().count(), 0);
+    assert_eq!(record.letters(), b"");
+}
