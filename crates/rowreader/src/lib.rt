@@ -1,26 +1,9 @@
 // The reader's entry point with the features' rows as structs: all but these rows is prepared, and then they are stored one by one.
 use format::ReadAnswer;
-use rowmaker::Reached;
 use rows::Feature;
-ghost use mathlib.Core.Path.{_≡_};
-ghost use lib.Seq.{sets};
 ghost use Rattle.fill.specs.Fills.{roomsIn};
 ghost use Rattle.reader.specs.Reads.{Answered};
 ghost use Rattle.rows.specs.Rows.{flat};
-ghost use Rattle.rowmaker.specs.Stores.{rowsTo, Storable};
-
-// The rows of the first n features from a place on.
-pub fn store_rows(rows: &mut [Feature], s: &[u8], from: Reached, n: usize)
-    requires { ⌜ Storable (now s) from n ⌝ }
-    ensures { λ _. ⌜ flat (now (rows .exit)) ≡ sets (flat (now (rows .entry))) 0 (rowsTo (now (s .entry)) from n) ⌝ }
-{
-    let mut reached = from;
-    while reached.row < n {
-        let made = rowmaker::row_at(s, reached);
-        rows::store_row(rows, reached.row, made.row);
-        reached = made.reached;
-    }
-}
 
 // Reads the record at a place of a slice into the rooms. It has no branch: where the answer refuses, no row is left to be stored.
 pub fn read_rows(
@@ -45,6 +28,6 @@ pub fn read_rows(
         qualifiers,
         letters,
     );
-    store_rows(rows, s, p.start, p.count);
+    rowstore::store_rows(rows, s, p.start, p.count);
     p.answer
 }

@@ -63,10 +63,10 @@ use Rattle.rowplan.proofs.prepare as plan
 use Rattle.rowplan.proofs.prepare.Symbol as plan-def
 use Rattle.rowplan.proofs.prepare.Symbol.{name as #rowplan·prepare}
 use Rattle.rowplan.proofs.prepare.Met as plan-thm
-use Rattle.rowreader.proofs.store_rows as fill
-use Rattle.rowreader.proofs.store_rows.Symbol as fill-def
-use Rattle.rowreader.proofs.store_rows.Symbol.{name as #rowreader·store-rows}
-use Rattle.rowreader.proofs.store_rows.Met as fill-thm
+use Rattle.rowstore.proofs.store_rows as fill
+use Rattle.rowstore.proofs.store_rows.Symbol as fill-def
+use Rattle.rowstore.proofs.store_rows.Symbol.{name as #rowstore·store-rows}
+use Rattle.rowstore.proofs.store_rows.Met as fill-thm
 use Rattle.rowreader.proofs.read_rows.Key.{name as #rowreader·read-rows}
 use Rattle.rowreader.proofs.read_rows as f
 use Rattle.rowreader.proofs.read_rows.Statement as stated
@@ -252,7 +252,7 @@ module _ {M : Type 1} (𝓤 : URA M) (H : Heap 𝓤) (A : Atoms 𝓤) (W : Given
       qed W (‵ (flft κ₄ q₄) ∷ ‵ (flft κ₀ q₀) ∷ ‵ Rows ∷ ‵ Bytes ∷ []) ∵ says ! e $ nothing ! $ move ! (2 ∷ 0 ∷ []) $ join ! $ move ! (1 ∷ 0 ∷ []) $ join ! $ frame ! $
       nothing ! $ owned ! usize (Is usize) (uint-makes 𝓤 H A W w64) k _ (refl, gk) $ fjoin ! $ owned ! R.the-row (Is R.the-row) (LL.makes R.the-type R′.the-plain 𝓤 H A) p _ gp $ fjoin ! $ move ! (2 ∷ 0 ∷ []) $ fjoin ! $ move ! (1 ∷ 0 ∷ []) $ fjoin ! $ done !
 
-  module _ (C : Calls 𝓤 H) (Λ : Loops 𝓤 H) (fm : FmC 𝓤 H (W .laws) C) (known-plan : Triple 𝓤 (C #rowplan·prepare) (Plan 𝓤 H A mem run)) (known-fill : Triple 𝓤 (C #rowreader·store-rows) (Fill 𝓤 H A mem run))
+  module _ (C : Calls 𝓤 H) (Λ : Loops 𝓤 H) (fm : FmC 𝓤 H (W .laws) C) (known-plan : Triple 𝓤 (C #rowplan·prepare) (Plan 𝓤 H A mem run)) (known-fill : Triple 𝓤 (C #rowstore·store-rows) (Fill 𝓤 H A mem run))
       (l₀ l₁ l₂ l₃ l₄ l₅ l₆ l₇ l₈ l₉ l₁₀ l₁₁ l₁₂ l₁₃ l₁₄ l₁₅ l₁₆ l₁₇ l₁₈ l₁₉ l₂₀ l₂₁ l₂₂ l₂₃ : ℕ) where
     abbrev ρ : Ty
     ρ = pointee (T.the-row .written)
@@ -425,7 +425,7 @@ module _ {M : Type 1} (𝓤 : URA M) (H : Heap 𝓤) (A : Atoms 𝓤) (W : Given
         assigns ! (addr ! (from ! (fld ! refl (hop ! (look-in ! 38 (sub ! 0 refl (whole !))) (stop !))))) (from ! (stop !)) (init ! 22 refl (tt, tt)) $
         assigns ! (agg ! (and-then ! (load ! (from ! (stop !)) (look ! 22 refl)) (and-then ! (load ! (from ! (fld ! refl (stop !))) (look-in ! 38 (sub ! 1 refl (whole !)))) (no-more !)))) (from ! (stop !)) (init ! 20 refl (tt, (tt, (record { fits = fits₂ }, tt)))) $ second
 
-  walk : (C : Calls 𝓤 H) (Λ : Loops 𝓤 H) (fm : FmC 𝓤 H (W .laws) C) (known-plan : Triple 𝓤 (C #rowplan·prepare) (Plan 𝓤 H A mem run)) (known-fill : Triple 𝓤 (C #rowreader·store-rows) (Fill 𝓤 H A mem run))
+  walk : (C : Calls 𝓤 H) (Λ : Loops 𝓤 H) (fm : FmC 𝓤 H (W .laws) C) (known-plan : Triple 𝓤 (C #rowplan·prepare) (Plan 𝓤 H A mem run)) (known-fill : Triple 𝓤 (C #rowstore·store-rows) (Fill 𝓤 H A mem run))
       → ent 𝓤 (onEntry 𝓤 H A f.signature (κ₀, (κ₁, (κ₂, (κ₃, (κ₄, (κ₅, (κ₆, tt))))))) (q₀, (q₁, (q₂, (q₃, (q₄, (q₅, (q₆, tt))))))) a at) (WpFn 𝓤 H C Λ code.function (v₁ ∷ vint w64 n ∷ v₃ ∷ v₄ ∷ v₅ ∷ v₆ ∷ v₇ ∷ v₈ ∷ []) Post)
   walk C Λ fm known-plan known-fill =
       qed W ((‵ (flft κ₀ q₀) ⊛ ‵ (flft κ₁ q₁) ⊛ ‵ (flft κ₂ q₂) ⊛ ‵ (flft κ₃ q₃) ⊛ ‵ (flft κ₄ q₄) ⊛ ‵ (flft κ₅ q₅) ⊛ ‵ (flft κ₆ q₆) ⊛ ‵ ftrue)
@@ -434,7 +434,7 @@ module _ {M : Type 1} (𝓤 : URA M) (H : Heap 𝓤) (A : Atoms 𝓤) (W : Given
       pass1 ! (init ! 44 refl (tt, (tt, (record { fits = fits₀ }, tt)))) $ pass1 ! (init ! 42 refl (tt, record { fits = gn })) $ pass1 ! (init ! 40 refl (tt, (tt, (record { fits = fits₁ }, tt)))) $ pass1 ! (init ! 38 refl (tt, (tt, (record { fits = fits₂ }, tt)))) $ pass1 ! (init ! 36 refl (tt, (tt, (record { fits = fits₃ }, tt)))) $ pass1 ! (init ! 34 refl (tt, (tt, (record { fits = room .0 }, tt)))) $ pass1 ! (init ! 32 refl (tt, (tt, (record { fits = fits₅ }, tt)))) $ pass1 ! (init ! 30 refl (tt, (tt, (record { fits = fits₆ }, tt)))) $ pass0 ! $
       begins C Λ fm known-plan known-fill l₀ l₁ l₂ l₃ l₄ l₅ l₆ l₇ l₈ l₉ l₁₀ l₁₁ l₁₂ l₁₃ l₁₄ l₁₅ l₁₆ l₁₇ l₁₈ l₁₉ l₂₀ l₂₁ l₂₂ l₂₃))))))))))))))))))))))))
 
-module _ {M : Type 1} (𝓤 : URA M) (H : Heap 𝓤) (A : Atoms 𝓤) (W : Given 𝓤 H A) (mem : Memory → SProp 𝓤) (run : Routine → Fun 𝓤) (𝓣 : Tables 𝓤 H) (known-plan : Triple 𝓤 (𝓣 .C #rowplan·prepare) (Plan 𝓤 H A mem run)) (known-fill : Triple 𝓤 (𝓣 .C #rowreader·store-rows) (Fill 𝓤 H A mem run)) where
+module _ {M : Type 1} (𝓤 : URA M) (H : Heap 𝓤) (A : Atoms 𝓤) (W : Given 𝓤 H A) (mem : Memory → SProp 𝓤) (run : Routine → Fun 𝓤) (𝓣 : Tables 𝓤 H) (known-plan : Triple 𝓤 (𝓣 .C #rowplan·prepare) (Plan 𝓤 H A mem run)) (known-fill : Triple 𝓤 (𝓣 .C #rowstore·store-rows) (Fill 𝓤 H A mem run)) where
   read-rows-walks : Walks 𝓤 H A f.ended stayed (WpFn 𝓤 H (𝓣 .C) (𝓣 .Λ) code.function) (f.clauses 𝓤 H A mem run)
   read-rows-walks = walked 𝓤 H A f.ended stayed (f.clauses 𝓤 H A mem run) (WpFn 𝓤 H (𝓣 .C) (𝓣 .Λ) code.function)
       (λ κs. (slice-vals, (uint-vals w64, (slice-vals, (slice-vals, (slice-vals, (slice-vals, (slice-vals, (slice-vals, tt)))))))))
@@ -483,4 +483,4 @@ read-rows-spec 𝓤 H 𝓜 𝓖 𝓡 =
     (tables 𝓤 H 𝓜 𝓡 code.env .C) (tables 𝓤 H 𝓜 𝓡 code.env .Λ) #rowreader·read-rows code.function (code.unfolded 𝓤 H 𝓜 𝓡)
     (read-rows-meets 𝓤 H (𝓖 .A) (givenOf 𝓤 H 𝓜 𝓖) (𝓜 .mem) (𝓡 .run) (tablesOf 𝓤 H 𝓜 (tables 𝓤 H 𝓜 𝓡 code.env))
     (cited 𝓤 H (Plan 𝓤 H (𝓖 .A) (𝓜 .mem) (𝓡 .run)) 𝓜 𝓡 code.env #rowplan·prepare plan-def.routine code.calls-rowplan·prepare (plan-thm.met 𝓤 H 𝓜 𝓖 𝓡))
-    (cited 𝓤 H (Fill 𝓤 H (𝓖 .A) (𝓜 .mem) (𝓡 .run)) 𝓜 𝓡 code.env #rowreader·store-rows fill-def.routine code.calls-rowreader·store-rows (fill-thm.met 𝓤 H 𝓜 𝓖 𝓡)))
+    (cited 𝓤 H (Fill 𝓤 H (𝓖 .A) (𝓜 .mem) (𝓡 .run)) 𝓜 𝓡 code.env #rowstore·store-rows fill-def.routine code.calls-rowstore·store-rows (fill-thm.met 𝓤 H 𝓜 𝓖 𝓡)))

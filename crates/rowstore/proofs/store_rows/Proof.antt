@@ -66,13 +66,13 @@ use Rattle.rowmaker.proofs.row_at as row
 use Rattle.rowmaker.proofs.row_at.Symbol as row-def
 use Rattle.rowmaker.proofs.row_at.Symbol.{name as #rowmaker·row-at}
 use Rattle.rowmaker.proofs.row_at.Met as row-thm
-use Rattle.rowreader.proofs.Again.{LentAgain, lends-again, comes-back}
-use Rattle.rowreader.proofs.Laws.{Storing, storing-none, storing-ahead, storing-on, storing-all, nearer}
-use Rattle.rowreader.proofs.store_rows.Key.{name as #rowreader·store-rows}
-use Rattle.rowreader.proofs.store_rows as f
-use Rattle.rowreader.proofs.store_rows.Statement as stated
-use Rattle.rowreader.proofs.store_rows.Code as code
-use Rattle.rowreader.proofs.store_rows.Code.Mir as body
+use Rattle.rowstore.proofs.Again.{LentAgain, lends-again, comes-back}
+use Rattle.rowstore.proofs.Laws.{Storing, storing-none, storing-ahead, storing-on, storing-all, nearer}
+use Rattle.rowstore.proofs.store_rows.Key.{name as #rowstore·store-rows}
+use Rattle.rowstore.proofs.store_rows as f
+use Rattle.rowstore.proofs.store_rows.Statement as stated
+use Rattle.rowstore.proofs.store_rows.Code as code
+use Rattle.rowstore.proofs.store_rows.Code.Mir as body
 
 abbrev stayed : Stays (f.ended .signature .params) (f.ended .kept)
 stayed = (stay-slice (0 ∷ []) tt (plain (λ _. T.the-row)), (stay-none-slice (1 ∷ []) tt (plain (λ _. u8)) yes, (stay-none (λ _. R.the-row) yes, (stay-none (λ _. usize) yes, tt))))
@@ -325,7 +325,7 @@ pub store-rows-spec : {M : Type 1} → stated.statement M
 unfolding code.routine tablesOf
 store-rows-spec 𝓤 H 𝓜 𝓖 𝓡 =
     entered 𝓤 H (tripleOf 𝓤 H (𝓖 .A) f.signature (f.spec 𝓤 H (𝓖 .A) (𝓜 .mem) (𝓡 .run)))
-    (tables 𝓤 H 𝓜 𝓡 code.env .C) (tables 𝓤 H 𝓜 𝓡 code.env .Λ) #rowreader·store-rows code.function (code.unfolded 𝓤 H 𝓜 𝓡)
+    (tables 𝓤 H 𝓜 𝓡 code.env .C) (tables 𝓤 H 𝓜 𝓡 code.env .Λ) #rowstore·store-rows code.function (code.unfolded 𝓤 H 𝓜 𝓡)
     (store-rows-meets 𝓤 H (𝓖 .A) (givenOf 𝓤 H 𝓜 𝓖) (𝓜 .mem) (𝓡 .run) (tablesOf 𝓤 H 𝓜 (tables 𝓤 H 𝓜 𝓡 code.env))
     (cited 𝓤 H (RowAt 𝓤 H (𝓖 .A) (𝓜 .mem) (𝓡 .run)) 𝓜 𝓡 code.env #rowmaker·row-at row-def.routine code.calls-rowmaker·row-at (row-thm.met 𝓤 H 𝓜 𝓖 𝓡))
     (cited 𝓤 H (Store 𝓤 H (𝓖 .A) (𝓜 .mem) (𝓡 .run)) 𝓜 𝓡 code.env #rows·store-row put-def.routine code.calls-rows·store-row (put-thm.met 𝓤 H 𝓜 𝓖 𝓡)))
