@@ -221,7 +221,7 @@ fn put_kinded(
 }
 
 // The feature that starts where reading goes on; no word of what is left in the rooms where none starts there.
-fn put_feature(
+pub fn put_feature(
     s: &[u8],
     texts: &mut [u8],
     features: &mut [usize],

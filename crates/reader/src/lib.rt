@@ -11,7 +11,7 @@ ghost use Rattle.fill.specs.Fills.{roomsIn, Ready};
 ghost use Rattle.reader.specs.Reads.{contigPlace, textsPlan, sizesIn, headPlan, fitsIn, Answering, Answered};
 
 // How much of each room a record takes.
-fn sizes_of(plan: Plan) -> Sizes
+pub fn sizes_of(plan: Plan) -> Sizes
     requires { ⌜ textsPlan plan < 2 ^ 64 ⌝ }
     ensures { λ r. ⌜ r ≡ sizesIn plan ⌝ }
 {
@@ -36,7 +36,7 @@ fn sizes_of(plan: Plan) -> Sizes
 }
 
 // Its head.
-fn head_in(plan: Plan) -> Head
+pub fn head_in(plan: Plan) -> Head
     requires { ⌜ contigPlace plan < 2 ^ 64 ⌝ }
     ensures { λ r. ⌜ r ≡ headPlan plan ⌝ }
 {
@@ -51,7 +51,7 @@ fn head_in(plan: Plan) -> Head
 }
 
 // Whether rooms of these lengths hold that much; rows are 14, 2, 6 and 4 numbers wide.
-fn enough(
+pub fn enough(
     n: Sizes,
     texts: usize,
     references: usize,

@@ -1,0 +1,2 @@
+-- Two answers of the entry point with rows as structs agree.
+pub mod Agree
