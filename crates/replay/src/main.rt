@@ -12,12 +12,12 @@ fn main() {
     let mut counts = [0usize; 32];
     replay_file(b"rust-read.txt", &mut counts);
     replay_file(b"rust-write.txt", &mut counts);
-    replaying::say_source(b"the Rust", &mut counts);
+    storedlines::say_source(b"the Rust", &mut counts);
     replay_file(b"vectors-read.txt", &mut counts);
     replay_file(b"vectors-write-1.txt", &mut counts);
     replay_file(b"vectors-write-2.txt", &mut counts);
-    replaying::say_source(b"vectors", &mut counts);
+    storedlines::say_source(b"vectors", &mut counts);
     replay_file(b"numbers.txt", &mut counts);
-    replaying::say_source(b"numbers that neither has", &mut counts);
-    replaying::say_counts(&counts);
+    storedlines::say_source(b"numbers that neither has", &mut counts);
+    storedlines::say_counts(&counts);
 }

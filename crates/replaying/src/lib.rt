@@ -1,24 +1,19 @@
 // Stored answers, run again and counted. A line of a file is one answer, `R` a reading and `W` a writing; oracle/README.md has its fields. Lines that
 // begin `#` say how the file was made.
-mod counts;
-mod fields;
 mod reading;
-mod room;
 mod writing;
 
-use counts::DIFFER;
-use counts::NOT_UNDERSTOOD;
-use counts::READINGS;
-use counts::WRITINGS;
-use counts::count_departures;
-use counts::count_one;
-pub use counts::say_counts;
-pub use counts::say_source;
-use fields::number_at;
-use fields::take_numbers;
 use reading::Checked;
 use reading::replay_reading;
-use room::number_room;
+use storedlines::DIFFER;
+use storedlines::NOT_UNDERSTOOD;
+use storedlines::READINGS;
+use storedlines::WRITINGS;
+use storedlines::count_departures;
+use storedlines::count_one;
+use storedlines::number_at;
+use storedlines::number_room;
+use storedlines::take_numbers;
 use writing::replay_writing;
 ghost use lib.ListN.{length};
 ghost use Prim.Native.Nat.{_≤_, _<_};

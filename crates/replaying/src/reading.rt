@@ -1,12 +1,12 @@
 // One stored reading: the slice is read again, and the number, what is told with it and all of each room are held against what is stored.
-use crate::counts::count_answer;
-use crate::fields::among;
-use crate::fields::lent;
-use crate::fields::number_at;
-use crate::fields::same_numbers;
-use crate::fields::take_numbers;
-use crate::fields::take_text;
-use crate::room::number_room;
+use storedlines::among;
+use storedlines::count_answer;
+use storedlines::lent;
+use storedlines::number_at;
+use storedlines::number_room;
+use storedlines::same_numbers;
+use storedlines::take_numbers;
+use storedlines::take_text;
 
 // Where the line goes on, and whether all was as stored so far.
 pub struct Checked {
@@ -98,12 +98,12 @@ fn read_lent(
     boundary::vilggodan_read(
         input,
         number_at(call, 0),
-        &mut texts[..a],
-        &mut references[..b],
-        &mut comments[..c],
-        &mut features[..d],
-        &mut qualifiers[..e],
-        &mut letters[..f],
+        &mut texts[0..a],
+        &mut references[0..b],
+        &mut comments[0..c],
+        &mut features[0..d],
+        &mut qualifiers[0..e],
+        &mut letters[0..f],
         told,
     )
 }

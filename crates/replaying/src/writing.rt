@@ -1,11 +1,11 @@
 // One stored writing: the table is written again by both writers, and their numbers, values and all of the slice are held against what is stored.
-use crate::counts::count_answer;
-use crate::fields::lent;
-use crate::fields::number_at;
-use crate::fields::take_numbers;
-use crate::fields::take_text;
 use crate::reading::Checked;
-use crate::room::number_room;
+use storedlines::count_answer;
+use storedlines::lent;
+use storedlines::number_at;
+use storedlines::number_room;
+use storedlines::take_numbers;
+use storedlines::take_text;
 
 // Writes by one of the two writers, as the call says: width, truncation, escaping.
 fn write_by(
@@ -107,7 +107,7 @@ fn written_as_stored(
     let length = lent(call, n, 3, out.len());
     let number = write_by(
         keeping,
-        &mut out[..length],
+        &mut out[0..length],
         texts,
         references,
         comments,

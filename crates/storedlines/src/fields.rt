@@ -35,14 +35,17 @@ fn with_digit(value: usize, b: u8) -> usize {
     value * 10 + (b - 48) as usize
 }
 
-// After a byte that is no digit: the number before it is put into the room.
-fn after_number(room: &mut [usize], so_far: Listing, b: u8) -> Listing {
-    let mut count = so_far.count;
+// Puts the number that has been read, if there is one, and tells how many there are then.
+fn put_read(room: &mut [usize], so_far: Listing) -> usize {
     if so_far.some {
-        count = pen::put_number(room, count, so_far.value);
+        return pen::put_number(room, so_far.count, so_far.value);
     }
+    so_far.count
+}
+
+fn after_number(room: &mut [usize], so_far: Listing, b: u8) -> Listing {
     Listing {
-        count: count,
+        count: put_read(room, so_far),
         value: 0,
         some: false,
         done: b == 59,

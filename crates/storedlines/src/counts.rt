@@ -22,19 +22,24 @@ pub fn count_one(counts: &mut [usize], i: usize) {
     }
 }
 
+fn count_departure(counts: &mut [usize], d: usize) {
+    if d <= 6 {
+        count_one(counts, DEPARTURES + d);
+    }
+}
+
 // The departures of a case, of which a list has n.
 pub fn count_departures(counts: &mut [usize], list: &[usize], n: usize) {
     if n == 0 {
         count_one(counts, DEPARTURES);
+        return;
     }
     let mut i = 0;
     while i < n {
         if list.len() <= i {
             return;
         }
-        if list[i] <= 6 {
-            count_one(counts, DEPARTURES + list[i]);
-        }
+        count_departure(counts, list[i]);
         i += 1;
     }
 }
