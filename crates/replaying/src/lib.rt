@@ -9,37 +9,16 @@ use storedlines::DIFFER;
 use storedlines::NOT_UNDERSTOOD;
 use storedlines::READINGS;
 use storedlines::WRITINGS;
+use storedlines::byte_at;
 use storedlines::count_departures;
 use storedlines::count_one;
+use storedlines::next_line;
 use storedlines::number_at;
 use storedlines::number_room;
 use storedlines::take_numbers;
 use writing::replay_writing;
 ghost use lib.ListN.{length};
-ghost use Prim.Native.Nat.{_≤_, _<_};
-
-// The byte at a place; 0 past the end.
-fn byte_at(s: &[u8], at: usize) -> u8 {
-    if at < s.len() {
-        return s[at];
-    }
-    0
-}
-
-// Behind the next LF, or the end.
-fn next_line(s: &[u8], at: usize) -> usize
-    requires { ⌜ at < length (now s) ⌝ }
-    ensures { λ r. ⌜ (at < r) × (r ≤ length (now (s .entry))) ⌝ }
-{
-    let mut i = at;
-    while i < s.len() {
-        if s[i] == 10 {
-            return i + 1;
-        }
-        i += 1;
-    }
-    i
-}
+ghost use Prim.Native.Nat.{_<_};
 
 // One answer whose fields start at a place, of that kind.
 fn replay_kind(s: &[u8], at: usize, kind: u8, counts: &mut [usize]) -> Checked {

@@ -65,7 +65,7 @@ fn slice_as_stored(number: usize, out: &[u8], bytes: &[u8]) -> bool {
     keys::same_text(out, &untouched)
 }
 
-// A writer's number and value stand in `stored` from `from` on; they and the slice are as stored.
+// A writer's number and value are those that stand in `stored` from `from` on, and the slice is as stored.
 fn answer_as_stored(
     stored: &[usize],
     from: usize,
@@ -86,7 +86,38 @@ fn answer_as_stored(
     slice_as_stored(number, out, bytes)
 }
 
-// Writes into as much of a slice as the call lends.
+// Writes into as much of the slice as the call lends.
+fn write_lent(
+    keeping: bool,
+    out: &mut [u8],
+    texts: &[u8],
+    references: &[usize],
+    comments: &[usize],
+    features: &[usize],
+    qualifiers: &[usize],
+    letters: &[u8],
+    head: &[usize],
+    call: &[usize],
+    n: usize,
+    told: &mut [usize],
+) -> usize {
+    let length = lent(call, n, 3, out.len());
+    write_by(
+        keeping,
+        &mut out[0..length],
+        texts,
+        references,
+        comments,
+        features,
+        qualifiers,
+        letters,
+        head,
+        call,
+        told,
+    )
+}
+
+// One writer, whose number and value stand in `stored` from `from` on.
 fn written_as_stored(
     keeping: bool,
     from: usize,
@@ -104,10 +135,9 @@ fn written_as_stored(
 ) -> bool {
     let mut out = io::buffer();
     let mut told = number_room();
-    let length = lent(call, n, 3, out.len());
-    let number = write_by(
+    let number = write_lent(
         keeping,
-        &mut out[0..length],
+        &mut out,
         texts,
         references,
         comments,
@@ -116,6 +146,7 @@ fn written_as_stored(
         letters,
         head,
         call,
+        n,
         &mut told,
     );
     answer_as_stored(stored, from, number, number_at(&told, 0), &out, bytes)

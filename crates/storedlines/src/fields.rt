@@ -1,10 +1,36 @@
 // The fields of a stored line: numbers that `;` ends, and texts between quotes. Spaces may stand before each.
-ghost use Prim.Native.Nat.{_≤_};
+ghost use Prim.Native.Nat.{_≤_, _<_};
+ghost use lib.ListN.{length};
 
 // Where the next field starts, and how many numbers or bytes this one has.
 pub struct Field {
     pub next: usize,
     pub count: usize,
+}
+
+// ---- lines
+
+// The byte at a place; 0 past the end.
+pub fn byte_at(s: &[u8], at: usize) -> u8 {
+    if at < s.len() {
+        return s[at];
+    }
+    0
+}
+
+// Behind the next LF, or the end.
+pub fn next_line(s: &[u8], at: usize) -> usize
+    requires { ⌜ at < length (now s) ⌝ }
+    ensures { λ r. ⌜ (at < r) × (r ≤ length (now (s .entry))) ⌝ }
+{
+    let mut i = at;
+    while i < s.len() {
+        if s[i] == 10 {
+            return i + 1;
+        }
+        i += 1;
+    }
+    i
 }
 
 // ---- numbers
