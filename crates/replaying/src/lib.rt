@@ -1,10 +1,7 @@
 // Stored answers, run again and counted. A line of a file is one answer, `R` a reading and `W` a writing; oracle/README.md has its fields. Lines that
 // begin `#` say how the file was made.
-mod reading;
-mod writing;
-
-use reading::Checked;
-use reading::replay_reading;
+use readagain::replay_reading;
+use storedlines::Checked;
 use storedlines::DIFFER;
 use storedlines::NOT_UNDERSTOOD;
 use storedlines::READINGS;
@@ -16,7 +13,7 @@ use storedlines::next_line;
 use storedlines::number_at;
 use storedlines::number_room;
 use storedlines::take_numbers;
-use writing::replay_writing;
+use writeagain::replay_writing;
 ghost use lib.ListN.{length};
 ghost use Prim.Native.Nat.{_<_};
 

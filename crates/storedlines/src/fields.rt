@@ -8,6 +8,12 @@ pub struct Field {
     pub count: usize,
 }
 
+// Where the line goes on, and whether all was as stored so far.
+pub struct Checked {
+    pub next: usize,
+    pub same: bool,
+}
+
 // ---- lines
 
 // The byte at a place; 0 past the end.

@@ -12,6 +12,7 @@ pub use counts::count_departures;
 pub use counts::count_one;
 pub use counts::say_counts;
 pub use counts::say_source;
+pub use fields::Checked;
 pub use fields::Field;
 pub use fields::among;
 pub use fields::byte_at;

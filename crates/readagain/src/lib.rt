@@ -1,4 +1,5 @@
 // One stored reading: the slice is read again, and the number, what is told with it and all of each room are held against what is stored.
+use storedlines::Checked;
 use storedlines::among;
 use storedlines::count_answer;
 use storedlines::lent;
@@ -7,12 +8,6 @@ use storedlines::number_room;
 use storedlines::same_numbers;
 use storedlines::take_numbers;
 use storedlines::take_text;
-
-// Where the line goes on, and whether all was as stored so far.
-pub struct Checked {
-    pub next: usize,
-    pub same: bool,
-}
 
 fn and_then(so_far: Checked, next: usize, same: bool) -> Checked {
     if same {

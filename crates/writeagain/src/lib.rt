@@ -1,5 +1,5 @@
 // One stored writing: the table is written again by both writers, and their numbers, values and all of the slice are held against what is stored.
-use crate::reading::Checked;
+use storedlines::Checked;
 use storedlines::count_answer;
 use storedlines::lent;
 use storedlines::number_at;
