@@ -1,4 +1,4 @@
-// Runs the stored answers of the files in data/ again, and prints how many there are of each kind and how many differ.
+// Runs the stored answers of the files in data/ again, and prints how many there are of each kind and how many differ. oracle/README.md says how each file was made.
 
 fn replay_file(name: &[u8], counts: &mut [usize]) {
     let mut s = smallrooms::out_room();
@@ -8,16 +8,28 @@ fn replay_file(name: &[u8], counts: &mut [usize]) {
     replaying::replay_all(name, &s[..n], counts);
 }
 
+fn replay_rust(counts: &mut [usize]) {
+    replay_file(b"rust-read.txt", counts);
+    replay_file(b"rust-write.txt", counts);
+    storedlines::say_source(b"the Rust", counts);
+}
+
+fn replay_vectors(counts: &mut [usize]) {
+    replay_file(b"vectors-read.txt", counts);
+    replay_file(b"vectors-write-1.txt", counts);
+    replay_file(b"vectors-write-2.txt", counts);
+    storedlines::say_source(b"vectors", counts);
+}
+
+fn replay_numbers(counts: &mut [usize]) {
+    replay_file(b"numbers.txt", counts);
+    storedlines::say_source(b"numbers that neither has", counts);
+}
+
 fn main() {
     let mut counts = [0usize; 32];
-    replay_file(b"rust-read.txt", &mut counts);
-    replay_file(b"rust-write.txt", &mut counts);
-    storedlines::say_source(b"the Rust", &mut counts);
-    replay_file(b"vectors-read.txt", &mut counts);
-    replay_file(b"vectors-write-1.txt", &mut counts);
-    replay_file(b"vectors-write-2.txt", &mut counts);
-    storedlines::say_source(b"vectors", &mut counts);
-    replay_file(b"numbers.txt", &mut counts);
-    storedlines::say_source(b"numbers that neither has", &mut counts);
+    replay_rust(&mut counts);
+    replay_vectors(&mut counts);
+    replay_numbers(&mut counts);
     storedlines::say_counts(&counts);
 }
