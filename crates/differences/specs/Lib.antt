@@ -1,0 +1,2 @@
+-- The answers of docs/DIFFERENCES.md.
+pub mod Here

@@ -1,0 +1,117 @@
+// What is counted: 0 to 13 are answers by their number, and these.
+pub const TWO_OR_FOUR: usize = 14;
+
+pub const REFUSED: usize = 15;
+// Plus the departure's number; the place itself is "no departure".
+pub const DEPARTURES: usize = 16;
+
+pub const READINGS: usize = 23;
+
+pub const WRITINGS: usize = 24;
+
+pub const NOT_UNDERSTOOD: usize = 25;
+
+pub const DIFFER: usize = 26;
+
+// One more at that place, if there is such a place.
+pub fn count_one(counts: &mut [usize], i: usize) {
+    if i < counts.len() {
+        if counts[i] < usize::MAX {
+            counts[i] += 1;
+        }
+    }
+}
+
+fn count_departure(counts: &mut [usize], d: usize) {
+    if d <= 6 {
+        count_one(counts, DEPARTURES + d);
+    }
+}
+
+// The departures of a case, of which a list has n.
+pub fn count_departures(counts: &mut [usize], list: &[usize], n: usize) {
+    if n == 0 {
+        count_one(counts, DEPARTURES);
+        return;
+    }
+    let mut i = 0;
+    while i < n {
+        if list.len() <= i {
+            return;
+        }
+        count_departure(counts, list[i]);
+        i += 1;
+    }
+}
+
+// An answer by the numbers that may be given: one, 2 or 4, or any of a refusal of the Rust.
+pub fn count_answer(counts: &mut [usize], first: usize, n: usize) {
+    if n == 1 {
+        count_one(counts, first);
+    } else {
+        if n == 2 {
+            count_one(counts, TWO_OR_FOUR);
+        } else {
+            count_one(counts, REFUSED);
+        }
+    }
+}
+
+fn say(word: &[u8], n: usize) {
+    io::write_all(1, word);
+    io::print_decimal(1, n as u64);
+}
+
+fn say_line(word: &[u8], n: usize) {
+    say(word, n);
+    io::write_all(1, b"\n");
+}
+
+// How many cases of a source there were; the next source is counted from 0.
+pub fn say_source(title: &[u8], counts: &mut [usize]) {
+    io::write_all(1, title);
+    if WRITINGS < counts.len() {
+        say(b": ", counts[READINGS]);
+        say(b" readings, ", counts[WRITINGS]);
+        io::write_all(1, b" writings\n");
+        counts[READINGS] = 0;
+        counts[WRITINGS] = 0;
+    }
+}
+
+fn say_numbers(counts: &[usize]) {
+    let mut n = 0;
+    while n < 14 {
+        if counts.len() <= n {
+            return;
+        }
+        say(b"number ", n);
+        say_line(b": ", counts[n]);
+        n += 1;
+    }
+}
+
+fn say_departures(counts: &[usize]) {
+    let mut d = 1;
+    while d < 7 {
+        if counts.len() <= DEPARTURES + d {
+            return;
+        }
+        say(b"departure ", d);
+        say_line(b": ", counts[DEPARTURES + d]);
+        d += 1;
+    }
+}
+
+pub fn say_counts(counts: &[usize]) {
+    if counts.len() <= DIFFER {
+        return;
+    }
+    say_numbers(counts);
+    say_line(b"2 or 4: ", counts[TWO_OR_FOUR]);
+    say_line(b"2, 4, 5, 7, 8 or 9: ", counts[REFUSED]);
+    say_departures(counts);
+    say_line(b"no departure: ", counts[DEPARTURES]);
+    say_line(b"not understood: ", counts[NOT_UNDERSTOOD]);
+    say_line(b"differ: ", counts[DIFFER]);
+}

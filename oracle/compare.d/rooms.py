@@ -1,0 +1,49 @@
+"""A table in rooms, as crates/format/specs/Rooms.antt lays it out, and its head as the 31 numbers of crates/headnumbers."""
+import tables
+
+
+class Rooms:
+    """What a table leaves in each room, and its head."""
+
+    def __init__(self, t):
+        self.texts = b""
+        self.head = self.perhaps(t["name"]) + [0 if t["length"] is None else t["length"] + 1] + self.perhaps(t["molecule"])
+        self.head += [int(t["topology"] == "circular")] + self.always(t["division"]) + list(t["date"] or (0, 0, 0))
+        for k in tables.TEXTS:
+            self.head += self.perhaps(t[k])
+        self.references, self.comments, self.features, self.qualifiers = [], [], [], []
+        for r in t["references"]:
+            for k in tables.REFERENCE:
+                self.references += self.always(r[k]) if k in ("text", "title") else self.perhaps(r[k])
+        for c in t["comments"]:
+            self.comments += self.always(c)
+        for f in t["features"]:
+            self.features += self.always(f["kind"]) + self.always(f["location"]) + [len(self.qualifiers) // 4, len(f["qualifiers"])]
+            for key, value in f["qualifiers"]:
+                self.qualifiers += self.always(key) + self.perhaps(value)
+        self.head += [len(t["references"]), len(t["comments"]), len(t["features"])] + self.perhaps(t["contig"]) + [len(t["letters"])]
+        self.letters = t["letters"]
+
+    def always(self, text):
+        """Start and length of a text that is there."""
+        start = len(self.texts)
+        self.texts += text
+        return [start, len(text)]
+
+    def perhaps(self, text):
+        """Start and length plus one of a text that may be absent."""
+        if text is None:
+            return [0, 0]
+        start, n = self.always(text)
+        return [start, n + 1]
+
+    def rows(self):
+        return [self.references, self.comments, self.features, self.qualifiers]
+
+    def lengths(self):
+        """How long a room each part takes: bytes, and numbers of rows."""
+        return [len(self.texts)] + [len(r) for r in self.rows()] + [len(self.letters)]
+
+    def sizes(self):
+        """The sizes that come with number 6: bytes, rows, letters."""
+        return [n // w for n, w in zip(self.lengths(), (1, 14, 2, 6, 4, 1))]
