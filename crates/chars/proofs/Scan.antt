@@ -7,14 +7,14 @@ use mathlib.Core.List.{List, [], _∷_}
 use native.Mathlib.Numerals.{add-one, sub-one}
 use native.Mathlib.Nat.{add-zero, le-trans, not-suc-le-zero}
 use native.Mathlib.Omega.{arith}
-use borrow.Author.Tests.{lt-ltb, le-ltb, le-leb, lt-leb, eq-eqb, ne-eqb, eqb-true, eqb-false, leb-true, leb-false}
-use lib.Dec.{eqb, leb}
+use borrow.Author.Tests.{lt-ltb, le-ltb, le-leb, lt-leb, eq-eqb, ne-eqb, eqb-true, eqb-false, leb-true, leb-false, ltb-true, ltb-false, not-false}
+use lib.Dec.{eqb, leb, ltb}
 use lib.ListN.{length, getD, take, drop, drop-of-length-le}
 use lib.Seq.{drop-cons, drop-drop}
 use Rattle.format.specs.Bytes.{pick, some, spaces}
 use Rattle.format.specs.Readers.{Ans, Got, No, Cut, tag, push, until, until1, line, lineEnd, lineFeed}
 use Rattle.chars.specs.declared.Step.{Step}
-use Rattle.chars.specs.Places.{part, span, scan, Scanned, Passes, lineStop, stopAt, stopAfter}
+use Rattle.chars.specs.Places.{part, span, scan, Scanned, Passes, Spaced, Indented, lineStop, stopAt, stopAfter}
 use Rattle.chars.specs.Parts.{length-part, part-none}
 use Rattle.chars.specs.Views.{Texted}
 
@@ -300,3 +300,51 @@ module _ (s : List ℕ) (i : ℕ) (o : Ans Unit) where
   spaces-got (suc k) inv q = absurd (not-suc-le-zero q)
 
 pub ruleset spacing = (spaces-go, spaces-no, spaces-cut, spaces-got)
+
+-- ---- blocks of spaces
+
+pub spaced-none : (s : List ℕ) (at : ℕ) → Spaced s at 0 true
+spaced-none s at = record { go = λ e j h. absurd (not-suc-le-zero h) }
+
+pub spaced-one : (s : List ℕ) (at j : ℕ) (a b r : Bool) → Spaced s at j a → b ≡ eqb (getD s (at + j) 0) 32 → r ≡ a && b → Spaced s at (j + 1) r
+spaced-one s at j a b r w m k = record { go = λ e i h. go e i h (ltb i j) refl }
+  where
+    one : (a b : Bool) → a && b ≡ true → a ≡ true
+    one true b e = refl
+    one false b e = e
+
+    two : (a b : Bool) → a && b ≡ true → b ≡ true
+    two true b e = e
+    two false b e = cc
+
+    go : r ≡ true → (i : ℕ) → i < j + 1 → (x : Bool) → ltb i j ≡ x → getD s (at + i) 0 ≡ 32
+    go e i h true f = w .go (one a b (sym k ∙ e)) i (ltb-true i j f)
+    go e i h false f =
+        let g : i ≡ j = omega (arith, ltb-false i j f) in
+        rw g (eqb-true _ 32 (sym m ∙ two a b (sym k ∙ e)))
+
+module _ (s : List ℕ) where
+  -- n spaces, each known
+  spaces-all : (n i : ℕ) → i + n ≤ length s → ((j : ℕ) → j < n → getD s (i + j) 0 ≡ 32) → tag (spaces n) (drop i s) ≡ Got tt (drop (i + n) s)
+  unfolding tag
+  spaces-all zero i h k = rw (add-zero i)
+  spaces-all (suc n) i h k =
+      let e : getD s i 0 ≡ 32 = rw (add-zero i) at (k 0 (omega arith)) in
+      let f : i + 1 + n ≡ i + suc n = omega arith in
+      let next : (j : ℕ) → j < n → getD s (i + 1 + j) 0 ≡ 32 = λ j h. let g : i + 1 + j ≡ i + suc j = omega arith in rw g (k (suc j) (omega arith)) in
+      let d : suc n - 1 ≡ n = omega arith in
+      rw d at (spaces-go s i (tag (spaces (suc n)) (drop i s)) (suc n) refl (omega arith) (omega arith) e) ∙ rw f at (spaces-all n (i + 1) (omega arith) next)
+
+  -- the first 16 and the last 16 of n
+  pub both-ends : (at n : ℕ) (a r : Bool) → 16 ≤ n → n ≤ 32 → at + n ≤ length s → Spaced s at 16 a → not a ≡ false → Spaced s (at + (n - 16)) 16 r → Indented s at n r
+  both-ends at n a r h k l x p y = record { go = λ e. sym (spaces-all n at l (λ j m. each e j m (ltb j 16) refl)); within = λ e. l }
+    where
+      each : r ≡ true → (j : ℕ) → j < n → (q : Bool) → ltb j 16 ≡ q → getD s (at + j) 0 ≡ 32
+      each e j m true f = x .go (not-false a p) j (ltb-true j 16 f)
+      each e j m false f =
+          let o : j - (n - 16) < 16 = omega (arith, ltb-false j 16 f) in
+          let g : at + (n - 16) + (j - (n - 16)) ≡ at + j = omega (arith, ltb-false j 16 f) in
+          rw g at (y .go e (j - (n - 16)) o)
+
+pub unindented : (s : List ℕ) (at n : ℕ) → Indented s at n false
+unindented s at n = record { go = λ e. cc; within = λ e. let z : _≡_ {A = ℕ} 0 1 = cc in absurd (omega arith) }

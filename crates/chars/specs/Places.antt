@@ -1,11 +1,12 @@
 -- Where a scan over a slice stops: at the first byte that passes a test, or at the slice's end.
-use Prim.Native.Nat.{ℕ, suc, _+_, _-_, _≤_}
+use Prim.Native.Nat.{ℕ, suc, _+_, _-_, _≤_, _<_}
 use mathlib.Core.Path.{_≡_}
 use mathlib.Core.Bool.{Bool, true, false, _||_}
 use mathlib.Core.List.{List, [], _∷_}
-use lib.ListN.{length, take, drop}
+use lib.ListN.{length, take, drop, getD}
 use lib.Dec.{eqb, leb}
-use Rattle.format.specs.Bytes.{pick}
+use Rattle.format.specs.Bytes.{pick, spaces}
+use Rattle.format.specs.Readers.{Got, tag}
 use Rattle.chars.specs.declared.Step.{Step}
 use Rattle.chars.specs.declared.Step.the-variants as step
 
@@ -34,6 +35,15 @@ lineStop b = eqb b 10 || eqb b 13
 -- r holds only where the n bytes from `at` on are all passed by
 pub record Passes (p : ℕ → Bool) (s : List ℕ) (at n : ℕ) (r : Bool) : Type 0 where
   pub go : r ≡ true → scan p s at ≡ scan p s (at + n)
+
+-- r holds only where the n bytes from `at` on are spaces
+pub record Spaced (s : List ℕ) (at n : ℕ) (r : Bool) : Type 0 where
+  pub go : r ≡ true → (j : ℕ) → j < n → getD s (at + j) 0 ≡ 32
+
+-- the same, as the tag of that many spaces
+pub record Indented (s : List ℕ) (at n : ℕ) (r : Bool) : Type 0 where
+  pub go : r ≡ true → Got tt (drop (at + n) s) ≡ tag (spaces n) (drop at s)
+  pub within : r ≡ true → at + n ≤ length s
 
 -- a stop at e, in n bytes; and one that must have passed a byte from `at` on
 abbrev pub stopAt : ℕ → ℕ → Step

@@ -6,7 +6,7 @@ ghost use lib.ListN.{length, drop};
 ghost use Rattle.format.specs.Bytes.{spaces, between, visible, digit, letter, blank, notBlank, space, but};
 ghost use Rattle.format.specs.Readers.{tag, until, until1, spaces1, line, lineEnd};
 ghost use Rattle.format.specs.Features.{keyEnd};
-ghost use Rattle.chars.specs.Places.{Scanned, Passes, lineStop, stopAt, stopAfter};
+ghost use Rattle.chars.specs.Places.{Scanned, Passes, Spaced, Indented, lineStop, stopAt, stopAfter};
 ghost use Rattle.chars.specs.Views.{Stepped, Texted, Emptied, Lined};
 
 // The place after what was read; or no, or that the slice ended before that was clear.
@@ -109,8 +109,49 @@ pub fn tag(s: &[u8], at: usize, word: &[u8]) -> Step
     Step::Got(i)
 }
 
-// `n` spaces.
-pub fn indent(s: &[u8], at: usize, n: usize) -> Step
+// Both, without a branch: the compiler then tests many bytes at once.
+fn both(a: bool, b: bool) -> bool
+    ensures { λ r. ⌜ r ≡ a && b ⌝ }
+{
+    if a { b } else { false }
+}
+
+// Whether the 16 bytes at a place are spaces.
+fn sixteen_spaces(s: &[u8], at: usize) -> bool
+    requires { ⌜ at + 16 ≤ length (now s) ⌝ }
+    ensures { λ r. ⌜ Spaced (now (s .entry)) at 16 r ⌝ }
+{
+    let mut ok = true;
+    let mut j = 0;
+    while j < 16 {
+        ok = both(ok, is_space(s[at + j]));
+        j += 1;
+    }
+    ok
+}
+
+// Whether `n` spaces stand there, where n is 16 to 32: the first 16 of them and the last 16. False says nothing.
+fn wide_indent(s: &[u8], at: usize, n: usize) -> bool
+    requires { ⌜ at ≤ length (now s) ⌝ }
+    ensures { λ r. ⌜ Indented (now (s .entry)) at n r ⌝ }
+{
+    if n < 16 {
+        return false;
+    }
+    if 32 < n {
+        return false;
+    }
+    if s.len() - at < n {
+        return false;
+    }
+    if !sixteen_spaces(s, at) {
+        return false;
+    }
+    sixteen_spaces(s, at + (n - 16))
+}
+
+// `n` spaces, byte by byte.
+fn each_space(s: &[u8], at: usize, n: usize) -> Step
     requires { ⌜ at ≤ length (now s) ⌝ }
     ensures { λ r. ⌜ Stepped (now (s .entry)) at (tag (spaces n) (drop at (now (s .entry)))) r ⌝ }
 {
@@ -127,6 +168,17 @@ pub fn indent(s: &[u8], at: usize, n: usize) -> Step
         left -= 1;
     }
     Step::Got(i)
+}
+
+// `n` spaces.
+pub fn indent(s: &[u8], at: usize, n: usize) -> Step
+    requires { ⌜ at ≤ length (now s) ⌝ }
+    ensures { λ r. ⌜ Stepped (now (s .entry)) at (tag (spaces n) (drop at (now (s .entry)))) r ⌝ }
+{
+    if wide_indent(s, at, n) {
+        return Step::Got(at + n);
+    }
+    each_space(s, at, n)
 }
 
 // ---- runs of bytes
@@ -277,13 +329,6 @@ pub fn line_end(s: &[u8], at: usize) -> Step
         return Step::Got(n + 1);
     }
     Step::No
-}
-
-// Both, without a branch: the compiler then tests many bytes at once.
-fn both(a: bool, b: bool) -> bool
-    ensures { λ r. ⌜ r ≡ a && b ⌝ }
-{
-    if a { b } else { false }
 }
 
 // Whether none of the 32 bytes from `at` on ends a line.

@@ -1,11 +1,11 @@
 -- What the functions over the letters promise, and the laws by which a run of bytes adds its letters.
-use Prim.Native.Nat.{ℕ, suc, _+_, _≤_}
+use Prim.Native.Nat.{ℕ, zero, suc, _+_, _≤_}
 use mathlib.Core.Path.{_≡_, refl, sym, ap, _∙_}
-use mathlib.Core.Bool.{Bool, true, false}
+use mathlib.Core.Bool.{Bool, true, false, _&&_}
 use mathlib.Core.List.{List, [], _∷_, _++_, append-assoc}
 use native.Mathlib.Omega.{arith}
 use lib.Dec.{eqb}
-use lib.ListN.{length, take, drop}
+use lib.ListN.{length, take, drop, getD}
 use Rattle.format.specs.Bytes.{letter}
 use Rattle.format.specs.Origin.{Letters, AtSlash, AtEnd, Bad, keep, skipped, letters}
 use Rattle.letters.specs.declared.Counted.{Counted}
@@ -137,6 +137,19 @@ count-bad s e = go (letters s) e
     go (AtSlash l q) f = let z : _≡_ {A = ℕ} 0 1 = cc in absurd (omega arith)
     go (AtEnd l) f = let z : _≡_ {A = ℕ} 0 1 = cc in absurd (omega arith)
     go Bad f = refl
+
+abbrev pub one : Bool → ℕ
+one true = 1
+one false = 0
+
+-- how many of the n bytes at a place are letters
+unfoldable pub lettersIn : List ℕ → ℕ → ℕ → ℕ
+lettersIn s at zero = 0
+lettersIn s at (suc n) = lettersIn s at n + one (letter (getD s (at + n) 0))
+
+-- spaces before three groups of ten
+abbrev pub spaced : List ℕ → ℕ → Bool
+spaced s at = eqb (getD s at 0) 32 && (eqb (getD s (at + 11) 0) 32 && eqb (getD s (at + 22) 0) 32)
 
 -- the ten letters after a byte, three such groups, and the six of a line
 abbrev pub ten : List ℕ → ℕ → List ℕ

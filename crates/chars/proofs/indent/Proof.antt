@@ -1,59 +1,24 @@
 -- `chars::indent` meets its contract. Assumes nothing.
-use Prim.Native.Nat.{_≤_}
-use mathlib.Core.Path.{_≡_}
-use lib.ListN.{length, drop}
+use native.Mathlib.Omega.{arith}
 use borrow.Author.Needs.{needs}
-use Rattle.format.specs.Bytes.{spaces}
-use Rattle.format.specs.Readers.{tag}
-use Rattle.chars.proofs.Scan.{spacing}
 use Rattle.chars.proofs.indent.Statement.{statement}
 use Rattle.chars.proofs.indent.Tie as tie
 
-abbrev Inv-loop : tie.InvT-loop
-Inv-loop s at n i₀ left₀ i left = (at ≤ i) × (i ≤ length s) × (tag (spaces n) (drop at s) ≡ tag (spaces left) (drop i s))
+wide-indent-requires : tie.Need-wide-indent-requires
+wide-indent-requires c κs = search needs
 
-abbrev μ-loop : tie.MeasureT-loop
-μ-loop s at n i₀ left₀ i left = left
+add-t5 : tie.Need-add-t5
+add-t5 c = omega (arith, c .before .wide-indent .ensures .within (c .if1 .taken))
 
-loop-holds : tie.Need-loop-holds Inv-loop μ-loop
-loop-holds c = search (spacing, needs)
+returns : tie.Need-returns
+returns c = record { is = c .before .wide-indent .ensures .go (c .if1 .taken); place = (omega arith, c .before .wide-indent .ensures .within (c .if1 .taken)) }
 
-returns : tie.Need-returns Inv-loop μ-loop
-returns c = search (spacing, needs)
+each-space-requires : tie.Need-each-space-requires
+each-space-requires c κs = search needs
 
-shared-slice-read-if2 : tie.Need-shared-slice-read-if2 Inv-loop μ-loop
-shared-slice-read-if2 c = search (spacing, needs)
-
-returns-2 : tie.Need-returns-2 Inv-loop μ-loop
-returns-2 c = search (spacing, needs)
-
-add-i : tie.Need-add-i Inv-loop μ-loop
-add-i c = search (spacing, needs)
-
-sub-left : tie.Need-sub-left Inv-loop μ-loop
-sub-left c = search (spacing, needs)
-
-loop-less : tie.Need-loop-less Inv-loop μ-loop
-loop-less c = search (spacing, needs)
-
-loop-again : tie.Need-loop-again Inv-loop μ-loop
-loop-again c = search (spacing, needs)
-
-returns-3 : tie.Need-returns-3 Inv-loop μ-loop
-returns-3 c = search (spacing, needs)
+returns-2 : tie.Need-returns-2
+returns-2 c = search needs
 
 pub indent-spec : {M : Type 1} → statement M
 indent-spec =
-    tie.close
-    (tie.spec
-    Inv-loop
-    μ-loop
-    loop-holds
-    returns
-    shared-slice-read-if2
-    returns-2
-    add-i
-    sub-left
-    loop-less
-    loop-again
-    returns-3)
+    tie.close (tie.spec wide-indent-requires add-t5 returns each-space-requires returns-2)

@@ -1,14 +1,12 @@
 -- `letters::count_letters` meets its contract. The invariant: the answer of the whole is the answer from here. Assumes nothing.
-use borrow.Author.Tests.{not-false}
-use Rattle.format.specs.Origin.{letters}
-use Rattle.letters.specs.Runs.{tally, plus, sixtyOf}
-use Rattle.letters.proofs.Passing.{count-run, counts-from, plus-none, length-sixty}
 use Prim.Native.Nat.{_+_, _-_, _≤_}
 use mathlib.Core.Path.{_≡_}
 use lib.ListN.{length, drop}
 use native.Mathlib.Omega.{arith}
 use borrow.Author.Needs.{needs}
-use denote.Ref.{now}
+use Rattle.format.specs.Origin.{letters}
+use Rattle.letters.specs.Runs.{tally, plus}
+use Rattle.letters.proofs.Passing.{count-sixty, count-feed, counts-from, plus-none}
 use Rattle.letters.proofs.count_letters.Statement.{statement}
 use Rattle.letters.proofs.count_letters.Tie as tie
 
@@ -27,12 +25,6 @@ sub-loop c = search needs
 usual-requires : tie.Need-usual-requires Inv-loop μ-loop
 usual-requires c κs = search needs
 
-count-from-requires : tie.Need-count-from-requires Inv-loop μ-loop
-count-from-requires c κs = search needs
-
-returns : tie.Need-returns Inv-loop μ-loop
-returns c = counts-from _ _ _ _ _ _ (omega arith) (c .before .before .before .before .loop .inv .3) (c .count-from .ensures)
-
 add-k : tie.Need-add-k Inv-loop μ-loop
 add-k c = search needs
 
@@ -43,7 +35,25 @@ loop-less : tie.Need-loop-less Inv-loop μ-loop
 loop-less c = search needs
 
 loop-again : tie.Need-loop-again Inv-loop μ-loop
-loop-again c = (omega arith, omega arith, omega arith, let e : length (sixtyOf (now (c .before .before .before .before .before .args .s)) (c .before .before .before .loop .i)) ≡ 60 = length-sixty (now (c .before .before .before .before .before .args .s)) (c .before .before .before .loop .i) (omega arith) in rw e at (count-run _ _ _ _ _ _ (c .before .usual .ensures .go (not-false _ (c .if1 .left))) (c .before .before .before .loop .inv .3)))
+loop-again c = (omega arith, omega arith, omega arith, count-sixty _ _ _ _ (omega arith) (c .before .usual .ensures .go (c .if1 .taken)) (c .before .before .before .loop .inv .3))
+
+shared-slice-read-if2 : tie.Need-shared-slice-read-if2 Inv-loop μ-loop
+shared-slice-read-if2 c = search needs
+
+count-from-requires : tie.Need-count-from-requires Inv-loop μ-loop
+count-from-requires c κs = search needs
+
+returns : tie.Need-returns Inv-loop μ-loop
+returns c = counts-from _ _ _ _ _ _ (omega arith) (c .before .before .before .before .before .before .loop .inv .3) (c .count-from .ensures)
+
+add-i-2 : tie.Need-add-i-2 Inv-loop μ-loop
+add-i-2 c = search needs
+
+loop-less-2 : tie.Need-loop-less-2 Inv-loop μ-loop
+loop-less-2 c = search needs
+
+loop-again-2 : tie.Need-loop-again-2 Inv-loop μ-loop
+loop-again-2 c = (omega arith, omega arith, omega arith, count-feed (c .before .before .before .before .before .before .before .args .s .now) (c .before .before .before .before .before .loop .i) _ _ (c .before .before .before .before .before .loop .inv .3) (omega arith) (c .if2 .left))
 
 count-from-requires-2 : tie.Need-count-from-requires-2 Inv-loop μ-loop
 count-from-requires-2 c κs = search needs
@@ -60,11 +70,15 @@ count-letters-spec =
     loop-holds
     sub-loop
     usual-requires
-    count-from-requires
-    returns
     add-k
     add-i
     loop-less
     loop-again
+    shared-slice-read-if2
+    count-from-requires
+    returns
+    add-i-2
+    loop-less-2
+    loop-again-2
     count-from-requires-2
     returns-2)
