@@ -14,7 +14,7 @@ ghost use Rattle.format.specs.Bytes.{all, some, visible, printing, letter, but,
 ghost use Rattle.format.specs.Features.{locationText, kindText};
 ghost use Rattle.format.specs.WellFormed.{kindFine, keyFine};
 ghost use Rattle.format.specs.Keeping.{spaceless, linesKept, headerKept, noLineEnd, noQuoteFirst, kindKept, noSlash, translationKept, bareKept, valueKept};
-ghost use Rattle.texts.specs.Words.{sameByte, Small, columnAfter};
+ghost use Rattle.texts.specs.Words.{sameByte, Passed, Small, columnAfter};
 
 // All bytes are 33 to 126.
 pub fn visible_all(s: &[u8]) -> bool
@@ -44,10 +44,26 @@ pub fn printing_all(s: &[u8]) -> bool
     true
 }
 
-pub fn letters_all(s: &[u8]) -> bool
-    ensures { λ r. ⌜ r ≡ all letter (now (s .entry)) ⌝ }
+// Whether the 32 bytes from `at` on are letters, without a branch: the compiler then tests many at once.
+fn letters_block(s: &[u8], at: usize) -> bool
+    requires { ⌜ at + 32 ≤ length (now s) ⌝ }
+    ensures { λ r. ⌜ Passed letter (now (s .entry)) at 32 r ⌝ }
 {
-    let mut i = 0;
+    let mut ok = true;
+    let mut j = 0;
+    while j < 32 {
+        ok = both(ok, is_letter(s[at + j]));
+        j += 1;
+    }
+    ok
+}
+
+// The bytes from `at` on are letters.
+fn letters_from(s: &[u8], at: usize) -> bool
+    requires { ⌜ at ≤ length (now s) ⌝ }
+    ensures { λ r. ⌜ r ≡ all letter (drop at (now (s .entry))) ⌝ }
+{
+    let mut i = at;
     while i < s.len() {
         if !is_letter(s[i]) {
             return false;
@@ -55,6 +71,19 @@ pub fn letters_all(s: &[u8]) -> bool
         i += 1;
     }
     true
+}
+
+pub fn letters_all(s: &[u8]) -> bool
+    ensures { λ r. ⌜ r ≡ all letter (now (s .entry)) ⌝ }
+{
+    let mut i = 0;
+    while 32 <= s.len() - i {
+        if !letters_block(s, i) {
+            return letters_from(s, i);
+        }
+        i += 32;
+    }
+    letters_from(s, i)
 }
 
 // No byte is c.
