@@ -1,6 +1,6 @@
 -- A test of every byte, made from the first to the last.
-use Prim.Native.Nat.{ℕ, zero, suc, _+_, _-_, _≤_, _<_}
-use mathlib.Core.Path.{_≡_, refl, sym, ap, _∙_}
+use Prim.Native.Nat.{ℕ, _+_, _-_, _≤_, _<_}
+use mathlib.Core.Path.{_≡_, refl, sym, _∙_}
 use mathlib.Core.Bool.{Bool, true, false, _&&_, not}
 use mathlib.Core.List.{List, [], _∷_}
 use native.Mathlib.Omega.{arith}
@@ -8,11 +8,10 @@ use native.Mathlib.Nat.{add-zero}
 use native.Mathlib.Numerals.{add-one}
 use lib.ListN.{length, getD, drop, drop-of-length-le}
 use lib.Seq.{drop-cons}
-use lib.Dec.{eqb, ltb, leb}
 use borrow.Author.Tests.{eq-eqb, ne-eqb, not-true, not-false}
 use Rattle.format.specs.Bytes.{pick, all, some, starts, but}
 use Rattle.table.specs.Steps.{and-left, and-right}
-use Rattle.texts.specs.Words.{sameByte, Passed}
+use Rattle.texts.specs.Words.{Passed}
 
 module _ (p : ℕ → Bool) (s : List ℕ) (i : ℕ) (whole : Bool) (g : whole ≡ all p (drop i s)) where
   pub all-go : i < length s → p (getD s i 0) ≡ true → whole ≡ all p (drop (i + 1) s)

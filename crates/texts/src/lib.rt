@@ -16,11 +16,26 @@ ghost use Rattle.format.specs.WellFormed.{kindFine, keyFine};
 ghost use Rattle.format.specs.Keeping.{spaceless, linesKept, headerKept, noLineEnd, noQuoteFirst, kindKept, noSlash, translationKept, bareKept, valueKept};
 ghost use Rattle.texts.specs.Words.{sameByte, Passed, Small, columnAfter};
 
-// All bytes are 33 to 126.
-pub fn visible_all(s: &[u8]) -> bool
-    ensures { λ r. ⌜ r ≡ all visible (now (s .entry)) ⌝ }
+// Whether the 8 bytes from `at` on are 33 to 126, without a branch: the compiler then tests them at once. Keys and kinds are short.
+fn visible_block(s: &[u8], at: usize) -> bool
+    requires { ⌜ at + 8 ≤ length (now s) ⌝ }
+    ensures { λ r. ⌜ Passed visible (now (s .entry)) at 8 r ⌝ }
 {
-    let mut i = 0;
+    let mut ok = true;
+    let mut j = 0;
+    while j < 8 {
+        ok = both(ok, is_visible(s[at + j]));
+        j += 1;
+    }
+    ok
+}
+
+// The bytes from `at` on are 33 to 126.
+fn visible_from(s: &[u8], at: usize) -> bool
+    requires { ⌜ at ≤ length (now s) ⌝ }
+    ensures { λ r. ⌜ r ≡ all visible (drop at (now (s .entry))) ⌝ }
+{
+    let mut i = at;
     while i < s.len() {
         if !is_visible(s[i]) {
             return false;
@@ -28,6 +43,20 @@ pub fn visible_all(s: &[u8]) -> bool
         i += 1;
     }
     true
+}
+
+// All bytes are 33 to 126.
+pub fn visible_all(s: &[u8]) -> bool
+    ensures { λ r. ⌜ r ≡ all visible (now (s .entry)) ⌝ }
+{
+    let mut i = 0;
+    while 8 <= s.len() - i {
+        if !visible_block(s, i) {
+            return visible_from(s, i);
+        }
+        i += 8;
+    }
+    visible_from(s, i)
 }
 
 // All bytes are 32 to 126.
@@ -86,11 +115,26 @@ pub fn letters_all(s: &[u8]) -> bool
     letters_from(s, i)
 }
 
-// No byte is c.
-pub fn without(s: &[u8], c: u8) -> bool
-    ensures { λ r. ⌜ r ≡ all (but c) (now (s .entry)) ⌝ }
+// Whether none of the 8 bytes from `at` on is c, without a branch.
+fn without_block(s: &[u8], at: usize, c: u8) -> bool
+    requires { ⌜ at + 8 ≤ length (now s) ⌝ }
+    ensures { λ r. ⌜ Passed (but c) (now (s .entry)) at 8 r ⌝ }
 {
-    let mut i = 0;
+    let mut ok = true;
+    let mut j = 0;
+    while j < 8 {
+        ok = both(ok, s[at + j] != c);
+        j += 1;
+    }
+    ok
+}
+
+// No byte from `at` on is c.
+fn without_from(s: &[u8], at: usize, c: u8) -> bool
+    requires { ⌜ at ≤ length (now s) ⌝ }
+    ensures { λ r. ⌜ r ≡ all (but c) (drop at (now (s .entry))) ⌝ }
+{
+    let mut i = at;
     while i < s.len() {
         if s[i] == c {
             return false;
@@ -98,6 +142,20 @@ pub fn without(s: &[u8], c: u8) -> bool
         i += 1;
     }
     true
+}
+
+// No byte is c.
+pub fn without(s: &[u8], c: u8) -> bool
+    ensures { λ r. ⌜ r ≡ all (but c) (now (s .entry)) ⌝ }
+{
+    let mut i = 0;
+    while 8 <= s.len() - i {
+        if !without_block(s, i, c) {
+            return without_from(s, i, c);
+        }
+        i += 8;
+    }
+    without_from(s, i, c)
 }
 
 // The first byte is c.
