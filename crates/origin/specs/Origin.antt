@@ -49,7 +49,7 @@ run (suc n) i (b ∷ t) h p q =
     (ap (λ (l : List ℕ). b ∷ l) (run n (suc i) t (omega arith) (λ s. omega arith) (omega arith)))
 
 -- ten letters from the start of a ten, or fewer
-ten : (n i : ℕ) (t : List ℕ) → 1 ≤ n → n ≤ 10 → n ≤ length t → i % 10 ≡ 0
+pub ten : (n i : ℕ) (t : List ℕ) → 1 ≤ n → n ≤ 10 → n ≤ length t → i % 10 ≡ 0
     → letterLines i t ≡ (lineStart i ++ tenStart i ++ take n t) ++ letterLines (i + n) (drop n t)
 unfolding letterLines
 ten zero i t a b h e = absurd (omega arith)

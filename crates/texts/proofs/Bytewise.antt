@@ -1,16 +1,17 @@
 -- A test of every byte, made from the first to the last.
-use Prim.Native.Nat.{ℕ, zero, suc, _+_, _-_, _≤_, _<_}
-use mathlib.Core.Path.{_≡_, refl, sym, ap, _∙_}
+use Prim.Native.Nat.{ℕ, _+_, _-_, _≤_, _<_}
+use mathlib.Core.Path.{_≡_, refl, sym, _∙_}
 use mathlib.Core.Bool.{Bool, true, false, _&&_, not}
 use mathlib.Core.List.{List, [], _∷_}
 use native.Mathlib.Omega.{arith}
+use native.Mathlib.Nat.{add-zero}
 use native.Mathlib.Numerals.{add-one}
 use lib.ListN.{length, getD, drop, drop-of-length-le}
 use lib.Seq.{drop-cons}
-use lib.Dec.{eqb, ltb, leb}
 use borrow.Author.Tests.{eq-eqb, ne-eqb, not-true, not-false}
 use Rattle.format.specs.Bytes.{pick, all, some, starts, but}
-use Rattle.texts.specs.Words.{sameByte}
+use Rattle.table.specs.Steps.{and-left, and-right}
+use Rattle.texts.specs.Words.{Passed}
 
 module _ (p : ℕ → Bool) (s : List ℕ) (i : ℕ) (whole : Bool) (g : whole ≡ all p (drop i s)) where
   pub all-go : i < length s → p (getD s i 0) ≡ true → whole ≡ all p (drop (i + 1) s)
@@ -21,6 +22,20 @@ module _ (p : ℕ → Bool) (s : List ℕ) (i : ℕ) (whole : Bool) (g : whole �
 
   pub all-end : length s ≤ i → true ≡ whole
   all-end l = sym (g ∙ rw (drop-of-length-le s l))
+
+-- a block that is tested byte by byte and passed whole
+module _ (p : ℕ → Bool) (s : List ℕ) (at : ℕ) where
+  pub passed-none : Passed p s at 0 true
+  passed-none = record { go = λ h. rw (add-zero at) }
+
+  pub passed-one : (j : ℕ) (a b r : Bool) → at + j < length s → Passed p s at j a → b ≡ p (getD s (at + j) 0) → r ≡ (a && b) → Passed p s at (j + 1) r
+  passed-one j a b r h w m k =
+      record {
+        go = λ e.
+            let f : at + j + 1 ≡ at + (j + 1) = omega arith in
+            let t : (a && b) ≡ true = sym k ∙ e in
+            rw (← f) (all-go p s (at + j) (all p (drop at s)) (w .go (and-left a b t)) h (sym m ∙ and-right a b t));
+      }
 
 -- a test that a function made
 pub passed : (a x : Bool) → a ≡ x → not a ≡ false → x ≡ true

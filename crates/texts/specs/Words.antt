@@ -1,14 +1,20 @@
 -- What the functions on texts answer, and the bounds under which no sum wraps.
-use Prim.Native.Nat.{ℕ, suc, _≤_}
-use mathlib.Core.Bool.{Bool, true, false, _&&_}
+use Prim.Native.Nat.{ℕ, suc, _+_, _≤_}
+use mathlib.Core.Path.{_≡_}
+use mathlib.Core.Bool.{Bool, true, _&&_}
 use mathlib.Core.List.{List, [], _∷_}
 use lib.Dec.{eqb, ltb}
-use Rattle.format.specs.Bytes.{pick, some}
+use lib.ListN.{drop}
+use Rattle.format.specs.Bytes.{pick, all, some}
 use Rattle.texts.specs.declared.Column.{Column}
 use Rattle.texts.specs.declared.Column.the-variants as column
 
 abbrev pub sameByte : ℕ → ℕ → Bool
 sameByte c b = eqb b c
+
+-- r holds only where the n bytes from `at` on all pass
+pub record Passed (p : ℕ → Bool) (s : List ℕ) (at n : ℕ) (r : Bool) : Type 0 where
+  pub go : r ≡ true → all p (drop at s) ≡ all p (drop (at + n) s)
 
 -- lengths of texts in a store and columns are far below the largest number
 pub record Small (indent start n : ℕ) : Type 0 where

@@ -14,13 +14,28 @@ ghost use Rattle.format.specs.Bytes.{all, some, visible, printing, letter, but,
 ghost use Rattle.format.specs.Features.{locationText, kindText};
 ghost use Rattle.format.specs.WellFormed.{kindFine, keyFine};
 ghost use Rattle.format.specs.Keeping.{spaceless, linesKept, headerKept, noLineEnd, noQuoteFirst, kindKept, noSlash, translationKept, bareKept, valueKept};
-ghost use Rattle.texts.specs.Words.{sameByte, Small, columnAfter};
+ghost use Rattle.texts.specs.Words.{sameByte, Passed, Small, columnAfter};
 
-// All bytes are 33 to 126.
-pub fn visible_all(s: &[u8]) -> bool
-    ensures { λ r. ⌜ r ≡ all visible (now (s .entry)) ⌝ }
+// Whether the 8 bytes from `at` on are 33 to 126, without a branch: the compiler then tests them at once. Keys and kinds are short.
+fn visible_block(s: &[u8], at: usize) -> bool
+    requires { ⌜ at + 8 ≤ length (now s) ⌝ }
+    ensures { λ r. ⌜ Passed visible (now (s .entry)) at 8 r ⌝ }
 {
-    let mut i = 0;
+    let mut ok = true;
+    let mut j = 0;
+    while j < 8 {
+        ok = both(ok, is_visible(s[at + j]));
+        j += 1;
+    }
+    ok
+}
+
+// The bytes from `at` on are 33 to 126.
+fn visible_from(s: &[u8], at: usize) -> bool
+    requires { ⌜ at ≤ length (now s) ⌝ }
+    ensures { λ r. ⌜ r ≡ all visible (drop at (now (s .entry))) ⌝ }
+{
+    let mut i = at;
     while i < s.len() {
         if !is_visible(s[i]) {
             return false;
@@ -28,6 +43,20 @@ pub fn visible_all(s: &[u8]) -> bool
         i += 1;
     }
     true
+}
+
+// All bytes are 33 to 126.
+pub fn visible_all(s: &[u8]) -> bool
+    ensures { λ r. ⌜ r ≡ all visible (now (s .entry)) ⌝ }
+{
+    let mut i = 0;
+    while 8 <= s.len() - i {
+        if !visible_block(s, i) {
+            return visible_from(s, i);
+        }
+        i += 8;
+    }
+    visible_from(s, i)
 }
 
 // All bytes are 32 to 126.
@@ -44,12 +73,70 @@ pub fn printing_all(s: &[u8]) -> bool
     true
 }
 
+// Whether the 32 bytes from `at` on are letters, without a branch: the compiler then tests many at once.
+fn letters_block(s: &[u8], at: usize) -> bool
+    requires { ⌜ at + 32 ≤ length (now s) ⌝ }
+    ensures { λ r. ⌜ Passed letter (now (s .entry)) at 32 r ⌝ }
+{
+    let mut ok = true;
+    let mut j = 0;
+    while j < 32 {
+        ok = both(ok, is_letter(s[at + j]));
+        j += 1;
+    }
+    ok
+}
+
+// The bytes from `at` on are letters.
+fn letters_from(s: &[u8], at: usize) -> bool
+    requires { ⌜ at ≤ length (now s) ⌝ }
+    ensures { λ r. ⌜ r ≡ all letter (drop at (now (s .entry))) ⌝ }
+{
+    let mut i = at;
+    while i < s.len() {
+        if !is_letter(s[i]) {
+            return false;
+        }
+        i += 1;
+    }
+    true
+}
+
 pub fn letters_all(s: &[u8]) -> bool
     ensures { λ r. ⌜ r ≡ all letter (now (s .entry)) ⌝ }
 {
     let mut i = 0;
+    while 32 <= s.len() - i {
+        if !letters_block(s, i) {
+            return letters_from(s, i);
+        }
+        i += 32;
+    }
+    letters_from(s, i)
+}
+
+// Whether none of the 8 bytes from `at` on is c, without a branch.
+fn without_block(s: &[u8], at: usize, c: u8) -> bool
+    requires { ⌜ at + 8 ≤ length (now s) ⌝ }
+    ensures { λ r. ⌜ Passed (but c) (now (s .entry)) at 8 r ⌝ }
+{
+    let mut ok = true;
+    let mut j = 0;
+    while j < 8 {
+        ok = both(ok, s[at + j] != c);
+        j += 1;
+    }
+    ok
+}
+
+// No byte from `at` on is c.
+fn without_from(s: &[u8], at: usize, c: u8) -> bool
+    requires { ⌜ at ≤ length (now s) ⌝ }
+    ensures { λ r. ⌜ r ≡ all (but c) (drop at (now (s .entry))) ⌝ }
+{
+    let mut i = at;
     while i < s.len() {
-        if !is_letter(s[i]) {
+        if s[i] == c {
             return false;
         }
         i += 1;
@@ -62,13 +149,13 @@ pub fn without(s: &[u8], c: u8) -> bool
     ensures { λ r. ⌜ r ≡ all (but c) (now (s .entry)) ⌝ }
 {
     let mut i = 0;
-    while i < s.len() {
-        if s[i] == c {
-            return false;
+    while 8 <= s.len() - i {
+        if !without_block(s, i, c) {
+            return without_from(s, i, c);
         }
-        i += 1;
+        i += 8;
     }
-    true
+    without_from(s, i, c)
 }
 
 // The first byte is c.

@@ -7,7 +7,7 @@ use mathlib.Core.List.{List, [], _∷_, _++_, append-assoc}
 use lib.Dec.{ltb, eqb}
 use lib.ListN.{length, getD, take, drop, length-drop, drop-of-length-le}
 use lib.Seq.{take-all, drop-drop}
-use borrow.Author.Tests.{lt-ltb, le-ltb, ne-eqb, eq-eqb, eqb-true, ltb-true, ltb-false}
+use borrow.Author.Tests.{lt-ltb, le-ltb, eq-eqb, eqb-true, ltb-true, ltb-false}
 use Rattle.format.specs.Bytes.{pick, spaces}
 use Rattle.format.specs.Wrap.{lineText, lineRest, fill, closing, linesAfter, wrapped}
 use Rattle.pen.specs.Pen.{Writes, Left, left-start, left-step, left-as, left-end, writes-then}
@@ -32,15 +32,6 @@ escape-plain [] h = refl
 escape-plain (b ∷ t) h =
     cases (eqb b 34) (λ e. let z : true ≡ false = rw (e, quoted) at h in absurd (let y : _≡_ {A = ℕ} 0 1 = cc in omega arith))
     (λ e. rw e (ap (λ (l : List ℕ). b ∷ l) (escape-plain t (rw (e, quoted) at h))))
-
-pub quoted-turn : (t : List ℕ) (i : ℕ) → i < length t → (getD t i 0 ≡ 34 → ⊥) → quoted (drop i t) ≡ quoted (drop (i + 1) t)
-quoted-turn t i h n = rw (drop-more t i h, ne-eqb (getD t i 0) 34 n, quoted)
-
-pub quoted-found : (t : List ℕ) (i : ℕ) → i < length t → getD t i 0 ≡ 34 → quoted (drop i t) ≡ true
-quoted-found t i h e = rw (drop-more t i h, eq-eqb (getD t i 0) 34 e, quoted)
-
-pub quoted-none : (t : List ℕ) (i : ℕ) → length t ≤ i → quoted (drop i t) ≡ false
-quoted-none t i h = rw (drop-of-length-le t h)
 
 -- ---- the end of a text
 -- the same order is the same test

@@ -3,13 +3,15 @@ use pen::put_byte;
 use pen::put_bytes;
 use pen::put_spaces;
 ghost use mathlib.Core.Path.{_≡_};
+ghost use mathlib.Core.Bool.{true};
 ghost use mathlib.Core.List.{[], _∷_, _++_};
 ghost use Prim.Native.Nat.{_+_, _≤_, _<_};
-ghost use lib.Dec.{ltb};
+ghost use lib.Dec.{ltb, eqb};
 ghost use lib.ListN.{length};
-ghost use Rattle.format.specs.Bytes.{spaces};
+ghost use Rattle.format.specs.Bytes.{pick, spaces};
 ghost use Rattle.format.specs.Wrap.{wrapped};
 ghost use Rattle.pen.specs.Pen.{Writes};
+ghost use Rattle.wrap.specs.Plain.{stillPlain, plainTo, LastTo};
 ghost use Rattle.wrap.specs.Line.{Breaks, Columns, LastSpace, stops, full, shown, escape, quoted, closed};
 
 // Where a line ends in its text, and where the next one starts.
@@ -84,8 +86,8 @@ fn full(b: u8, i: usize, space: usize) -> Break
     }
 }
 
-// The first line of the text, where `taken` columns are taken.
-fn line_break(text: &[u8], taken: usize, width: usize, quote: bool) -> Break
+// The first line of the text, where `taken` columns are taken, byte by byte.
+fn line_scan(text: &[u8], taken: usize, width: usize, quote: bool) -> Break
     requires { ⌜ (length (now text) ≤ 16777216) × (taken ≤ 33554432) ⌝ }
     ensures { λ r. ⌜ Breaks quote width taken (now (text .entry)) r ⌝ }
 {
@@ -109,6 +111,73 @@ fn line_break(text: &[u8], taken: usize, width: usize, quote: bool) -> Break
         i += 1;
     }
     Break { end: i, next: i }
+}
+
+// What was plain before b is plain with it.
+fn still_plain(ok: bool, b: u8) -> bool
+    ensures { λ r. ⌜ r ≡ stillPlain ok b ⌝ }
+{
+    if b == 10 {
+        return false;
+    }
+    if b == 34 {
+        return false;
+    }
+    ok
+}
+
+// Whether the first n bytes hold neither LF nor quote, without a branch: the compiler then tests many at once.
+fn plain_to(text: &[u8], n: usize) -> bool
+    requires { ⌜ n ≤ length (now text) ⌝ }
+    ensures { λ r. ⌜ r ≡ plainTo n (now (text .entry)) ⌝ }
+{
+    let mut ok = true;
+    let mut j = 0;
+    while j < n {
+        ok = still_plain(ok, text[j]);
+        j += 1;
+    }
+    ok
+}
+
+// The place after the last space among the first n bytes, 0 where there is none.
+fn last_to(text: &[u8], n: usize) -> usize
+    requires { ⌜ n ≤ length (now text) ⌝ }
+    ensures { λ r. ⌜ LastTo n (now (text .entry)) r ⌝ }
+{
+    let mut i = n;
+    while 0 < i {
+        if text[i - 1] == 32 {
+            return i;
+        }
+        i -= 1;
+    }
+    0
+}
+
+// The first line of the text, where `taken` columns are taken. Most lines are plain and need no scan.
+fn line_break(text: &[u8], taken: usize, width: usize, quote: bool) -> Break
+    requires { ⌜ (length (now text) ≤ 16777216) × (taken ≤ 33554432) ⌝ }
+    ensures { λ r. ⌜ Breaks quote width taken (now (text .entry)) r ⌝ }
+{
+    if width < taken {
+        return line_scan(text, taken, width, quote);
+    }
+    let room = width - taken;
+    let n = text.len();
+    if n <= room {
+        if plain_to(text, n) {
+            return Break { end: n, next: n };
+        }
+        return line_scan(text, taken, width, quote);
+    }
+    if text[room] < 128 {
+        if plain_to(text, room) {
+            return full(text[room], room, last_to(text, room));
+        }
+        return line_scan(text, taken, width, quote);
+    }
+    line_scan(text, taken, width, quote)
 }
 
 // A byte, a quote twice where quotes are doubled.
@@ -136,18 +205,23 @@ fn put_each_shown(out: &mut [u8], at: usize, line: &[u8], quote: bool) -> usize
     p
 }
 
-// Whether a line holds a quote.
+fn or_quote(hit: bool, b: u8) -> bool
+    ensures { λ r. ⌜ r ≡ pick (eqb b 34) true hit ⌝ }
+{
+    if b == 34 { true } else { hit }
+}
+
+// Whether a line holds a quote, without a branch.
 fn quoted(line: &[u8]) -> bool
     ensures { λ r. ⌜ r ≡ quoted (now (line .entry)) ⌝ }
 {
+    let mut hit = false;
     let mut i = 0;
     while i < line.len() {
-        if line[i] == 34 {
-            return true;
-        }
+        hit = or_quote(hit, line[i]);
         i += 1;
     }
-    false
+    hit
 }
 
 // A line as it is written: most hold no quote and go as they are.

@@ -1,67 +1,67 @@
 -- `origin::put_letters` meets its contract.
-use mathlib.Core.Path.{_≡_, refl}
-use Prim.Native.Nat.{_-_, _%_, _≤_, _<_}
-use lib.ListN.{length, drop}
-use Rattle.pen.specs.Pen.{Left, left-start}
-use Rattle.format.specs.Write.{letterLines}
-use Rattle.origin.specs.Origin.{origin-turn, origin-done, ten-next}
-use native.Mathlib.Omega.{arith}
+use Rattle.pen.specs.Pen.{writes-past-all}
+use Rattle.origin.specs.Measure.{letters-measured}
 use borrow.Author.Needs.{needs}
 use Rattle.origin.proofs.put_letters.Statement.{statement}
 use Rattle.origin.proofs.put_letters.Tie as tie
 
-abbrev Inv-loop : tie.InvT-loop
-Inv-loop out₀ at letters p₀ i₀ out p i =
-    (i ≤ length letters) × (i < length letters → i % 10 ≡ 0) × (length out ≡ length out₀)
-    × Left out₀ at (letterLines 0 letters) out p (letterLines i (drop i letters))
+letters-length-requires : tie.Need-letters-length-requires
+letters-length-requires c κs = search needs
 
-abbrev μ-loop : tie.MeasureT-loop
-μ-loop out₀ at letters p₀ i₀ out p i = length letters - i
+sub-if2 : tie.Need-sub-if2
+sub-if2 c = search needs
 
-loop-holds : tie.Need-loop-holds Inv-loop μ-loop
-loop-holds c = (search needs, (λ h. refl), refl, left-start)
+add-result : tie.Need-add-result
+add-result c = search needs
 
-put-mark-requires : tie.Need-put-mark-requires Inv-loop μ-loop
-put-mark-requires c κs = search needs
+returns : tie.Need-returns
+returns c = rw (c .before .before .letters-length .ensures, ← (letters-measured _ (c .before .before .before .before .before .pre))) (writes-past-all (c .before .if1 .taken))
 
-ten-end-requires : tie.Need-ten-end-requires Inv-loop μ-loop
-ten-end-requires c κs = search needs
+put-tens-requires : tie.Need-put-tens-requires
+put-tens-requires c κs = search needs
 
-put-part-requires : tie.Need-put-part-requires Inv-loop μ-loop
-put-part-requires c κs = (omega (arith, c .before .ten-end .ensures .some), c .before .ten-end .ensures .inside)
-
-loop-less : tie.Need-loop-less Inv-loop μ-loop
-loop-less c = omega (arith, c .before .before .before .before .ten-end .ensures .some, c .before .before .before .before .ten-end .ensures .inside)
-
-loop-again : tie.Need-loop-again Inv-loop μ-loop
-loop-again c = (
-  c .before .before .before .before .ten-end .ensures .inside,
-  (λ h. ten-next _ _ _ (c .before .before .before .before .before .before .before .before .before .before .loop .inv .1 (c .before .before .before .before .before .before .before .before .before .loop-test .taken)) (c .before .before .before .before .ten-end .ensures) h),
-  search needs,
-  origin-turn _ _ (c .before .before .before .before .before .before .before .before .before .before .loop .inv .3) (c .before .before .before .before .before .before .before .before .before .loop-test .taken) (c .before .before .before .before .before .before .before .before .before .before .loop .inv .1 (c .before .before .before .before .before .before .before .before .before .loop-test .taken)) (c .before .before .before .before .ten-end .ensures) (c .before .before .before .before .before .before .before .put-mark .ensures) (c .before .before .put-part .ensures),
-)
-
-put-byte-requires : tie.Need-put-byte-requires Inv-loop μ-loop
-put-byte-requires c κs = search needs
-
-same-length : tie.Need-same-length Inv-loop μ-loop
+same-length : tie.Need-same-length
 same-length c = search needs
 
-returns : tie.Need-returns Inv-loop μ-loop
-returns c = origin-done _ _ (c .before .before .before .before .before .loop .inv .3) (c .before .before .before .before .loop-test .left) (c .before .before .put-byte .ensures)
+returns-2 : tie.Need-returns-2
+returns-2 c = search needs
+
+put-lines-requires : tie.Need-put-lines-requires
+put-lines-requires c κs = search needs
+
+mul-put-tens : tie.Need-mul-put-tens
+mul-put-tens c = search needs
+
+add-put-tens : tie.Need-add-put-tens
+add-put-tens c = search needs
+
+mul-put-tens-2 : tie.Need-mul-put-tens-2
+mul-put-tens-2 c = search needs
+
+put-tens-requires-2 : tie.Need-put-tens-requires-2
+put-tens-requires-2 c κs = search needs
+
+same-length-2 : tie.Need-same-length-2
+same-length-2 c = search needs
+
+returns-3 : tie.Need-returns-3
+returns-3 c = c .before .before .before .before .before .before .put-lines .ensures .left .by _ _ (c .before .before .put-tens2 .ensures)
 
 pub put-letters-spec : {M : Type 1} → statement M
 put-letters-spec =
     tie.close
     (tie.spec
-    Inv-loop
-    μ-loop
-    loop-holds
-    put-mark-requires
-    ten-end-requires
-    put-part-requires
-    loop-less
-    loop-again
-    put-byte-requires
+    letters-length-requires
+    sub-if2
+    add-result
+    returns
+    put-tens-requires
     same-length
-    returns)
+    returns-2
+    put-lines-requires
+    mul-put-tens
+    add-put-tens
+    mul-put-tens-2
+    put-tens-requires-2
+    same-length-2
+    returns-3)

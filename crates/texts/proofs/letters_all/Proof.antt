@@ -1,10 +1,11 @@
 -- The bytes pass if those from i on do; the measure is what is left.
 use Prim.Native.Nat.{_-_, _≤_}
+use native.Mathlib.Omega.{arith}
 use Rattle.format.specs.Bytes.{all, letter}
-use Rattle.texts.proofs.Bytewise.{all-go, all-no, all-end, passed, not-passed}
 use borrow.Author.Needs.{needs}
+use borrow.Author.Tests.{not-false}
 use lib.ListN.{length, drop}
-use mathlib.Core.Path.{_≡_, refl}
+use mathlib.Core.Path.{_≡_, refl, sym, _∙_}
 use Rattle.texts.proofs.letters_all.Statement.{statement}
 use Rattle.texts.proofs.letters_all.Tie as tie
 
@@ -17,14 +18,17 @@ abbrev μ-loop : tie.MeasureT-loop
 loop-holds : tie.Need-loop-holds Inv-loop μ-loop
 loop-holds c = (search needs, refl)
 
-shared-slice-read-is-letter : tie.Need-shared-slice-read-is-letter Inv-loop μ-loop
-shared-slice-read-is-letter c = search needs
+sub-loop : tie.Need-sub-loop Inv-loop μ-loop
+sub-loop c = search needs
 
-is-letter-requires : tie.Need-is-letter-requires Inv-loop μ-loop
-is-letter-requires c κs = search needs
+letters-block-requires : tie.Need-letters-block-requires Inv-loop μ-loop
+letters-block-requires c κs = search needs
+
+letters-from-requires : tie.Need-letters-from-requires Inv-loop μ-loop
+letters-from-requires c κs = search needs
 
 returns : tie.Need-returns Inv-loop μ-loop
-returns c = all-no _ _ _ _ (c .before .before .before .before .loop .inv .1) (c .before .before .before .loop-test .taken) (not-passed _ _ (c .before .is-letter .ensures) (c .if1 .taken))
+returns c = c .letters-from .ensures ∙ sym (c .before .before .before .before .loop .inv .1)
 
 add-i : tie.Need-add-i Inv-loop μ-loop
 add-i c = search needs
@@ -33,10 +37,13 @@ loop-less : tie.Need-loop-less Inv-loop μ-loop
 loop-less c = search needs
 
 loop-again : tie.Need-loop-again Inv-loop μ-loop
-loop-again c = (search needs, all-go _ _ _ _ (c .before .before .before .before .loop .inv .1) (c .before .before .before .loop-test .taken) (passed _ _ (c .before .is-letter .ensures) (c .if1 .left)))
+loop-again c = (omega arith, c .before .before .before .loop .inv .1 ∙ c .before .letters-block .ensures .go (not-false _ (c .if1 .left)))
+
+letters-from-requires-2 : tie.Need-letters-from-requires-2 Inv-loop μ-loop
+letters-from-requires-2 c κs = search needs
 
 returns-2 : tie.Need-returns-2 Inv-loop μ-loop
-returns-2 c = all-end _ _ _ _ (c .before .loop .inv .1) (c .loop-test .left)
+returns-2 c = c .letters-from2 .ensures ∙ sym (c .before .before .loop .inv .1)
 
 pub letters-all-spec : {M : Type 1} → statement M
 letters-all-spec =
@@ -45,10 +52,12 @@ letters-all-spec =
     Inv-loop
     μ-loop
     loop-holds
-    shared-slice-read-is-letter
-    is-letter-requires
+    sub-loop
+    letters-block-requires
+    letters-from-requires
     returns
     add-i
     loop-less
     loop-again
+    letters-from-requires-2
     returns-2)

@@ -1,10 +1,11 @@
 -- The bytes pass if those from i on do; the measure is what is left.
 use Prim.Native.Nat.{_-_, _≤_}
+use native.Mathlib.Omega.{arith}
 use Rattle.format.specs.Bytes.{all, visible}
-use Rattle.texts.proofs.Bytewise.{all-go, all-no, all-end, passed, not-passed}
 use borrow.Author.Needs.{needs}
+use borrow.Author.Tests.{not-false}
 use lib.ListN.{length, drop}
-use mathlib.Core.Path.{_≡_, refl}
+use mathlib.Core.Path.{_≡_, refl, sym, _∙_}
 use Rattle.texts.proofs.visible_all.Statement.{statement}
 use Rattle.texts.proofs.visible_all.Tie as tie
 
@@ -17,14 +18,17 @@ abbrev μ-loop : tie.MeasureT-loop
 loop-holds : tie.Need-loop-holds Inv-loop μ-loop
 loop-holds c = (search needs, refl)
 
-shared-slice-read-is-visible : tie.Need-shared-slice-read-is-visible Inv-loop μ-loop
-shared-slice-read-is-visible c = search needs
+sub-loop : tie.Need-sub-loop Inv-loop μ-loop
+sub-loop c = search needs
 
-is-visible-requires : tie.Need-is-visible-requires Inv-loop μ-loop
-is-visible-requires c κs = search needs
+visible-block-requires : tie.Need-visible-block-requires Inv-loop μ-loop
+visible-block-requires c κs = search needs
+
+visible-from-requires : tie.Need-visible-from-requires Inv-loop μ-loop
+visible-from-requires c κs = search needs
 
 returns : tie.Need-returns Inv-loop μ-loop
-returns c = all-no _ _ _ _ (c .before .before .before .before .loop .inv .1) (c .before .before .before .loop-test .taken) (not-passed _ _ (c .before .is-visible .ensures) (c .if1 .taken))
+returns c = c .visible-from .ensures ∙ sym (c .before .before .before .before .loop .inv .1)
 
 add-i : tie.Need-add-i Inv-loop μ-loop
 add-i c = search needs
@@ -33,10 +37,13 @@ loop-less : tie.Need-loop-less Inv-loop μ-loop
 loop-less c = search needs
 
 loop-again : tie.Need-loop-again Inv-loop μ-loop
-loop-again c = (search needs, all-go _ _ _ _ (c .before .before .before .before .loop .inv .1) (c .before .before .before .loop-test .taken) (passed _ _ (c .before .is-visible .ensures) (c .if1 .left)))
+loop-again c = (omega arith, c .before .before .before .loop .inv .1 ∙ c .before .visible-block .ensures .go (not-false _ (c .if1 .left)))
+
+visible-from-requires-2 : tie.Need-visible-from-requires-2 Inv-loop μ-loop
+visible-from-requires-2 c κs = search needs
 
 returns-2 : tie.Need-returns-2 Inv-loop μ-loop
-returns-2 c = all-end _ _ _ _ (c .before .loop .inv .1) (c .loop-test .left)
+returns-2 c = c .visible-from2 .ensures ∙ sym (c .before .before .loop .inv .1)
 
 pub visible-all-spec : {M : Type 1} → statement M
 visible-all-spec =
@@ -45,10 +52,12 @@ visible-all-spec =
     Inv-loop
     μ-loop
     loop-holds
-    shared-slice-read-is-visible
-    is-visible-requires
+    sub-loop
+    visible-block-requires
+    visible-from-requires
     returns
     add-i
     loop-less
     loop-again
+    visible-from-requires-2
     returns-2)

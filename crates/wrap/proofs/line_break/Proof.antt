@@ -1,100 +1,77 @@
 -- `wrap::line_break` meets its contract.
-use Prim.Native.Nat.{_+_, _-_, _*_, _≤_}
-use mathlib.Core.Path.{_≡_, refl, sym, _∙_}
-use lib.ListN.{length, getD, drop}
+use Rattle.wrap.specs.Plain.{plain-whole, plain-full}
+use Prim.Native.Nat.{_-_}
+use mathlib.Core.Path.{_≡_, sym, _∙_}
 use native.Mathlib.Omega.{arith}
 use borrow.Author.Needs.{needs}
-use denote.Ref.{now}
-use mathlib.Core.Bool.{true, false}
-use Rattle.wrap.specs.Line.{spot, placed, columns, stops, scan-turn, scan-full, scan-feed, scan-end, breaks}
 use Rattle.wrap.proofs.line_break.Statement.{statement}
 use Rattle.wrap.proofs.line_break.Tie as tie
 
-abbrev Inv-loop : tie.InvT-loop
-Inv-loop text start room quote i₀ used₀ space₀ i used space =
-    (i ≤ length text) × (space ≤ i) × (used ≤ start + 2 * i)
-    × (placed i space (spot quote room used (drop i text)) ≡ placed 0 0 (spot quote room start text))
+line-scan-requires : tie.Need-line-scan-requires
+line-scan-requires c κs = search needs
 
-abbrev μ-loop : tie.MeasureT-loop
-μ-loop text start room quote i₀ used₀ space₀ i used space = length text - i
+returns : tie.Need-returns
+returns c = search needs
 
-loop-holds : tie.Need-loop-holds Inv-loop μ-loop
-loop-holds c = (omega arith, omega arith, omega arith, refl)
+plain-to-requires : tie.Need-plain-to-requires
+plain-to-requires c κs = search needs
 
-shared-slice-read-b : tie.Need-shared-slice-read-b Inv-loop μ-loop
-shared-slice-read-b c = search needs
+returns-2 : tie.Need-returns-2
+returns-2 c = plain-whole _ _ _ _ (omega arith) (sym (c .if3 .taken) ∙ c .before .plain-to .ensures)
 
-columns-requires : tie.Need-columns-requires Inv-loop μ-loop
-columns-requires c κs = search needs
+line-scan-requires-2 : tie.Need-line-scan-requires-2
+line-scan-requires-2 c κs = search needs
 
-add-w : tie.Need-add-w Inv-loop μ-loop
-add-w c = search needs
+returns-3 : tie.Need-returns-3
+returns-3 c = search needs
 
-stops-requires : tie.Need-stops-requires Inv-loop μ-loop
-stops-requires c κs = search needs
+shared-slice-read-if4 : tie.Need-shared-slice-read-if4
+shared-slice-read-if4 c = search needs
 
-full-requires : tie.Need-full-requires Inv-loop μ-loop
+plain-to-requires-2 : tie.Need-plain-to-requires-2
+plain-to-requires-2 c κs = search needs
+
+shared-slice-read-full : tie.Need-shared-slice-read-full
+shared-slice-read-full c = search needs
+
+last-to-requires : tie.Need-last-to-requires
+last-to-requires c κs = search needs
+
+full-requires : tie.Need-full-requires
 full-requires c κs = search needs
 
-returns : tie.Need-returns Inv-loop μ-loop
-returns c =
-    let inv = c .before .before .before .before .before .before .loop .inv in
-    let t = now (c .before .before .before .before .before .before .before .before .args .text) in
-    let e = c .before .before .before .columns .ensures .is in
-    let st : stops (getD t (c .before .before .before .before .before .before .loop .i) 0) (c .before .before .before .before .before .before .before .before .args .width) (c .before .before .before .before .before .before .loop .used + columns (c .before .before .before .before .before .before .before .before .args .quote) (getD t (c .before .before .before .before .before .before .loop .i) 0)) ≡ true =
-    rw (← e) (sym (c .before .before .stops .ensures) ∙ c .before .if1 .taken) in
-    breaks _ _ _ _ _ (sym (inv .3) ∙ scan-full _ _ _ _ _ t (c .before .before .before .before .before .loop-test .taken) st ∙ sym (c .full .ensures))
+returns-4 : tie.Need-returns-4
+returns-4 c = plain-full _ _ _ _ _ _ _ (omega arith) (omega arith) (sym (c .before .before .before .if5 .taken) ∙ c .before .before .before .before .plain-to2 .ensures) (c .before .before .before .before .before .if4 .taken) (c .before .last-to .ensures .is) (c .full .ensures)
 
-add-t15 : tie.Need-add-t15 Inv-loop μ-loop
-add-t15 c = search needs
+line-scan-requires-3 : tie.Need-line-scan-requires-3
+line-scan-requires-3 c κs = search needs
 
-returns-2 : tie.Need-returns-2 Inv-loop μ-loop
-returns-2 c =
-    let inv = c .before .before .before .before .before .before .loop .inv in
-    let t = now (c .before .before .before .before .before .before .before .before .args .text) in
-    let e = c .before .before .before .columns .ensures .is in
-    let st : stops (getD t (c .before .before .before .before .before .before .loop .i) 0) (c .before .before .before .before .before .before .before .before .args .width) (c .before .before .before .before .before .before .loop .used + columns (c .before .before .before .before .before .before .before .before .args .quote) (getD t (c .before .before .before .before .before .before .loop .i) 0)) ≡ false =
-    rw (← e) (sym (c .before .before .stops .ensures) ∙ c .before .if1 .left) in
-    breaks _ _ _ _ _ (sym (inv .3) ∙ scan-feed _ _ _ _ _ t (c .before .before .before .before .before .loop-test .taken) st (c .if2 .taken))
+returns-5 : tie.Need-returns-5
+returns-5 c = search needs
 
-last-space-requires : tie.Need-last-space-requires Inv-loop μ-loop
-last-space-requires c κs = search needs
+line-scan-requires-4 : tie.Need-line-scan-requires-4
+line-scan-requires-4 c κs = search needs
 
-add-i : tie.Need-add-i Inv-loop μ-loop
-add-i c = search needs
-
-loop-less : tie.Need-loop-less Inv-loop μ-loop
-loop-less c = search needs
-
-loop-again : tie.Need-loop-again Inv-loop μ-loop
-loop-again c =
-    let inv = c .before .before .before .before .before .before .before .loop .inv in
-    let t = now (c .before .before .before .before .before .before .before .before .before .args .text) in
-    let e = c .before .before .before .before .columns .ensures .is in
-    let st : stops (getD t (c .before .before .before .before .before .before .before .loop .i) 0) (c .before .before .before .before .before .before .before .before .before .args .width) (c .before .before .before .before .before .before .before .loop .used + columns (c .before .before .before .before .before .before .before .before .before .args .quote) (getD t (c .before .before .before .before .before .before .before .loop .i) 0)) ≡ false =
-    rw (← e) (sym (c .before .before .before .stops .ensures) ∙ c .before .before .if1 .left) in
-    (search needs, search needs, search needs, rw (e, c .last-space .ensures .is) (sym (scan-turn _ _ _ _ _ t (c .before .before .before .before .before .before .loop-test .taken) st (c .before .if2 .left)) ∙ inv .3))
-
-returns-3 : tie.Need-returns-3 Inv-loop μ-loop
-returns-3 c = breaks _ _ _ _ _ (sym (c .before .loop .inv .3) ∙ scan-end _ _ _ _ _ _ (c .loop-test .left))
+returns-6 : tie.Need-returns-6
+returns-6 c = search needs
 
 pub line-break-spec : {M : Type 1} → statement M
 line-break-spec =
     tie.close
     (tie.spec
-    Inv-loop
-    μ-loop
-    loop-holds
-    shared-slice-read-b
-    columns-requires
-    add-w
-    stops-requires
-    full-requires
+    line-scan-requires
     returns
-    add-t15
+    plain-to-requires
     returns-2
-    last-space-requires
-    add-i
-    loop-less
-    loop-again
-    returns-3)
+    line-scan-requires-2
+    returns-3
+    shared-slice-read-if4
+    plain-to-requires-2
+    shared-slice-read-full
+    last-to-requires
+    full-requires
+    returns-4
+    line-scan-requires-3
+    returns-5
+    line-scan-requires-4
+    returns-6)
