@@ -18,11 +18,11 @@ pub enum Fetched {
     Outside,
 }
 
-pub fn fetch_row(rows: &[Feature], i: usize) -> Fetched
-    ensures { λ r. ⌜ r ≡ rowAt (now (rows .entry)) i ⌝ }
+pub fn fetch_row(rows: &[Feature], at: usize) -> Fetched
+    ensures { λ r. ⌜ r ≡ rowAt (now (rows .entry)) at ⌝ }
 {
-    if i < rows.len() {
-        Fetched::Row(rows[i])
+    if at < rows.len() {
+        Fetched::Row(rows[at])
     } else {
         Fetched::Outside
     }
