@@ -450,3 +450,8 @@ steady a rows old s out f g k e = go (s .putting) refl
         differ : false ≡ true → ⊥
         differ x = let z : _≡_ {A = ℕ} 0 1 = cc in omega arith
     go true p = let j : Putting a rows old s out = putting-of a rows old s out g k p in asked-steady a rows s f (j .asked) (j .order) (λ y. j .rooms) e
+
+-- where nothing is left to do, the answer stands
+pub ended-answer : (a : Asking) (rows : List Feature) (old : List ℕ) (s : State) (out : List ℕ) → s .going ≡ false → Held a rows old s out
+    → RowsAnswered (a .how) (rowsOf a rows) (a .head) old out (s .answer)
+ended-answer a rows old s out g k = subst (λ (b : Bool). HeldBy b (s .putting) a rows old s out) g k
