@@ -141,7 +141,7 @@ fn qualifiers_pass(rule: Rule, texts: &[u8], qualifiers: &[usize], first: usize,
     true
 }
 
-fn feature_passes(
+pub fn feature_passes(
     rule: Rule,
     texts: &[u8],
     features: &[usize],

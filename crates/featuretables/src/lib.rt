@@ -82,7 +82,7 @@ fn put_first_line(
     put_feature(out, at, &texts[kind..kind_end], &texts[start..end], width)
 }
 
-fn put_feature_rows(
+pub fn put_feature_rows(
     out: &mut [u8],
     at: usize,
     texts: &[u8],

@@ -18,7 +18,7 @@ ghost use Rattle.table.specs.Facts.{TextIn, RoomsIn};
 ghost use Rattle.recordlines.specs.Body.{bodyText};
 
 // CONTIG; nothing where it is absent.
-fn put_contig_text(out: &mut [u8], at: usize, texts: &[u8], contig: Text, width: usize) -> usize
+pub fn put_contig_text(out: &mut [u8], at: usize, texts: &[u8], contig: Text, width: usize) -> usize
     requires { ⌜ (length (now texts) ≤ 16777216) × TextIn (now texts) contig × (60 ≤ width) × (width ≤ 132) ⌝ }
     ensures { λ r. ⌜ Writes (now (out .entry)) at (contigLines width (mayText (now (texts .entry)) contig)) (now (out .exit)) r ⌝ }
 {
@@ -33,7 +33,7 @@ fn put_contig_text(out: &mut [u8], at: usize, texts: &[u8], contig: Text, width:
 }
 
 // The first n letters of their room, and the record's end.
-fn put_end(out: &mut [u8], at: usize, letters: &[u8], n: usize) -> usize
+pub fn put_end(out: &mut [u8], at: usize, letters: &[u8], n: usize) -> usize
     requires { ⌜ (n ≤ length (now letters)) × (length (now letters) ≤ 16777216) ⌝ }
     ensures { λ r. ⌜ Writes (now (out .entry)) at (originLines (take n (now (letters .entry))) ++ bytes "//\n") (now (out .exit)) r ⌝ }
 {

@@ -186,7 +186,7 @@ qualifiers-in r from first count h =
     record { inside = omega arith; each = λ j p q. qualifier-in r (4 * j) (rows-each (qualifierRowFine r) 4 first count j e p q) }
 
 -- the feature at a place, after which another may stand
-feature-in : (r : Rooms) (at from f : ℕ) → featureNext r at from ≡ next.From f → FeatureIn r at
+pub feature-in : (r : Rooms) (at from f : ℕ) → featureNext r at from ≡ next.From f → FeatureIn r at
 unfolding featureNext
 feature-in r at from f h = go _ refl _ refl _ refl
   where

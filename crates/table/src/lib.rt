@@ -161,7 +161,7 @@ pub enum Next {
     Wrong,
 }
 
-fn feature_next(
+pub fn feature_next(
     texts: &[u8],
     features: &[usize],
     qualifiers: &[usize],

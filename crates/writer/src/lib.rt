@@ -19,7 +19,7 @@ ghost use Rattle.rules.specs.Rules.{keepsRules};
 ghost use Rattle.table.specs.Parts.{allRooms};
 ghost use Rattle.writer.specs.Writer.{PlainAnswered, KeepingAnswered, Passed, verdictOf, Roomed, Kept};
 
-fn width_fine(width: usize) -> bool
+pub fn width_fine(width: usize) -> bool
     ensures { λ r. ⌜ r ≡ widthFine width ⌝ }
 {
     both(60 <= width, width <= 132)

@@ -1,0 +1,29 @@
+use Prim.Native.Nat.{ℕ, suc, _+_, _-_, _*_, _/_, _%_, _≤_, _<_}
+use mathlib.Core.Path.{_≡_, refl, sym, ap, _∙_}
+use lib.ListN.{length, getD, take, drop, set}
+use native.Mathlib.Omega.{arith}
+use denote.Ref.{now}
+use borrow.Author.Needs.{needs}
+use Rattle.featurerows.proofs.row_passes.Statement.{statement}
+use Rattle.featurerows.proofs.row_passes.Tie as tie
+use Rattle.featurerows.proofs.row_passes.Reads as reads
+use Rattle.featurerows.proofs.row_passes.Lts as lts
+use Rattle.entries.proofs.feature_passes.Reads as feature-passes-reads
+use Rattle.featurerows.proofs.row_numbers.Reads as row-numbers-reads
+
+row-numbers-requires : tie.Need-row-numbers-requires
+row-numbers-requires c κs = search needs
+
+slice-aggregate-feature-passes : tie.Need-slice-aggregate-feature-passes
+slice-aggregate-feature-passes c = search needs
+
+feature-passes-requires : tie.Need-feature-passes-requires
+feature-passes-requires c κs = rw (c .before .row-numbers .ensures) (c .before .before .before .before .pre)
+
+returns : tie.Need-returns
+returns c = rw (c .before .before .row-numbers .ensures) at (c .feature-passes .ensures)
+
+pub row-passes-spec : {M : Type 1} → statement M
+row-passes-spec =
+    tie.close
+    (tie.spec row-numbers-requires slice-aggregate-feature-passes feature-passes-requires returns)

@@ -1,0 +1,2 @@
+-- One row of structs among the flat numbers.
+pub mod Flat

@@ -1,0 +1,62 @@
+// What the writers do with one feature row that is a struct: numbers 10, 11 and 13 of it, and its lines. Each makes the row's six numbers
+// and calls the function on flat numbers.
+use entries::feature_passes;
+use featuretables::put_feature_rows;
+use headers::Rule;
+use rows::Feature;
+use table::Next;
+use table::feature_next;
+ghost use mathlib.Core.Path.{_≡_};
+ghost use Prim.Native.Nat.{_≤_};
+ghost use Rattle.entries.specs.Rules.{widthOf, featureOf, FeatureKnown};
+ghost use Rattle.format.specs.Rooms.{featureIn};
+ghost use Rattle.format.specs.Write.{featureLines};
+ghost use Rattle.pen.specs.Pen.{Writes};
+ghost use Rattle.rows.specs.Rows.{numbers};
+ghost use Rattle.table.specs.Parts.{featureRooms, featureNext};
+
+pub fn row_numbers(row: Feature) -> [usize; 6]
+    ensures { λ r. ⌜ r ≡ numbers row ⌝ }
+{
+    let kind = row.kind;
+    let location = row.location;
+    [
+        kind.start,
+        kind.length,
+        location.start,
+        location.length,
+        row.first,
+        row.count,
+    ]
+}
+
+// Where the qualifiers of the next row may start, or that this one is not in order.
+pub fn row_next(row: Feature, texts: &[u8], qualifiers: &[usize], from: usize) -> Next
+    ensures { λ r. ⌜ r ≡ featureNext (featureRooms (now (texts .entry)) (numbers row) (now (qualifiers .entry))) 0 from ⌝ }
+{
+    let six = row_numbers(row);
+    feature_next(texts, &six, qualifiers, 0, from)
+}
+
+pub fn row_passes(rule: Rule, row: Feature, texts: &[u8], qualifiers: &[usize]) -> bool
+    requires { ⌜ (60 ≤ widthOf rule) × FeatureKnown (now texts) (numbers row) (now qualifiers) 0 ⌝ }
+    ensures { λ r. ⌜ r ≡ featureOf rule (featureIn (featureRooms (now (texts .entry)) (numbers row) (now (qualifiers .entry))) 0) ⌝ }
+{
+    let six = row_numbers(row);
+    feature_passes(rule, texts, &six, qualifiers, 0)
+}
+
+pub fn put_row(
+    out: &mut [u8],
+    at: usize,
+    row: Feature,
+    texts: &[u8],
+    qualifiers: &[usize],
+    width: usize,
+) -> usize
+    requires { ⌜ FeatureKnown (now texts) (numbers row) (now qualifiers) 0 × (60 ≤ width) × (width ≤ 132) ⌝ }
+    ensures { λ r. ⌜ Writes (now (out .entry)) at (featureLines width (featureIn (featureRooms (now (texts .entry)) (numbers row) (now (qualifiers .entry))) 0)) (now (out .exit)) r ⌝ }
+{
+    let six = row_numbers(row);
+    put_feature_rows(out, at, texts, &six, qualifiers, 0, width)
+}

@@ -1,0 +1,37 @@
+-- The LOCUS line, the header, the line of FEATURES.
+use Rattle.pen.specs.Pen.{writes-append}
+use Rattle.rowparts.specs.Parts.{beforeParts}
+use Prim.Native.Nat.{ℕ, suc, _+_, _-_, _*_, _/_, _%_, _≤_, _<_}
+use mathlib.Core.Path.{_≡_, refl, sym, ap, _∙_}
+use lib.ListN.{length, getD, take, drop, set}
+use native.Mathlib.Omega.{arith}
+use denote.Ref.{now}
+use borrow.Author.Needs.{needs}
+use Rattle.rowparts.proofs.put_before.Statement.{statement}
+use Rattle.rowparts.proofs.put_before.Tie as tie
+use Rattle.rowparts.proofs.put_before.Reads as reads
+use Rattle.rowparts.proofs.put_before.Lts as lts
+use Rattle.headerlines.proofs.put_header.Reads as put-header-reads
+use Rattle.locusline.proofs.put_locus.Reads as put-locus-reads
+use Rattle.rowparts.proofs.put_title.Reads as put-title-reads
+
+put-locus-requires : tie.Need-put-locus-requires
+put-locus-requires c κs = search needs
+
+put-header-requires : tie.Need-put-header-requires
+put-header-requires c κs = search needs
+
+put-title-requires : tie.Need-put-title-requires
+put-title-requires c κs = search needs
+
+same-length : tie.Need-same-length
+same-length c = search needs
+
+returns : tie.Need-returns
+unfolding beforeParts
+returns c = writes-append (writes-append (c .before .before .before .before .before .before .before .before .before .before .put-locus .ensures) (c .before .before .before .before .before .before .put-header .ensures)) (c .before .before .put-title .ensures)
+
+pub put-before-spec : {M : Type 1} → statement M
+put-before-spec =
+    tie.close
+    (tie.spec put-locus-requires put-header-requires put-title-requires same-length returns)

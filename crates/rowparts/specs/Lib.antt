@@ -1,0 +1,3 @@
+-- How a table comes apart into its rows and the rest.
+pub mod Parts
+pub mod Split

@@ -1,0 +1,137 @@
+// The writers on feature rows that are structs: what they do with a table but for its features.
+use format::Head;
+use format::Unwritten;
+use headerlines::put_header;
+use locusline::name_fine;
+use locusline::put_locus;
+use pen::put_bytes;
+use recordlines::put_contig_text;
+use recordlines::put_end;
+use rules::keeps;
+use rules::well_formed;
+use writer::Verdict;
+ghost use mathlib.Core.Path.{_≡_};
+ghost use mathlib.Core.List.{[]};
+ghost use Rattle.format.specs.Rooms.{tableOf};
+ghost use Rattle.format.specs.WellFormed.{wellFormed};
+ghost use Rattle.pen.specs.Pen.{Writes};
+ghost use Rattle.rules.specs.Rules.{keepsRules};
+ghost use Rattle.table.specs.Parts.{allRooms};
+ghost use Rattle.writer.specs.Writer.{Passed};
+ghost use Rattle.rowparts.specs.Parts.{noRows, title, beforeParts, afterParts, restVerdict, BeforeKnown, AfterKnown};
+
+// How a record is written: by the keeping rules or not, at what width, with what switches.
+pub struct How {
+    pub keeping: bool,
+    pub width: usize,
+    pub truncate: bool,
+    pub escape: bool,
+}
+
+// The head of the table without its features.
+pub fn without_rows(head: Head) -> Head
+    ensures { λ r. ⌜ r ≡ noRows head ⌝ }
+{
+    let mut rest = head;
+    rest.features = 0;
+    rest
+}
+
+// The line of FEATURES; nothing where there are none.
+fn put_title(out: &mut [u8], at: usize, features: usize) -> usize
+    ensures { λ r. ⌜ Writes (now (out .entry)) at (title features) (now (out .exit)) r ⌝ }
+{
+    if features == 0 {
+        return at;
+    }
+    put_bytes(out, at, b"FEATURES             Location/Qualifiers\n")
+}
+
+// All lines before those of the features.
+pub fn put_before(
+    out: &mut [u8],
+    texts: &[u8],
+    references: &[usize],
+    comments: &[usize],
+    head: Head,
+    features: usize,
+    how: How,
+) -> usize
+    requires { ⌜ BeforeKnown (now texts) (now references) (now comments) head (how .width) ⌝ }
+    ensures { λ r. ⌜ Writes (now (out .entry)) 0 (beforeParts (now (texts .entry)) (now (references .entry)) (now (comments .entry)) head features how) (now (out .exit)) r ⌝ }
+{
+    let a = put_locus(out, 0, texts, head, how.truncate, how.escape);
+    let b = put_header(out, a, texts, references, comments, head, how.width);
+    put_title(out, b, features)
+}
+
+// All lines behind those of the features.
+pub fn put_after(
+    out: &mut [u8],
+    at: usize,
+    texts: &[u8],
+    letters: &[u8],
+    head: Head,
+    width: usize,
+) -> usize
+    requires { ⌜ AfterKnown (now texts) (now letters) head width ⌝ }
+    ensures { λ r. ⌜ Writes (now (out .entry)) at (afterParts (now (texts .entry)) (now (letters .entry)) head width) (now (out .exit)) r ⌝ }
+{
+    let contig = head.contig;
+    let a = put_contig_text(out, at, texts, contig, width);
+    put_end(out, a, letters, head.letters)
+}
+
+// Numbers 11 and 13 of the table but for its features, of which `fine` and `kept` say it.
+pub fn rest_verdict(
+    fine: bool,
+    kept: bool,
+    texts: &[u8],
+    references: &[usize],
+    comments: &[usize],
+    qualifiers: &[usize],
+    letters: &[u8],
+    head: Head,
+    how: How,
+) -> Verdict
+    requires { ⌜ Passed (how .width) (allRooms (now texts) (now references) (now comments) [] (now qualifiers) (now letters)) head ⌝ }
+    ensures { λ r. ⌜ r ≡ restVerdict (how .keeping) fine (wellFormed (how .width) (how .truncate) (how .escape) (tableOf (allRooms (now (texts .entry)) (now (references .entry)) (now (comments .entry)) [] (now (qualifiers .entry)) (now (letters .entry))) head)) kept (keepsRules (how .width) (how .truncate) (how .escape) (tableOf (allRooms (now (texts .entry)) (now (references .entry)) (now (comments .entry)) [] (now (qualifiers .entry)) (now (letters .entry))) head)) ⌝ }
+{
+    if !fine {
+        return Verdict::Not(Unwritten::NoLayout);
+    }
+    if !well_formed(
+        how.width,
+        name_fine(texts, head, how.truncate, how.escape),
+        texts,
+        references,
+        comments,
+        &[],
+        qualifiers,
+        letters,
+        head,
+    ) {
+        return Verdict::Not(Unwritten::NoLayout);
+    }
+    if !how.keeping {
+        return Verdict::Fine;
+    }
+    if !kept {
+        return Verdict::Not(Unwritten::NotKept);
+    }
+    if !keeps(
+        how.width,
+        how.truncate,
+        how.escape,
+        texts,
+        references,
+        comments,
+        &[],
+        qualifiers,
+        letters,
+        head,
+    ) {
+        return Verdict::Not(Unwritten::NotKept);
+    }
+    Verdict::Fine
+}
