@@ -2,42 +2,19 @@
 use Prim.Native.Nat.{ℕ}
 use mathlib.Core.Path.{_≡_}
 use mathlib.Core.Bool.{Bool}
-use mathlib.Core.List.{List, [], _∷_, _++_}
+use mathlib.Core.List.{List, [], _∷_}
 use lib.ListN.{length}
 use lib.Seq.{sets}
-use Rattle.format.specs.Record.{number, placeWith}
 use Rattle.format.specs.Answers.{plainAnswer, keepingAnswer, sliceAfter, valueWith}
 use Rattle.format.specs.Answers as write
 use Rattle.format.specs.Rooms.{Rooms, tableOf, readAnswer, roomsAfter}
 use Rattle.format.specs.Write.{written}
 use Rattle.format.specs.declared.Head.{Head}
-use Rattle.format.specs.declared.Sizes.{Sizes}
-use Rattle.format.specs.declared.ReadAnswer.{ReadAnswer}
-use Rattle.format.specs.declared.ReadAnswer.the-variants as answer
 use Rattle.format.specs.declared.WriteAnswer.{WriteAnswer}
-use Rattle.headnumbers.specs.Numbers.{headNumbers, headFrom}
+use Rattle.headnumbers.specs.Numbers.{headFrom}
+use Rattle.telling.specs.Telling.{readNumber, readNumbers}
 
 -- ---- reading
-
--- document 01's number of the reader's answer
-abbrev pub readNumber : ReadAnswer → ℕ
-readNumber (answer.Done h p) = 0
-readNumber (answer.Refused why) = number why
-readNumber (answer.Room n) = 6
-
-abbrev pub sizeNumbers : Sizes → List ℕ
-sizeNumbers n = n .texts ∷ n .references ∷ n .comments ∷ n .features ∷ [] ++ n .qualifiers ∷ n .letters ∷ []
-
--- with 0 the place reached and the head; with 6 the place given and the sizes; else the place that document 01 names
-abbrev pub readNumbers : ℕ → ReadAnswer → List ℕ
-readNumbers at (answer.Done h p) = p ∷ [] ++ headNumbers h
-readNumbers at (answer.Refused why) = placeWith why at ∷ []
-readNumbers at (answer.Room n) = at ∷ [] ++ sizeNumbers n
-
--- an answer as number and numbers
-pub record Tells (at : ℕ) (a : ReadAnswer) (told told′ : List ℕ) (n : ℕ) : Type 0 where
-  pub is : n ≡ readNumber a
-  pub tells : told′ ≡ sets told 0 (readNumbers at a)
 
 -- This rules out a reader that always returns the same number, and one that tells a head that is not the record's.
 pub record ReadTold (s : List ℕ) (at : ℕ) (old new : Rooms) (told told′ : List ℕ) (n : ℕ) : Type 0 where
@@ -51,10 +28,6 @@ pub record ReadTold (s : List ℕ) (at : ℕ) (old new : Rooms) (told told′ : 
   pub letters : new .letters ≡ roomsAfter s at old .letters
 
 -- ---- writing: the answer a's number is returned, and its value told
-
-pub record Returns (a : WriteAnswer) (told told′ : List ℕ) (n : ℕ) : Type 0 where
-  pub is : n ≡ write.number a
-  pub tells : told′ ≡ sets told 0 (valueWith a ∷ [])
 
 -- a writer lent the slice `old` answers a, and leaves `new`
 pub record WriteTold (W : ℕ) (truncate escape : Bool) (r : Rooms) (h : Head) (a : WriteAnswer) (old new told told′ : List ℕ) (n : ℕ) : Type 0 where

@@ -18,8 +18,8 @@ use Rattle.format.specs.declared.Span.{Span}
 use Rattle.format.specs.declared.Text.{Text}
 use Rattle.format.specs.declared.Text.the-variants as text
 use Rattle.decimal.specs.Decimal.{length-decimal}
-use Rattle.names.specs.Words.{joined-length}
-use Rattle.locusline.specs.Locus.{month-is, month-none}
+use Rattle.words.specs.Words.{joined-length}
+use Rattle.locusparts.specs.Locus.{month-is, month-none}
 
 escaped-length : (on : Bool) (name : List ℕ) → length (escapedName on name) ≤ length name
 escaped-length on name = go (on && ltb 1 (length (words name)))

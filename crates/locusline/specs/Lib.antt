@@ -1,4 +1,3 @@
--- Parts of the LOCUS line, the line of a table in rooms, and how long it can be.
-pub mod Locus
+-- The line of a table in rooms, and how long it can be.
 pub mod Line
 pub mod Bound

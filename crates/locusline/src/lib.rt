@@ -1,13 +1,13 @@
 // `locus_line` of writer.rs: the whole line of a table in rooms, and number 11's test of the name that it prints.
-use fieldlines::left_of;
-use fieldlines::put_padded;
-use format::Date;
 use format::Dated;
 use format::Head;
 use format::Length;
 use format::Span;
 use format::Text;
 use format::printed_date;
+use locusparts::put_date;
+use locusparts::put_molecule;
+use locusparts::put_topology;
 use names::printed_name_fine;
 use names::put_printed_name;
 use pen::put_byte;
@@ -15,81 +15,17 @@ use pen::put_bytes;
 use pen::put_part;
 use pen::put_spaces;
 ghost use mathlib.Core.Path.{_≡_};
-ghost use mathlib.Core.List.{[], _∷_, _++_};
+ghost use mathlib.Core.List.{[]};
 ghost use Prim.Native.Nat.{_≤_};
 ghost use lib.ListN.{length};
-ghost use Rattle.format.specs.Bytes.{bytes, decimal, is};
-ghost use Rattle.format.specs.Dates.{monthName, dateText, printedDate};
+ghost use Rattle.format.specs.Bytes.{decimal, is};
 ghost use Rattle.format.specs.Rooms.{spanText, mayText, mayLength, tableOf};
-ghost use Rattle.format.specs.Write.{padded, nameAndLength, lengthOr, moleculeText, topologyText};
+ghost use Rattle.format.specs.Write.{padded, nameAndLength, lengthOr, moleculeText};
 ghost use Rattle.names.specs.Names.{nameTest, printedOf};
 ghost use Rattle.pen.specs.Pen.{Writes};
 ghost use Rattle.table.specs.Facts.{SpanIn, TextIn, HeadIn};
 ghost use Rattle.table.specs.Parts.{referenceRooms};
-ghost use Rattle.locusline.specs.Locus.{dayText, yearText};
 ghost use Rattle.locusline.specs.Line.{chosen, orUntitled, nameWith, lineStart, lineMiddle, lineEnd, lineWith};
-
-const MONTHS: [u8; 36] = *b"JANFEBMARAPRMAYJUNJULAUGSEPOCTNOVDEC";
-
-// A molecule type in seven columns.
-fn put_molecule(out: &mut [u8], at: usize, molecule: &[u8], truncate: bool) -> usize
-    ensures { λ r. ⌜ Writes (now (out .entry)) at (padded 7 (moleculeText truncate (is (now (molecule .entry))))) (now (out .exit)) r ⌝ }
-{
-    if truncate {
-        if 7 < molecule.len() {
-            return put_spaces(out, at, 7);
-        }
-        return put_padded(out, at, molecule, 7);
-    }
-    put_padded(out, at, molecule, 7)
-}
-
-fn put_topology(out: &mut [u8], at: usize, circular: bool) -> usize
-    ensures { λ r. ⌜ Writes (now (out .entry)) at (padded 8 (topologyText circular)) (now (out .exit)) r ⌝ }
-{
-    if circular {
-        return put_bytes(out, at, b"circular");
-    }
-    put_bytes(out, at, b"linear  ")
-}
-
-fn put_day(out: &mut [u8], at: usize, day: u8) -> usize
-    ensures { λ r. ⌜ Writes (now (out .entry)) at (dayText day) (now (out .exit)) r ⌝ }
-{
-    let a = put_byte(out, at, 48 + day / 10);
-    let b = put_byte(out, a, 48 + day % 10);
-    put_byte(out, b, b'-')
-}
-
-// Three letters; none for a month that there is not.
-fn put_month(out: &mut [u8], at: usize, month: u8) -> usize
-    ensures { λ r. ⌜ Writes (now (out .entry)) at (monthName month) (now (out .exit)) r ⌝ }
-{
-    if 12 < month {
-        return at;
-    }
-    let names = MONTHS;
-    let from = left_of(month as usize, 1) * 3;
-    put_part(out, at, &names, from, from + 3)
-}
-
-fn put_year(out: &mut [u8], at: usize, year: u16) -> usize
-    ensures { λ r. ⌜ Writes (now (out .entry)) at (yearText year) (now (out .exit)) r ⌝ }
-{
-    let a = put_byte(out, at, b'-');
-    let b = put_byte(out, a, (48 + year / 10 / 10 / 10) as u8);
-    let c = put_byte(out, b, (48 + year / 10 / 10 % 10) as u8);
-    let d = put_byte(out, c, (48 + year / 10 % 10) as u8);
-    put_byte(out, d, (48 + year % 10) as u8)
-}
-
-fn put_date(out: &mut [u8], at: usize, date: Date) -> usize
-    ensures { λ r. ⌜ Writes (now (out .entry)) at (dateText date) (now (out .exit)) r ⌝ }
-{
-    let a = put_day(out, at, date.day);
-    let b = put_month(out, a, date.month);
-    put_year(out, b, date.year)
-}
 
 // The length that is printed: LOCUS's, else the letter count.
 pub fn printed_length(bases: Length, letters: usize) -> u32

@@ -1,3 +1,2 @@
--- The words of a name, and the name that is printed.
-pub mod Words
+-- The name that is printed.
 pub mod Names

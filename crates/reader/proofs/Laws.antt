@@ -30,7 +30,8 @@ use Rattle.middle.specs.Middles.{contigIn}
 use Rattle.fill.specs.Fills.{Ready, Filled}
 use Rattle.fill.specs.Heads.{plan-head}
 use Rattle.reader.specs.Agree.{rooms-equal}
-use Rattle.reader.specs.Reads.{contigPlace, textsPlan, sizesIn, headPlan, fitsIn, Answering, Answered}
+use Rattle.sizing.specs.Sizing.{contigPlace, textsPlan, sizesIn, headPlan, fitsIn}
+use Rattle.reader.specs.Reads.{Answering, Answered}
 
 -- ---- the place
 

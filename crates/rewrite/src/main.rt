@@ -1,4 +1,6 @@
 // Reads GenBank records on standard input and writes them again on standard output, at width 80 or as the arguments say.
+mod rewriting;
+
 use options::Asked;
 use options::Options;
 

@@ -15,9 +15,9 @@ use Rattle.headers.specs.Rules.{HeaderKnown, header-known}
 use Rattle.locusline.specs.Line.{lineWith}
 use Rattle.table.specs.Facts.{HeadIn, TextIn, RoomsIn, rooms-in}
 use Rattle.table.specs.Parts.{allRooms, referenceRooms}
-use Rattle.writer.specs.Writer.{Passed}
-use Rattle.writer.specs.declared.Verdict.{Verdict}
-use Rattle.writer.specs.declared.Verdict.the-variants as verdict
+use Rattle.verdict.specs.Verdicts.{Passed}
+use Rattle.verdict.specs.declared.Verdict.{Verdict}
+use Rattle.verdict.specs.declared.Verdict.the-variants as verdict
 use Rattle.rowparts.specs.declared.How.{How}
 
 abbrev pub noRows : Head → Head

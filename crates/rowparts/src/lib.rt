@@ -9,7 +9,7 @@ use recordlines::put_contig_text;
 use recordlines::put_end;
 use rules::keeps;
 use rules::well_formed;
-use writer::Verdict;
+use verdict::Verdict;
 ghost use mathlib.Core.Path.{_≡_};
 ghost use mathlib.Core.List.{[]};
 ghost use Rattle.format.specs.Rooms.{tableOf};
@@ -17,7 +17,7 @@ ghost use Rattle.format.specs.WellFormed.{wellFormed};
 ghost use Rattle.pen.specs.Pen.{Writes};
 ghost use Rattle.rules.specs.Rules.{keepsRules};
 ghost use Rattle.table.specs.Parts.{allRooms};
-ghost use Rattle.writer.specs.Writer.{Passed};
+ghost use Rattle.verdict.specs.Verdicts.{Passed};
 ghost use Rattle.rowparts.specs.Parts.{noRows, title, beforeParts, afterParts, restVerdict, BeforeKnown, AfterKnown};
 
 // How a record is written: by the keeping rules or not, at what width, with what switches.

@@ -24,7 +24,8 @@ use Rattle.plan.specs.Plans.{planTable, Plans}
 use Rattle.plan.specs.Parts.{TableParts, table-parts}
 use Rattle.fill.specs.Fills.{roomsIn, Ready, Filled}
 use Rattle.fill.proofs.Laws.{features-fit}
-use Rattle.reader.specs.Reads.{contigPlace, sizesIn, headPlan, fitsIn, Answering, Answered}
+use Rattle.reader.specs.Reads.{Answering, Answered}
+use Rattle.sizing.specs.Sizing.{contigPlace, sizesIn, headPlan, fitsIn}
 use Rattle.reader.proofs.Laws.{refused-long, refused-beyond, refused-end, refused-plan, answered, contig-place, answer-room, answer-done}
 use Rattle.rowmaker.specs.Stores.{rowsTo, featuresTo, Storable}
 use Rattle.rowplan.specs.declared.Prepared.{Prepared}

@@ -9,7 +9,8 @@ use Rattle.format.specs.declared.ReadAnswer.the-variants as answer
 use Rattle.headputs.specs.Places.{headBytes}
 use Rattle.plan.specs.declared.Plan.{Plan}
 use Rattle.fill.specs.Fills.{roomsIn}
-use Rattle.reader.specs.Reads.{headPlan, Answering, Answered}
+use Rattle.reader.specs.Reads.{Answering, Answered}
+use Rattle.sizing.specs.Sizing.{headPlan}
 use Rattle.rowmaker.specs.Stores.{rowsTo, Storable}
 use Rattle.rowplan.specs.declared.Prepared.{Prepared}
 

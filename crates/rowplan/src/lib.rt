@@ -7,7 +7,7 @@ use rowmaker::Reached;
 ghost use mathlib.Core.Path.{_≡_};
 ghost use Prim.Native.Nat.{_*_, _<_, _^_};
 ghost use Rattle.fill.specs.Fills.{Ready};
-ghost use Rattle.reader.specs.Reads.{contigPlace};
+ghost use Rattle.sizing.specs.Sizing.{contigPlace};
 ghost use Rattle.rowplan.specs.Prepares.{noRows, allRows, Planned, Prepares};
 
 // The answer, and the rows that are still to be stored for it: `count` of them, from `start` on.
@@ -51,7 +51,7 @@ fn all_rows(plan: Plan) -> Prepared
         count: 0,
     };
     let answer = ReadAnswer::Done {
-        head: reader::head_in(plan),
+        head: sizing::head_in(plan),
         place: rest.place,
     };
     Prepared {
@@ -75,8 +75,8 @@ fn planned(
     requires { ⌜ Ready (now s) plan × (6 * rows < 2 ^ 64) ⌝ }
     ensures { λ r. ⌜ Planned (now (s .entry)) plan (now (texts .entry)) (now (texts .exit)) (now (references .entry)) (now (references .exit)) (now (comments .entry)) (now (comments .exit)) rows (now (qualifiers .entry)) (now (qualifiers .exit)) (now (letters .entry)) (now (letters .exit)) r ⌝ }
 {
-    let n = reader::sizes_of(plan);
-    if !reader::enough(
+    let n = sizing::sizes_of(plan);
+    if !sizing::enough(
         n,
         texts.len(),
         references.len(),

@@ -22,9 +22,10 @@ use Rattle.rowparts.specs.Parts.{noRows, afterParts, restVerdict}
 use Rattle.rowparts.specs.Split.{rowsRooms, featureAt, rooms-split}
 use Rattle.rowparts.specs.declared.How.{How}
 use Rattle.table.specs.Parts.{allRooms}
-use Rattle.writer.specs.Writer.{PlainAnswered, KeepingAnswered, Passed, answered}
-use Rattle.writer.specs.declared.Verdict.{Verdict}
-use Rattle.writer.specs.declared.Verdict.the-variants as verdict
+use Rattle.verdict.specs.Verdicts.{Passed}
+use Rattle.writer.specs.Writer.{PlainAnswered, KeepingAnswered, answered}
+use Rattle.verdict.specs.declared.Verdict.{Verdict}
+use Rattle.verdict.specs.declared.Verdict.the-variants as verdict
 
 -- the contract of the entry point is that of the writer on flat numbers, plain or keeping
 abbrev pub AnsweredBy : Bool → ℕ → Bool → Bool → Rooms → Head → List ℕ → List ℕ → WriteAnswer → Type 0

@@ -37,9 +37,10 @@ use Rattle.table.specs.Steps.{features-go, features-no, features-end, next-alik
 use Rattle.table.specs.declared.Next.{Next}
 use Rattle.table.specs.declared.Next.the-variants as next
 use Rattle.writer.specs.Bound.{written-small}
-use Rattle.writer.specs.Writer.{Passed, Roomed, passed-two, too-long, put-whole, answered}
-use Rattle.writer.specs.declared.Verdict.{Verdict}
-use Rattle.writer.specs.declared.Verdict.the-variants as verdict
+use Rattle.verdict.specs.Verdicts.{Passed, passed-two}
+use Rattle.writer.specs.Writer.{Roomed, too-long, put-whole, answered}
+use Rattle.verdict.specs.declared.Verdict.{Verdict}
+use Rattle.verdict.specs.declared.Verdict.the-variants as verdict
 use Rattle.rowturns.specs.Answered.{RowsAnswered, Asking, asking, rowsOf, restOf, textOf, textFrom, due, answers, due-width, due-rest, due-many, Asked, asked-rooms, due-row, due-verdict}
 use Rattle.rowturns.specs.declared.State.{State}
 

@@ -1,4 +1,6 @@
 // Answers for each record on standard input: read, written and read again, is it still the same? "kept", or the number and the reason.
+mod judging;
+
 use options::Asked;
 use options::Options;
 

@@ -2,7 +2,7 @@
 use Rattle.rowturns.specs.Answered.{asking}
 use Rattle.rowturns.specs.Turns.{start-width, start-rooms, start-rows, start-goes}
 use Rattle.format.specs.Rooms.{roomsFine}
-use Rattle.writer.specs.Writer.{passed-two}
+use Rattle.verdict.specs.Verdicts.{passed-two}
 use Rattle.table.specs.Parts.{allRooms}
 use Rattle.rowparts.specs.Parts.{noRows, before-known}
 use mathlib.Core.List.{[]}
@@ -22,7 +22,7 @@ use Rattle.rowturns.proofs.refused.Reads as refused-reads
 use Rattle.rowturns.proofs.staged.Reads as staged-reads
 use Rattle.table.proofs.both.Reads as both-reads
 use Rattle.table.proofs.rooms_fine.Reads as rooms-fine-reads
-use Rattle.writer.proofs.width_fine.Reads as width-fine-reads
+use Rattle.verdict.proofs.width_fine.Reads as width-fine-reads
 
 width-fine-requires : tie.Need-width-fine-requires
 width-fine-requires c κs = search needs

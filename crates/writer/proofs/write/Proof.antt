@@ -1,6 +1,7 @@
 -- By the verdict.
 use Rattle.table.specs.Parts.{allRooms}
-use Rattle.writer.specs.Writer.{passed, plain-refused, plain-fine}
+use Rattle.verdict.specs.Verdicts.{passed}
+use Rattle.writer.specs.Writer.{plain-refused, plain-fine}
 use denote.Ref.{now}
 use borrow.Author.Needs.{needs}
 use Rattle.writer.proofs.write.Statement.{statement}

@@ -1,0 +1,2 @@
+-- The texts of the date, and the months.
+pub mod Locus

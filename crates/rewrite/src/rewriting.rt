@@ -1,0 +1,230 @@
+// Record after record out of an input: each is read, written again and put out. A refusal ends it with one line on standard error: which record, which
+// number, and why. The rooms are lent.
+use format::Head;
+use format::ReadAnswer;
+use format::WriteAnswer;
+use options::Options;
+
+// How a record went.
+enum Rewritten {
+    // It was put out, and the next one starts there.
+    On(usize),
+    // It was refused by that number.
+    Refused(usize),
+    // The input is at its end.
+    AtEnd,
+}
+
+fn complain(ordinal: usize, number: usize) {
+    io::write_all(2, b"record ");
+    io::print_decimal(2, ordinal as u64);
+    io::write_all(2, b": ");
+    io::print_decimal(2, number as u64);
+    io::write_all(2, b", ");
+    numbers::tell(2, number);
+    io::write_all(2, b"\n");
+}
+
+// Puts out the first n bytes.
+fn put_out(out: &[u8], n: usize) {
+    if n <= out.len() {
+        io::write_all(1, &out[0..n]);
+    }
+}
+
+// Writes a table by the writer that is asked for.
+fn write_as_asked(
+    out: &mut [u8],
+    texts: &[u8],
+    references: &[usize],
+    comments: &[usize],
+    features: &[usize],
+    qualifiers: &[usize],
+    letters: &[u8],
+    head: Head,
+    options: Options,
+) -> WriteAnswer {
+    if options.keep {
+        return writer::keep(
+            out,
+            texts,
+            references,
+            comments,
+            features,
+            qualifiers,
+            letters,
+            head,
+            options.width,
+            options.truncate,
+            options.escape,
+        );
+    }
+    writer::write(
+        out,
+        texts,
+        references,
+        comments,
+        features,
+        qualifiers,
+        letters,
+        head,
+        options.width,
+        options.truncate,
+        options.escape,
+    )
+}
+
+// Writes a table and puts it out; 0, or the number of the refusal.
+fn write_out(
+    out: &mut [u8],
+    texts: &[u8],
+    references: &[usize],
+    comments: &[usize],
+    features: &[usize],
+    qualifiers: &[usize],
+    letters: &[u8],
+    head: Head,
+    options: Options,
+) -> usize {
+    let answer = write_as_asked(
+        out,
+        texts,
+        references,
+        comments,
+        features,
+        qualifiers,
+        letters,
+        head,
+        options,
+    );
+    match answer {
+        WriteAnswer::Done(n) => put_out(out, n),
+        WriteAnswer::Refused(_) => {}
+        WriteAnswer::Room(_) => {}
+    }
+    numbers::write_number(answer)
+}
+
+// No record was read, by that number.
+fn unread(number: usize) -> Rewritten {
+    if number == 1 {
+        return Rewritten::AtEnd;
+    }
+    Rewritten::Refused(number)
+}
+
+// A record was written by that number.
+fn put_again(number: usize, place: usize) -> Rewritten {
+    if number == 0 {
+        return Rewritten::On(place);
+    }
+    Rewritten::Refused(number)
+}
+
+// What becomes of a record that was read, or not.
+fn after_reading(
+    answer: ReadAnswer,
+    texts: &[u8],
+    references: &[usize],
+    comments: &[usize],
+    features: &[usize],
+    qualifiers: &[usize],
+    letters: &[u8],
+    out: &mut [u8],
+    options: Options,
+) -> Rewritten {
+    match answer {
+        ReadAnswer::Room(_) => Rewritten::Refused(6),
+        ReadAnswer::Refused(why) => unread(numbers::unread_number(why)),
+        ReadAnswer::Done { head, place } => put_again(
+            write_out(
+                out,
+                texts,
+                references,
+                comments,
+                features,
+                qualifiers,
+                letters,
+                head,
+                options,
+            ),
+            place,
+        ),
+    }
+}
+
+// One record.
+fn rewrite_at(
+    input: &[u8],
+    at: usize,
+    texts: &mut [u8],
+    references: &mut [usize],
+    comments: &mut [usize],
+    features: &mut [usize],
+    qualifiers: &mut [usize],
+    letters: &mut [u8],
+    out: &mut [u8],
+    options: Options,
+) -> Rewritten {
+    let answer = reader::read(
+        input,
+        at,
+        texts,
+        references,
+        comments,
+        features,
+        qualifiers,
+        letters,
+    );
+    after_reading(
+        answer,
+        texts,
+        references,
+        comments,
+        features,
+        qualifiers,
+        letters,
+        out,
+        options,
+    )
+}
+
+// All records of the input. A record takes a byte at least, so there are no more records than bytes.
+pub fn rewrite_all(
+    input: &[u8],
+    texts: &mut [u8],
+    references: &mut [usize],
+    comments: &mut [usize],
+    features: &mut [usize],
+    qualifiers: &mut [usize],
+    letters: &mut [u8],
+    out: &mut [u8],
+    options: Options,
+) {
+    let mut at = 0;
+    let mut ordinal = 1;
+    while ordinal <= input.len() {
+        match rewrite_at(
+            input,
+            at,
+            texts,
+            references,
+            comments,
+            features,
+            qualifiers,
+            letters,
+            out,
+            options,
+        ) {
+            Rewritten::AtEnd => return,
+            Rewritten::Refused(number) => {
+                complain(ordinal, number);
+                return;
+            }
+            Rewritten::On(next) => {
+                at = next;
+                ordinal += 1;
+            }
+        }
+    }
+}

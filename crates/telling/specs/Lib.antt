@@ -1,0 +1,2 @@
+-- What is returned and told of an answer.
+pub mod Telling

@@ -1,0 +1,2 @@
+-- The verdict, and what follows from it.
+pub mod Verdicts

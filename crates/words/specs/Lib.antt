@@ -1,0 +1,2 @@
+-- The words of a name.
+pub mod Words
