@@ -1,6 +1,8 @@
 // The fields of a stored line: numbers that `;` ends, and texts between quotes. Spaces may stand before each.
 ghost use Prim.Native.Nat.{_≤_, _<_};
-ghost use lib.ListN.{length};
+ghost use lib.ListN.{length, getD};
+ghost use mathlib.Core.Path.{_≡_};
+ghost use Rattle.storedlines.specs.Compared.{Same};
 
 // Where the next field starts, and how many numbers or bytes this one has.
 pub struct Field {
@@ -17,7 +19,9 @@ pub struct Checked {
 // ---- lines
 
 // The byte at a place; 0 past the end.
-pub fn byte_at(s: &[u8], at: usize) -> u8 {
+pub fn byte_at(s: &[u8], at: usize) -> u8
+    ensures { λ r. ⌜ r ≡ getD (now (s .entry)) at 0 ⌝ }
+{
     if at < s.len() {
         return s[at];
     }
@@ -268,7 +272,9 @@ pub fn take_text(s: &[u8], at: usize, room: &mut [u8]) -> Field {
 // ---- what was taken
 
 // The number at a place of a list; 0 past its end.
-pub fn number_at(list: &[usize], i: usize) -> usize {
+pub fn number_at(list: &[usize], i: usize) -> usize
+    ensures { λ r. ⌜ r ≡ getD (now (list .entry)) i 0 ⌝ }
+{
     if i < list.len() {
         return list[i];
     }
@@ -304,7 +310,9 @@ pub fn among(list: &[usize], n: usize, number: usize) -> bool {
     false
 }
 
-pub fn same_numbers(a: &[usize], b: &[usize]) -> bool {
+pub fn same_numbers(a: &[usize], b: &[usize]) -> bool
+    ensures { λ r. ⌜ Same (now (a .entry)) (now (b .entry)) r ⌝ }
+{
     if a.len() != b.len() {
         return false;
     }

@@ -1,0 +1,2 @@
+-- What comparing tells.
+pub mod Compared
