@@ -13,7 +13,7 @@ use Rattle.format.specs.declared.Head.{Head}
 use Rattle.format.specs.declared.Unwritten.the-variants as unwritten
 use Rattle.headers.specs.Rules.{HeaderKnown, header-known}
 use Rattle.locusline.specs.Line.{lineWith}
-use Rattle.table.specs.Facts.{HeadIn, TextIn, RoomsIn, rooms-in}
+use Rattle.table.specs.Facts.{HeadIn, TextIn, rooms-in}
 use Rattle.table.specs.Parts.{allRooms, referenceRooms}
 use Rattle.verdict.specs.Verdicts.{Passed}
 use Rattle.verdict.specs.declared.Verdict.{Verdict}

@@ -1,14 +1,13 @@
 -- A table of rows that are structs comes apart into the rows and the rest: numbers 10, 11 and 13, and the record written.
-use Prim.Native.Nat.{ℕ, zero, suc, _+_, _-_, _*_, _/_, _≤_, _<_}
-use mathlib.Core.Path.{_≡_, refl, sym, ap, _∙_}
+use Prim.Native.Nat.{ℕ, zero, suc, _+_, _-_, _/_}
+use mathlib.Core.Path.{_≡_, refl, _∙_}
 use mathlib.Core.Bool.{Bool, true, false, _&&_}
 use mathlib.Core.List.{List, [], _++_, append-assoc}
-use native.Mathlib.Omega.{arith}
 use lib.Dec.{leb}
 use lib.ListN.{length, take}
 use Rattle.entries.specs.Rules.{featureOf, fine-is, kept-is}
 use Rattle.featurerows.specs.Flat.{rows-in}
-use Rattle.format.specs.Bytes.{bytes, all, each}
+use Rattle.format.specs.Bytes.{all, each}
 use Rattle.format.specs.Record.{most}
 use Rattle.format.specs.Rooms.{Rooms, mayText, mayLength, rowsFrom, referenceIn, commentIn, qualifierIn, featureIn, tableOf, rowsFine, referenceRowFine, commentRowFine, featuresFine, lengthsFine, headFine, countsFine, roomsFine}
 use Rattle.format.specs.Table.{Table}
@@ -16,7 +15,7 @@ use Rattle.format.specs.Features.{locationText}
 use Rattle.format.specs.Utf8.{utf8}
 use Rattle.format.specs.WellFormed.{ifIs, headerTexts, locusFine, featureFine, lettersFine, wellFormed}
 use Rattle.format.specs.Keeping.{switchesKept, locusKept, headerKept, pubmedKept, featureKept, keeps}
-use Rattle.format.specs.Write.{lengthText, printedName, locusText, referenceLines, headerLines, featureLines, featuresLines, written}
+use Rattle.format.specs.Write.{lengthText, printedName, locusText, headerLines, featureLines, featuresLines, written}
 use Rattle.format.specs.declared.Head.{Head}
 use Rattle.headers.specs.declared.Rule.the-variants as rule
 use Rattle.locusline.specs.Line.{lineWith, line-is}

@@ -1,12 +1,12 @@
 -- What the writers on rows of structs answer: what the writers on flat numbers do. A call, its table, and the answer that is due.
-use Prim.Native.Nat.{ℕ, _+_, _-_, _*_, _^_, _≤_, _<_}
-use mathlib.Core.Path.{_≡_, refl, sym, ap, _∙_}
+use Prim.Native.Nat.{ℕ, _+_, _-_, _≤_}
+use mathlib.Core.Path.{_≡_, refl, sym, _∙_}
 use mathlib.Core.Bool.{Bool, true, false, _&&_, not}
 use mathlib.Core.List.{List, [], _++_}
 use native.Mathlib.Omega.{arith}
 use lib.Dec.{leb}
 use lib.ListN.{length}
-use borrow.Author.Tests.{le-leb, lt-leb, not-true, not-false}
+use borrow.Author.Tests.{le-leb, not-true, not-false}
 use Rattle.format.specs.Answers.{room, noRule, keepingRules, writeAnswer, plainAnswer, keepingAnswer, sliceAfter}
 use Rattle.format.specs.Bytes.{pick, each}
 use Rattle.format.specs.Keeping.{keeps}
@@ -18,13 +18,12 @@ use Rattle.format.specs.declared.Unwritten.the-variants as unwritten
 use Rattle.format.specs.declared.WriteAnswer.{WriteAnswer}
 use Rattle.format.specs.declared.WriteAnswer.the-variants as answer
 use Rattle.rows.specs.declared.Feature.{Feature}
-use Rattle.rowparts.specs.Parts.{noRows, afterParts, restVerdict}
+use Rattle.rowparts.specs.Parts.{noRows, afterParts}
 use Rattle.rowparts.specs.Split.{rowsRooms, featureAt, rooms-split}
 use Rattle.rowparts.specs.declared.How.{How}
 use Rattle.table.specs.Parts.{allRooms}
 use Rattle.verdict.specs.Verdicts.{Passed}
 use Rattle.writer.specs.Writer.{PlainAnswered, KeepingAnswered, answered}
-use Rattle.verdict.specs.declared.Verdict.{Verdict}
 use Rattle.verdict.specs.declared.Verdict.the-variants as verdict
 
 -- the contract of the entry point is that of the writer on flat numbers, plain or keeping

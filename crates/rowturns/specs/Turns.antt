@@ -1,19 +1,19 @@
 -- What each turn of the writers on rows of structs does: rows are judged and measured, the answer is decided, rows are put, the record is ended.
-use Prim.Native.Nat.{ℕ, zero, suc, _+_, _-_, _*_, _^_, _≤_, _<_}
+use Prim.Native.Nat.{ℕ, suc, _+_, _-_, _*_, _^_, _≤_, _<_}
 use mathlib.Core.Path.{_≡_, refl, sym, ap, subst, _∙_}
 use mathlib.Core.Bool.{Bool, true, false, _&&_, not}
-use mathlib.Core.List.{List, [], _∷_, _++_, append-assoc}
+use mathlib.Core.List.{List, [], _++_, append-assoc}
 use native.Mathlib.Nat.{sub-zero}
 use native.Mathlib.Omega.{arith}
 use lib.Dec.{leb}
 use lib.ListN.{length}
-use borrow.Author.Tests.{le-leb, lt-leb, not-true, not-false, leb-true}
+use borrow.Author.Tests.{le-leb, not-false, leb-true}
 use Rattle.entries.specs.Rules.{featureOf, FeatureKnown}
-use Rattle.featurerows.specs.Flat.{none-outside, next-of-row, feature-of-row, row-known}
-use Rattle.format.specs.Answers.{room, sliceAfter}
-use Rattle.format.specs.Bytes.{pick, all, each}
+use Rattle.featurerows.specs.Flat.{next-of-row, feature-of-row, row-known}
+use Rattle.format.specs.Answers.{room}
+use Rattle.format.specs.Bytes.{all, each}
 use Rattle.format.specs.Keeping.{keeps}
-use Rattle.format.specs.Rooms.{Rooms, rowsFrom, featureIn, tableOf, featuresFine, roomsFine}
+use Rattle.format.specs.Rooms.{rowsFrom, featureIn, tableOf, featuresFine, roomsFine}
 use Rattle.format.specs.WellFormed.{widthFine, wellFormed}
 use Rattle.format.specs.Write.{featureLines}
 use Rattle.format.specs.declared.Head.{Head}
@@ -23,16 +23,17 @@ use Rattle.format.specs.declared.WriteAnswer.{WriteAnswer}
 use Rattle.format.specs.declared.WriteAnswer.the-variants as answer
 use Rattle.headers.specs.declared.Rule.{Rule}
 use Rattle.headers.specs.declared.Rule.the-variants as rule
-use Rattle.pen.specs.Pen.{Writes, Wrote, Left, left-start, left-step, left-as, sets-past}
-use Rattle.rows.specs.Rows.{rowAt, numbers, flat}
+use Rattle.pen.specs.Pen.{Writes, Left, left-start, left-step, left-as, sets-past}
+use Rattle.rows.specs.Flat.{fetched-outside}
+use Rattle.rows.specs.Rows.{rowAt, numbers}
 use Rattle.rows.specs.declared.Feature.{Feature}
 use Rattle.rows.specs.declared.Fetched.{Fetched}
 use Rattle.rows.specs.declared.Fetched.the-variants as fetched
 use Rattle.rowparts.specs.Parts.{noRows, beforeParts, afterParts, restVerdict}
-use Rattle.rowparts.specs.Split.{rowsRooms, featureAt, fine-split, keeps-split, written-split}
+use Rattle.rowparts.specs.Split.{featureAt, fine-split, keeps-split, written-split}
 use Rattle.rowparts.specs.declared.How.{How}
-use Rattle.table.specs.Facts.{FeatureIn, feature-in, features-each, rooms-in}
-use Rattle.table.specs.Parts.{allRooms, featureRooms, featureNext}
+use Rattle.table.specs.Facts.{feature-in, features-each, rooms-in}
+use Rattle.table.specs.Parts.{featureRooms, featureNext}
 use Rattle.table.specs.Steps.{features-go, features-no, features-end, next-alike}
 use Rattle.table.specs.declared.Next.{Next}
 use Rattle.table.specs.declared.Next.the-variants as next
@@ -219,7 +220,7 @@ module _ (t q : List ℕ) (how : How) (s : State) where
   judge-outside =
       record {
         by = λ rf cm l h rows old out e less g p k.
-            let m : length rows ≤ s .row = none-outside rows (s .row) (sym e) in
+            let m : length rows ≤ s .row = fetched-outside rows (s .row) (sym e) in
             absurd (omega (arith, k .asked .enough));
       }
 
@@ -356,7 +357,7 @@ module _ (t q : List ℕ) (how : How) (s : State) (out : List ℕ) where
   put-outside =
       record {
         by = λ rf cm l h rows old e less g p k.
-            let m : length rows ≤ s .row = none-outside rows (s .row) (sym e) in
+            let m : length rows ≤ s .row = fetched-outside rows (s .row) (sym e) in
             absurd (omega (arith, k .asked .enough));
       }
 

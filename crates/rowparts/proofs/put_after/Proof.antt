@@ -1,18 +1,10 @@
 -- CONTIG, and the letters with the end.
 use Rattle.pen.specs.Pen.{writes-append}
 use Rattle.rowparts.specs.Parts.{afterParts}
-use Prim.Native.Nat.{ℕ, suc, _+_, _-_, _*_, _/_, _%_, _≤_, _<_}
-use mathlib.Core.Path.{_≡_, refl, sym, ap, _∙_}
-use lib.ListN.{length, getD, take, drop, set}
-use native.Mathlib.Omega.{arith}
-use denote.Ref.{now}
+use Prim.Native.Nat.{_-_}
 use borrow.Author.Needs.{needs}
 use Rattle.rowparts.proofs.put_after.Statement.{statement}
 use Rattle.rowparts.proofs.put_after.Tie as tie
-use Rattle.rowparts.proofs.put_after.Reads as reads
-use Rattle.rowparts.proofs.put_after.Lts as lts
-use Rattle.recordlines.proofs.put_contig_text.Reads as put-contig-text-reads
-use Rattle.recordlines.proofs.put_end.Reads as put-end-reads
 
 put-contig-text-requires : tie.Need-put-contig-text-requires
 put-contig-text-requires c κs = search needs

@@ -1,19 +1,10 @@
 -- The LOCUS line, the header, the line of FEATURES.
 use Rattle.pen.specs.Pen.{writes-append}
 use Rattle.rowparts.specs.Parts.{beforeParts}
-use Prim.Native.Nat.{ℕ, suc, _+_, _-_, _*_, _/_, _%_, _≤_, _<_}
-use mathlib.Core.Path.{_≡_, refl, sym, ap, _∙_}
-use lib.ListN.{length, getD, take, drop, set}
-use native.Mathlib.Omega.{arith}
-use denote.Ref.{now}
+use Prim.Native.Nat.{_-_}
 use borrow.Author.Needs.{needs}
 use Rattle.rowparts.proofs.put_before.Statement.{statement}
 use Rattle.rowparts.proofs.put_before.Tie as tie
-use Rattle.rowparts.proofs.put_before.Reads as reads
-use Rattle.rowparts.proofs.put_before.Lts as lts
-use Rattle.headerlines.proofs.put_header.Reads as put-header-reads
-use Rattle.locusline.proofs.put_locus.Reads as put-locus-reads
-use Rattle.rowparts.proofs.put_title.Reads as put-title-reads
 
 put-locus-requires : tie.Need-put-locus-requires
 put-locus-requires c κs = search needs

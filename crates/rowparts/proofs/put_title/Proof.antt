@@ -1,17 +1,10 @@
 -- By whether there is a feature.
 use Rattle.pen.specs.Pen.{writes-nil, writes-as}
 use Rattle.rowparts.specs.Parts.{title-none, title-some}
-use Prim.Native.Nat.{ℕ, suc, _+_, _-_, _*_, _/_, _%_, _≤_, _<_}
-use mathlib.Core.Path.{_≡_, refl, sym, ap, _∙_}
-use lib.ListN.{length, getD, take, drop, set}
-use native.Mathlib.Omega.{arith}
-use denote.Ref.{now}
+use Prim.Native.Nat.{_-_}
 use borrow.Author.Needs.{needs}
 use Rattle.rowparts.proofs.put_title.Statement.{statement}
 use Rattle.rowparts.proofs.put_title.Tie as tie
-use Rattle.rowparts.proofs.put_title.Reads as reads
-use Rattle.rowparts.proofs.put_title.Lts as lts
-use Rattle.pen.proofs.put_bytes.Reads as put-bytes-reads
 
 returns : tie.Need-returns
 returns c = writes-as (title-none (c .before .before .args .features) (c .if1 .taken)) writes-nil

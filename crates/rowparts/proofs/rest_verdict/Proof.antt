@@ -9,19 +9,12 @@ use Rattle.table.specs.Parts.{allRooms}
 use native.Mathlib.Nat.{le-trans}
 use mathlib.Core.List.{[]}
 use Rattle.rowparts.specs.Parts.{rows-unfit, rest-unfit, plain-fit, rows-broken, rest-broken, keeping-fit}
-use Prim.Native.Nat.{ℕ, suc, _+_, _-_, _*_, _/_, _%_, _≤_, _<_}
-use mathlib.Core.Path.{_≡_, refl, sym, ap, _∙_}
-use lib.ListN.{length, getD, take, drop, set}
-use native.Mathlib.Omega.{arith}
+use Prim.Native.Nat.{_-_}
+use mathlib.Core.Path.{ap, _∙_}
 use denote.Ref.{now}
 use borrow.Author.Needs.{needs}
 use Rattle.rowparts.proofs.rest_verdict.Statement.{statement}
 use Rattle.rowparts.proofs.rest_verdict.Tie as tie
-use Rattle.rowparts.proofs.rest_verdict.Reads as reads
-use Rattle.rowparts.proofs.rest_verdict.Lts as lts
-use Rattle.locusline.proofs.name_fine.Reads as name-fine-reads
-use Rattle.rules.proofs.keeps.Reads as keeps-reads
-use Rattle.rules.proofs.well_formed.Reads as well-formed-reads
 
 returns : tie.Need-returns
 returns c = rows-unfit (c .before .before .before .before .before .before .args .how .keeping) (c .before .before .before .before .before .before .args .fine) (wellFormed (c .before .before .before .before .before .before .args .how .width) (c .before .before .before .before .before .before .args .how .truncate) (c .before .before .before .before .before .before .args .how .escape) (tableOf (allRooms (now (c .before .before .before .before .before .before .args .texts)) (now (c .before .before .before .before .before .before .args .references)) (now (c .before .before .before .before .before .before .args .comments)) [] (now (c .before .before .before .before .before .before .args .qualifiers)) (now (c .before .before .before .before .before .before .args .letters))) (c .before .before .before .before .before .before .args .head))) (c .before .before .before .before .before .before .args .kept) (keepsRules (c .before .before .before .before .before .before .args .how .width) (c .before .before .before .before .before .before .args .how .truncate) (c .before .before .before .before .before .before .args .how .escape) (tableOf (allRooms (now (c .before .before .before .before .before .before .args .texts)) (now (c .before .before .before .before .before .before .args .references)) (now (c .before .before .before .before .before .before .args .comments)) [] (now (c .before .before .before .before .before .before .args .qualifiers)) (now (c .before .before .before .before .before .before .args .letters))) (c .before .before .before .before .before .before .args .head))) (c .if1 .taken)

@@ -4,23 +4,11 @@ use Rattle.rowturns.specs.Turns.{decide-refused, decide-room, decide-put
 use Rattle.table.specs.Parts.{allRooms}
 use Rattle.rowparts.specs.Parts.{noRows, before-known, after-known}
 use mathlib.Core.List.{[]}
-use Prim.Native.Nat.{ℕ, suc, _+_, _-_, _*_, _/_, _%_, _≤_, _<_}
-use mathlib.Core.Path.{_≡_, refl, sym, ap, _∙_}
-use lib.ListN.{length, getD, take, drop, set}
-use native.Mathlib.Omega.{arith}
+use Prim.Native.Nat.{_-_}
 use denote.Ref.{now}
 use borrow.Author.Needs.{needs}
 use Rattle.rowturns.proofs.decide.Statement.{statement}
 use Rattle.rowturns.proofs.decide.Tie as tie
-use Rattle.rowturns.proofs.decide.Reads as reads
-use Rattle.rowturns.proofs.decide.Lts as lts
-use Rattle.rowparts.proofs.put_after.Reads as put-after-reads
-use Rattle.rowparts.proofs.put_before.Reads as put-before-reads
-use Rattle.rowparts.proofs.rest_verdict.Reads as rest-verdict-reads
-use Rattle.rowparts.proofs.without_rows.Reads as without-rows-reads
-use Rattle.rowturns.proofs.ended.Reads as ended-reads
-use Rattle.rowturns.proofs.refused.Reads as refused-reads
-use Rattle.rowturns.proofs.staged.Reads as staged-reads
 
 without-rows-requires : tie.Need-without-rows-requires
 without-rows-requires c κs = search needs

@@ -1,18 +1,10 @@
 -- What stands behind the features ends the record.
 use Rattle.rowturns.specs.Turns.{ends-done}
-use Prim.Native.Nat.{ℕ, suc, _+_, _-_, _*_, _/_, _%_, _≤_, _<_}
-use mathlib.Core.Path.{_≡_, refl, sym, ap, _∙_}
-use lib.ListN.{length, getD, take, drop, set}
-use native.Mathlib.Omega.{arith}
+use Prim.Native.Nat.{_-_}
 use denote.Ref.{now}
 use borrow.Author.Needs.{needs}
 use Rattle.rowturns.proofs.end.Statement.{statement}
 use Rattle.rowturns.proofs.end.Tie as tie
-use Rattle.rowturns.proofs.end.Reads as reads
-use Rattle.rowturns.proofs.end.Lts as lts
-use Rattle.rowparts.proofs.put_after.Reads as put-after-reads
-use Rattle.rowparts.proofs.without_rows.Reads as without-rows-reads
-use Rattle.rowturns.proofs.ended.Reads as ended-reads
 
 without-rows-requires : tie.Need-without-rows-requires
 without-rows-requires c κs = search needs

@@ -1,17 +1,10 @@
 -- By whether there is such a row.
 use Rattle.rowturns.specs.Turns.{judge-outside}
-use Prim.Native.Nat.{ℕ, suc, _+_, _-_, _*_, _/_, _%_, _≤_, _<_}
-use mathlib.Core.Path.{_≡_, refl, sym, ap, _∙_}
-use lib.ListN.{length, getD, take, drop, set}
-use native.Mathlib.Omega.{arith}
+use Prim.Native.Nat.{_-_}
 use denote.Ref.{now}
 use borrow.Author.Needs.{needs}
 use Rattle.rowturns.proofs.judge_fetched.Statement.{statement}
 use Rattle.rowturns.proofs.judge_fetched.Tie as tie
-use Rattle.rowturns.proofs.judge_fetched.Reads as reads
-use Rattle.rowturns.proofs.judge_fetched.Lts as lts
-use Rattle.rowturns.proofs.judge_row.Reads as judge-row-reads
-use Rattle.rowturns.proofs.refused.Reads as refused-reads
 
 enum-told : tie.Need-enum-told
 enum-told c = search needs

@@ -1,21 +1,10 @@
 -- By whether another row may follow this one.
 use Rattle.rowturns.specs.Turns.{row-fit, judge-wrong, judge-goes}
-use Prim.Native.Nat.{ℕ, suc, _+_, _-_, _*_, _/_, _%_, _≤_, _<_}
-use mathlib.Core.Path.{_≡_, refl, sym, ap, _∙_}
-use lib.ListN.{length, getD, take, drop, set}
-use native.Mathlib.Omega.{arith}
+use Prim.Native.Nat.{_-_}
 use denote.Ref.{now}
 use borrow.Author.Needs.{needs}
 use Rattle.rowturns.proofs.judge_row.Statement.{statement}
 use Rattle.rowturns.proofs.judge_row.Tie as tie
-use Rattle.rowturns.proofs.judge_row.Reads as reads
-use Rattle.rowturns.proofs.judge_row.Lts as lts
-use Rattle.featurerows.proofs.put_row.Reads as put-row-reads
-use Rattle.featurerows.proofs.row_next.Reads as row-next-reads
-use Rattle.featurerows.proofs.row_passes.Reads as row-passes-reads
-use Rattle.rowturns.proofs.refused.Reads as refused-reads
-use Rattle.rowturns.proofs.staged.Reads as staged-reads
-use Rattle.table.proofs.both.Reads as both-reads
 
 row-next-requires : tie.Need-row-next-requires
 row-next-requires c κs = search needs

@@ -1,18 +1,10 @@
 -- By whether there is such a row.
 use Rattle.rowturns.specs.Turns.{put-outside, put-goes}
-use Prim.Native.Nat.{ℕ, suc, _+_, _-_, _*_, _/_, _%_, _≤_, _<_}
-use mathlib.Core.Path.{_≡_, refl, sym, ap, _∙_}
-use lib.ListN.{length, getD, take, drop, set}
-use native.Mathlib.Omega.{arith}
+use Prim.Native.Nat.{_-_}
 use denote.Ref.{now}
 use borrow.Author.Needs.{needs}
 use Rattle.rowturns.proofs.put_fetched.Statement.{statement}
 use Rattle.rowturns.proofs.put_fetched.Tie as tie
-use Rattle.rowturns.proofs.put_fetched.Reads as reads
-use Rattle.rowturns.proofs.put_fetched.Lts as lts
-use Rattle.featurerows.proofs.put_row.Reads as put-row-reads
-use Rattle.rowturns.proofs.refused.Reads as refused-reads
-use Rattle.rowturns.proofs.staged.Reads as staged-reads
 
 enum-told : tie.Need-enum-told
 enum-told c = search needs

@@ -6,23 +6,12 @@ use Rattle.verdict.specs.Verdicts.{passed-two}
 use Rattle.table.specs.Parts.{allRooms}
 use Rattle.rowparts.specs.Parts.{noRows, before-known}
 use mathlib.Core.List.{[]}
-use Prim.Native.Nat.{ℕ, suc, _+_, _-_, _*_, _/_, _%_, _≤_, _<_}
-use mathlib.Core.Path.{_≡_, refl, sym, ap, _∙_}
-use lib.ListN.{length, getD, take, drop, set}
-use native.Mathlib.Omega.{arith}
+use Prim.Native.Nat.{_-_}
+use mathlib.Core.Path.{ap, _∙_}
 use denote.Ref.{now}
 use borrow.Author.Needs.{needs}
 use Rattle.rowturns.proofs.start.Statement.{statement}
 use Rattle.rowturns.proofs.start.Tie as tie
-use Rattle.rowturns.proofs.start.Reads as reads
-use Rattle.rowturns.proofs.start.Lts as lts
-use Rattle.rowparts.proofs.put_before.Reads as put-before-reads
-use Rattle.rowparts.proofs.without_rows.Reads as without-rows-reads
-use Rattle.rowturns.proofs.refused.Reads as refused-reads
-use Rattle.rowturns.proofs.staged.Reads as staged-reads
-use Rattle.table.proofs.both.Reads as both-reads
-use Rattle.table.proofs.rooms_fine.Reads as rooms-fine-reads
-use Rattle.verdict.proofs.width_fine.Reads as width-fine-reads
 
 width-fine-requires : tie.Need-width-fine-requires
 width-fine-requires c κs = search needs

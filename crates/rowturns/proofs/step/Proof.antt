@@ -5,20 +5,12 @@ use Rattle.table.specs.Facts.{rooms-in}
 use Rattle.table.specs.Parts.{allRooms}
 use Rattle.rowparts.specs.Parts.{noRows, after-known}
 use mathlib.Core.List.{[]}
-use Prim.Native.Nat.{ℕ, suc, _+_, _-_, _*_, _/_, _%_, _≤_, _<_}
-use mathlib.Core.Path.{_≡_, refl, sym, ap, _∙_}
-use lib.ListN.{length, getD, take, drop, set}
-use native.Mathlib.Omega.{arith}
+use Prim.Native.Nat.{_-_}
+use mathlib.Core.Path.{refl}
 use denote.Ref.{now}
 use borrow.Author.Needs.{needs}
 use Rattle.rowturns.proofs.step.Statement.{statement}
 use Rattle.rowturns.proofs.step.Tie as tie
-use Rattle.rowturns.proofs.step.Reads as reads
-use Rattle.rowturns.proofs.step.Lts as lts
-use Rattle.rowturns.proofs.decide.Reads as decide-reads
-use Rattle.rowturns.proofs.end.Reads as end-reads
-use Rattle.rowturns.proofs.judge_fetched.Reads as judge-fetched-reads
-use Rattle.rowturns.proofs.put_fetched.Reads as put-fetched-reads
 
 put-fetched-requires : tie.Need-put-fetched-requires
 put-fetched-requires c κs = (c .before .before .before .before .before .before .before .before .before .before .before .pre .row (c .before .if2 .taken) (c .before .before .if1 .taken), c .before .before .before .before .before .before .before .before .before .before .before .pre .passed .narrowest, c .before .before .before .before .before .before .before .before .before .before .before .pre .passed .widest, c .before .before .before .before .before .before .before .before .before .before .before .pre .few)

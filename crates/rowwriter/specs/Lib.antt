@@ -1,0 +1,2 @@
+-- What holds of the entry point by its contract.
+pub mod Agrees
