@@ -5,7 +5,8 @@ use mathlib.Core.Bool.{Bool, true, false, _&&_}
 use mathlib.Core.List.{List, [], _∷_, _++_}
 use native.Mathlib.Omega.{arith}
 use lib.ListN.{length, drop, length-append, length-drop}
-use lib.Dec.{eqb}
+use lib.Dec.{eqb, leb}
+use borrow.Author.Tests.{lt-ltb, leb-true}
 use Rattle.format.specs.Bytes.{all, visible, concat}
 use Rattle.format.specs.Utf8.{utf8}
 use Rattle.format.specs.Readers.{Ans, Got, No, Cut, bind, mapped, passing, utf8Of, line, loop, end, members}
@@ -23,13 +24,37 @@ use Rattle.pieces.specs.declared.Value.{Value}
 use Rattle.pieces.specs.declared.Value.the-variants as value
 use Rattle.pen.specs.Pen.{Writes, Left, left-start, writes-append, writes-nil}
 use Rattle.utf8.specs.declared.State.{State}
-use Rattle.utf8.specs.States.{start, Ran, ran-append, ran-utf8}
+use Rattle.utf8.specs.States.{start, ascii, Ran, ran-append, ran-utf8}
+use Rattle.utf8.proofs.Chars.{ascii-ran}
 use Rattle.bares.specs.declared.Further.{Further}
 use Rattle.bares.specs.declared.Further.the-variants as further
 use Rattle.bares.specs.declared.Bare.{Bare}
 use Rattle.bares.specs.declared.Bare.the-variants as bare′
 use Rattle.bares.specs.Bared.{bareText, Furthered, bareOf, BareSpan, PastBare, Bared}
 use Rattle.bares.proofs.Lines.{further-places, further-is, and-all}
+
+-- ---- visible bytes are ASCII
+
+visible-byte : (b : ℕ) → visible b ≡ true → ascii b ≡ true
+visible-byte b h = lt-ltb b 128 (omega (arith, leb-true b 126 (second (leb 33 b) (leb b 126) h)))
+  where
+    second : (x y : Bool) → x && y ≡ true → y ≡ true
+    second true y e = e
+    second false y e = cc
+
+visible-ascii : (t : List ℕ) → all visible t ≡ true → all ascii t ≡ true
+visible-ascii [] h = refl
+visible-ascii (b ∷ t) h = go (visible-ascii t) (visible b) refl
+  where
+    go : (all visible t ≡ true → all ascii t ≡ true) → (x : Bool) → visible b ≡ x → all ascii (b ∷ t) ≡ true
+    go ih true e = rw (visible-byte b e) (ih (rw e at h))
+    go ih false e = let z = rw e at h in cc
+
+pub visible-ran : (t : List ℕ) (seen : Bool) (u : State) → seen ≡ true && all visible t → seen ≡ true → u ≡ start → Ran start t u
+visible-ran t seen u e f g = ascii-ran start t true u refl (sym (visible-ascii t (sym e ∙ f))) refl g
+
+pub started-ran : (t : List ℕ) (u v : State) → u ≡ start → Ran u t v → Ran start t v
+started-ran t u v e h = rw e at h
 
 -- ---- places of a line
 

@@ -1,5 +1,5 @@
 -- One further line of a bare text, and the loops over them. Assumes nothing.
-use Prim.Native.Nat.{ℕ, suc, _+_, _-_, _≤_, _<_}
+use Prim.Native.Nat.{ℕ, zero, suc, _+_, _-_, _≤_, _<_}
 use mathlib.Core.Path.{_≡_, refl, sym, ap, subst, _∙_}
 use mathlib.Core.Bool.{Bool, true, false, _&&_}
 use mathlib.Core.List.{List, [], _∷_, _++_}
@@ -7,6 +7,7 @@ use native.Mathlib.Omega.{arith}
 use lib.ListN.{length, getD, drop, drop-of-length-le}
 use lib.Seq.{drop-cons}
 use borrow.Author.Tests.{eq-eqb, ne-eqb}
+use lib.Dec.{eqb}
 use Rattle.format.specs.Bytes.{all, visible, spaces}
 use Rattle.format.specs.Readers.{Ans, Got, No, Cut, bind, tag, line, Turn, more, stop, end}
 use Rattle.format.specs.Features.{notSlash, bareTurn, bareMore}
@@ -38,6 +39,23 @@ module _ (s : List ℕ) (i : ℕ) where
 
   pub slash-got : i < length s → (getD s i 0 ≡ 47 → ⊥) → Got tt (drop i s) ≡ notSlash (drop i s)
   slash-got h e = rw (drop-cons s i 0, ne-eqb _ 47 e)
+
+-- whatever stands before it, a slash after the indent is no further line
+slash-after : (s : List ℕ) (n i : ℕ) → i + n < length s → getD s (i + n) 0 ≡ 47 → bind (tag (spaces n) (drop i s)) (λ _ z. notSlash z) ≡ No
+unfolding tag
+slash-after s zero i h e = let f : i + 0 ≡ i = omega arith in sym (slash-no s i (omega arith) (rw f at e))
+slash-after s (suc n) i h e = go (slash-after s n (suc i)) (eqb (getD s i 0) 32) refl
+  where
+    f : suc i + n ≡ i + suc n
+    f = omega arith
+
+    go : (suc i + n < length s → getD s (suc i + n) 0 ≡ 47 → bind (tag (spaces n) (drop (suc i) s)) (λ _ z. notSlash z) ≡ No) → (x : Bool) → eqb (getD s i 0) 32 ≡ x
+        → bind (tag (spaces (suc n)) (drop i s)) (λ _ z. notSlash z) ≡ No
+    go ih true q = let k : i < length s = omega arith in rw (drop-cons s i 0, tag, q) (ih (omega arith) (rw f e))
+    go ih false q = let k : i < length s = omega arith in rw (drop-cons s i 0, tag, q)
+
+pub slash-stops : (s : List ℕ) (at n : ℕ) → at + n < length s → getD s (at + n) 0 ≡ 47 → Stepped s at (bind (tag (spaces n) (drop at s)) (λ _ z. notSlash z)) step.No
+slash-stops s at n h e = record { is = sym (slash-after s n at h e); place = tt }
 
 pub step-after : (s : List ℕ) (at : ℕ) (o : Ans Unit) (r : Step) (n : ℕ) → Stepped s at o r → r ≡ step.Got n → at ≤ n
 step-after s at o r n h e = step-places h e .0

@@ -5,16 +5,17 @@ use pieces::Value;
 use utf8::State;
 ghost use mathlib.Core.Path.{_≡_};
 ghost use Prim.Native.Nat.{_≤_};
-ghost use mathlib.Core.Bool.{true};
+ghost use mathlib.Core.Bool.{true, _&&_};
 ghost use lib.ListN.{length, drop};
-ghost use Rattle.format.specs.Bytes.{spaces};
+ghost use Rattle.format.specs.Bytes.{spaces, all, visible};
 ghost use Rattle.format.specs.Readers.{bind, passing, tag, utf8Of};
 ghost use Rattle.format.specs.Features.{notSlash, bareMore, bare, locationText};
+ghost use Rattle.chars.specs.Places.{part};
 ghost use Rattle.chars.specs.Views.{Stepped};
 ghost use Rattle.pieces.specs.Taken.{taken, gathered};
 ghost use Rattle.pieces.specs.Views.{Valued};
 ghost use Rattle.pen.specs.Pen.{Writes};
-ghost use Rattle.utf8.specs.States.{start};
+ghost use Rattle.utf8.specs.States.{start, Ran};
 ghost use Rattle.bares.specs.Bared.{bareText, Furthered, Bared};
 
 // A further line's text, and the line after it; or that none stands here.
@@ -41,11 +42,16 @@ pub enum Bare {
     Cut,
 }
 
-// The indent, and then any byte but a slash.
+// The indent, and then any byte but a slash. Mostly a slash stands there, and then it does not matter what stands before it.
 fn further_start(s: &[u8], at: usize, indent: usize) -> Step
     requires { ⌜ at ≤ length (now s) ⌝ }
     ensures { λ r. ⌜ Stepped (now (s .entry)) at (bind (tag (spaces indent) (drop at (now (s .entry)))) (λ _ z. notSlash z)) r ⌝ }
 {
+    if indent < s.len() - at {
+        if s[at + indent] == 47 {
+            return Step::No;
+        }
+    }
     match chars::indent(s, at, indent) {
         Step::Got(i) => {
             if s.len() <= i {
@@ -114,6 +120,17 @@ fn further_lines(
     }
 }
 
+// The state after a first line; `seen` says whether all its bytes are visible, and such bytes are ASCII.
+fn line_state(seen: bool, s: &[u8], from: usize, to: usize) -> State
+    requires { ⌜ (from ≤ to) × (to ≤ length (now s)) × (seen ≡ true && all visible (part from to (now s))) ⌝ }
+    ensures { λ r. ⌜ Ran start (part from to (now (s .entry))) r ⌝ }
+{
+    if seen {
+        return utf8::started();
+    }
+    utf8::utf8_on(utf8::started(), s, from, to)
+}
+
 // The text that `bareText` says; locations and values test it further.
 pub fn bare_at(s: &[u8], at: usize, indent: usize) -> Bare
     requires { ⌜ at ≤ length (now s) ⌝ }
@@ -122,7 +139,7 @@ pub fn bare_at(s: &[u8], at: usize, indent: usize) -> Bare
     match chars::line_at(s, at) {
         Line::Got { end, next } => {
             let seen = pieces::visible_on(true, s, at, end);
-            let state = utf8::utf8_on(utf8::started(), s, at, end);
+            let state = line_state(seen, s, at, end);
             further_lines(s, next, indent, end - at, seen, state)
         }
         Line::No => Bare::No,

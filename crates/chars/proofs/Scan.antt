@@ -64,22 +64,25 @@ module _ (p : ℕ → Bool) (s : List ℕ) (at : ℕ) where
   pub passes-none : Passes p s at 0 true
   passes-none = record { go = λ h. rw (add-zero at) }
 
-  pub passes-one : (j : ℕ) (a b r : Bool) → at + j < length s → Passes p s at j a → b ≡ p (getD s (at + j) 0) → r ≡ a && not b → Passes p s at (j + 1) r
-  passes-one j a b r h w m k =
-      record {
-        go = λ e.
-            let f : at + j + 1 ≡ at + (j + 1) = omega arith in
-            w .go (one a b (sym k ∙ e)) ∙ scan-more p s (at + j) h (sym m ∙ two a b (sym k ∙ e)) ∙ ap (scan p s) f;
-      }
-    where
-      one : (a b : Bool) → a && not b ≡ true → a ≡ true
-      one true b e = refl
-      one false b e = cc
+and-first : (a b : Bool) → a && b ≡ true → a ≡ true
+and-first true b e = refl
+and-first false b e = e
 
-      two : (a b : Bool) → a && not b ≡ true → b ≡ false
-      two true true e = cc
-      two true false e = refl
-      two false b e = cc
+and-second : (a b : Bool) → a && b ≡ true → b ≡ true
+and-second true b e = e
+and-second false b e = cc
+
+-- a byte above CR is neither LF nor CR
+above-stops : (b : ℕ) → ltb 13 b ≡ true → lineStop b ≡ false
+above-stops b e = let l = ltb-true 13 b e in rw (ne-eqb b 10 (λ f. omega arith), ne-eqb b 13 (λ f. omega arith))
+
+pub passes-over : (s : List ℕ) (at j : ℕ) (a b r : Bool) → at + j < length s → Passes lineStop s at j a → b ≡ ltb 13 (getD s (at + j) 0) → r ≡ a && b → Passes lineStop s at (j + 1) r
+passes-over s at j a b r h w m k =
+    record {
+      go = λ e.
+          let f : at + j + 1 ≡ at + (j + 1) = omega arith in
+          w .go (and-first a b (sym k ∙ e)) ∙ scan-more lineStop s (at + j) h (above-stops (getD s (at + j) 0) (sym m ∙ and-second a b (sym k ∙ e))) ∙ ap (scan lineStop s) f;
+    }
 
 -- ---- what a scan's place says of readers
 
@@ -309,19 +312,11 @@ spaced-none s at = record { go = λ e j h. absurd (not-suc-le-zero h) }
 pub spaced-one : (s : List ℕ) (at j : ℕ) (a b r : Bool) → Spaced s at j a → b ≡ eqb (getD s (at + j) 0) 32 → r ≡ a && b → Spaced s at (j + 1) r
 spaced-one s at j a b r w m k = record { go = λ e i h. go e i h (ltb i j) refl }
   where
-    one : (a b : Bool) → a && b ≡ true → a ≡ true
-    one true b e = refl
-    one false b e = e
-
-    two : (a b : Bool) → a && b ≡ true → b ≡ true
-    two true b e = e
-    two false b e = cc
-
     go : r ≡ true → (i : ℕ) → i < j + 1 → (x : Bool) → ltb i j ≡ x → getD s (at + i) 0 ≡ 32
-    go e i h true f = w .go (one a b (sym k ∙ e)) i (ltb-true i j f)
+    go e i h true f = w .go (and-first a b (sym k ∙ e)) i (ltb-true i j f)
     go e i h false f =
         let g : i ≡ j = omega (arith, ltb-false i j f) in
-        rw g (eqb-true _ 32 (sym m ∙ two a b (sym k ∙ e)))
+        rw g (eqb-true _ 32 (sym m ∙ and-second a b (sym k ∙ e)))
 
 module _ (s : List ℕ) where
   -- n spaces, each known

@@ -3,6 +3,7 @@ ghost use mathlib.Core.Path.{_≡_};
 ghost use Prim.Native.Nat.{_+_, _≤_, _<_};
 ghost use mathlib.Core.Bool.{_&&_, _||_, not};
 ghost use lib.ListN.{length, drop};
+ghost use lib.Dec.{ltb};
 ghost use Rattle.format.specs.Bytes.{spaces, between, visible, digit, letter, blank, notBlank, space, but};
 ghost use Rattle.format.specs.Readers.{tag, until, until1, spaces1, line, lineEnd};
 ghost use Rattle.format.specs.Features.{keyEnd};
@@ -331,15 +332,22 @@ pub fn line_end(s: &[u8], at: usize) -> Step
     Step::No
 }
 
-// Whether none of the 32 bytes from `at` on ends a line.
-fn block_inside(s: &[u8], at: usize) -> bool
-    requires { ⌜ at + 32 ≤ length (now s) ⌝ }
-    ensures { λ r. ⌜ Passes lineStop (now (s .entry)) at 32 r ⌝ }
+// Whether a byte is none that ends a line because it is above them; all text is.
+fn is_above_stops(b: u8) -> bool
+    ensures { λ r. ⌜ r ≡ ltb 13 b ⌝ }
+{
+    13 < b
+}
+
+// Whether the eight bytes from `at` on are such.
+fn eight_inside(s: &[u8], at: usize) -> bool
+    requires { ⌜ at + 8 ≤ length (now s) ⌝ }
+    ensures { λ r. ⌜ Passes lineStop (now (s .entry)) at 8 r ⌝ }
 {
     let mut ok = true;
     let mut j = 0;
-    while j < 32 {
-        ok = both(ok, !is_line_stop(s[at + j]));
+    while j < 8 {
+        ok = both(ok, is_above_stops(s[at + j]));
         j += 1;
     }
     ok
@@ -365,11 +373,11 @@ fn next_stop(s: &[u8], at: usize) -> usize
     ensures { λ r. ⌜ Scanned lineStop (now (s .entry)) at r ⌝ }
 {
     let mut i = at;
-    while 32 <= s.len() - i {
-        if !block_inside(s, i) {
+    while 8 <= s.len() - i {
+        if !eight_inside(s, i) {
             return near_stop(s, i);
         }
-        i += 32;
+        i += 8;
     }
     near_stop(s, i)
 }

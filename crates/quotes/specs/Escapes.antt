@@ -74,6 +74,10 @@ pub record Runs (s : List ℕ) (at e : ℕ) : Type 0 where
   pub text : (joined : Bool) (indent : ℕ) → taken (quotedTurn joined indent) (drop at s) ≡ part at e s ++ taken (quotedTurn joined indent) (drop e s)
   pub ends : (joined : Bool) (indent : ℕ) → end (quotedTurn joined indent) (drop at s) ≡ end (quotedTurn joined indent) (drop e s)
 
+-- r holds only where the n bytes from i on carry on such a run
+pub record Onward (s : List ℕ) (i n : ℕ) (r : Bool) : Type 0 where
+  pub go : r ≡ true → (at : ℕ) → Runs s at i → Runs s at (i + n)
+
 -- and the one at e does not
 pub record Plain (s : List ℕ) (at e : ℕ) : Type 0 where
   pub runs : Runs s at e

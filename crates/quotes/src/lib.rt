@@ -3,7 +3,9 @@ use chars::Step;
 use pieces::Value;
 use utf8::State;
 ghost use mathlib.Core.Path.{_≡_};
-ghost use Prim.Native.Nat.{_≤_, _<_};
+ghost use Prim.Native.Nat.{_+_, _≤_, _<_};
+ghost use mathlib.Core.Bool.{_&&_, _||_};
+ghost use lib.Dec.{eqb, ltb};
 ghost use mathlib.Core.List.{_∷_, []};
 ghost use lib.ListN.{length, drop};
 ghost use Rattle.format.specs.Readers.{tag, utf8Of};
@@ -12,7 +14,7 @@ ghost use Rattle.pieces.specs.Taken.{taken, gathered};
 ghost use Rattle.pieces.specs.Views.{Valued};
 ghost use Rattle.pen.specs.Pen.{Writes};
 ghost use Rattle.utf8.specs.States.{Ran};
-ghost use Rattle.quotes.specs.Escapes.{feed, splitQuote, laterEscape, QuoteStep, StepOne, Escaped, Plain, Closed, Turned, feedText, Pieced, quotedText};
+ghost use Rattle.quotes.specs.Escapes.{feed, splitQuote, laterEscape, QuoteStep, StepOne, Escaped, Onward, Plain, Closed, Turned, feedText, Pieced, quotedText};
 
 // What an escape stands for, a quote or a LF, and the place after it.
 pub enum Escape {
@@ -127,11 +129,48 @@ fn is_special(b: u8) -> bool
     b == 34 || (b == 13 || b == 10)
 }
 
+// Whether a byte stands for itself because it is above the quote, or a space; most do.
+fn is_ordinary(b: u8) -> bool
+    ensures { λ r. ⌜ r ≡ (ltb 34 b || eqb b 32) ⌝ }
+{
+    if 34 < b {
+        return true;
+    }
+    b == 32
+}
+
+// Both, without a branch: the compiler then tests many bytes at once.
+fn both(a: bool, b: bool) -> bool
+    ensures { λ r. ⌜ r ≡ a && b ⌝ }
+{
+    if a { b } else { false }
+}
+
+// Whether the eight bytes at a place are such.
+fn eight_ordinary(s: &[u8], at: usize) -> bool
+    requires { ⌜ at + 8 ≤ length (now s) ⌝ }
+    ensures { λ r. ⌜ Onward (now (s .entry)) at 8 r ⌝ }
+{
+    let mut ok = true;
+    let mut j = 0;
+    while j < 8 {
+        ok = both(ok, is_ordinary(s[at + j]));
+        j += 1;
+    }
+    ok
+}
+
 fn plain_end(s: &[u8], at: usize) -> usize
     requires { ⌜ at ≤ length (now s) ⌝ }
     ensures { λ r. ⌜ Plain (now (s .entry)) at r ⌝ }
 {
     let mut i = at;
+    while 8 <= s.len() - i {
+        if !eight_ordinary(s, i) {
+            break;
+        }
+        i += 8;
+    }
     while i < s.len() {
         if is_special(s[i]) {
             return i;

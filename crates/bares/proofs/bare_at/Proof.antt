@@ -14,11 +14,8 @@ enum-known-end c = search (sequence, firsts, needs)
 visible-on-requires : tie.Need-visible-on-requires
 visible-on-requires c κs = search (sequence, firsts, needs)
 
-started-requires : tie.Need-started-requires
-started-requires c κs = search (sequence, firsts, needs)
-
-utf8-on-requires : tie.Need-utf8-on-requires
-utf8-on-requires c κs = search (sequence, firsts, needs)
+line-state-requires : tie.Need-line-state-requires
+line-state-requires c κs = search (sequence, firsts, needs)
 
 sub-further-lines : tie.Need-sub-further-lines
 sub-further-lines c = search (sequence, firsts, needs)
@@ -48,8 +45,7 @@ bare-at-spec =
     line-at-requires
     enum-known-end
     visible-on-requires
-    started-requires
-    utf8-on-requires
+    line-state-requires
     sub-further-lines
     further-lines-requires
     enum-told

@@ -23,8 +23,8 @@ loop-holds c = search (scanning, needs)
 sub-loop : tie.Need-sub-loop Inv-loop μ-loop
 sub-loop c = search (scanning, needs)
 
-block-inside-requires : tie.Need-block-inside-requires Inv-loop μ-loop
-block-inside-requires c κs = search (scanning, needs)
+eight-inside-requires : tie.Need-eight-inside-requires Inv-loop μ-loop
+eight-inside-requires c κs = search (scanning, needs)
 
 near-stop-requires : tie.Need-near-stop-requires Inv-loop μ-loop
 near-stop-requires c κs = search (scanning, needs)
@@ -39,7 +39,7 @@ loop-less : tie.Need-loop-less Inv-loop μ-loop
 loop-less c = search (scanning, needs)
 
 loop-again : tie.Need-loop-again Inv-loop μ-loop
-loop-again c = (omega arith, omega arith, c .before .before .before .loop .inv .2 ∙ c .before .block-inside .ensures .go (not-false _ (c .if1 .left)))
+loop-again c = (omega arith, omega arith, c .before .before .before .loop .inv .2 ∙ c .before .eight-inside .ensures .go (not-false _ (c .if1 .left)))
 
 near-stop-requires-2 : tie.Need-near-stop-requires-2 Inv-loop μ-loop
 near-stop-requires-2 c κs = search (scanning, needs)
@@ -55,7 +55,7 @@ next-stop-spec =
     μ-loop
     loop-holds
     sub-loop
-    block-inside-requires
+    eight-inside-requires
     near-stop-requires
     returns
     add-i
