@@ -1,6 +1,6 @@
 -- A whole line of sixty letters, as it is written at once.
-use mathlib.Core.Path.{_≡_, refl, sym, _∙_}
-use Prim.Native.Nat.{ℕ, suc, zero, _+_, _-_, _*_, _%_, _≤_, _<_}
+use mathlib.Core.Path.{_≡_, refl}
+use Prim.Native.Nat.{ℕ, suc, _+_, _-_, _*_, _%_, _≤_, _<_}
 use native.Mathlib.Omega.{arith}
 use native.Mathlib.Nat.{add-zero}
 use native.Mathlib.Numerals.{add-one}
@@ -9,7 +9,7 @@ use lib.ListN.{length, take, drop, getD, length-drop}
 use lib.Seq.{drop-drop, drop-cons}
 use borrow.Author.Tests.{eq-eqb, ne-eqb}
 use Rattle.format.specs.Bytes.{decimal}
-use Rattle.format.specs.Write.{rightAligned, lineStart, tenStart, letterLines}
+use Rattle.format.specs.Write.{rightAligned, letterLines}
 use Rattle.pen.specs.Pen.{Wrote, Writes, wrote-append, Left, left-step, left-as}
 use Rattle.origin.specs.Origin.{ten}
 

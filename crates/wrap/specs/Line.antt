@@ -23,10 +23,6 @@ abbrev pub escape : Bool → List ℕ → List ℕ
 escape q [] = []
 escape q (b ∷ bs) = shown q b ++ escape q bs
 
-abbrev pub quoted : List ℕ → Bool
-quoted [] = false
-quoted (b ∷ bs) = elim (eqb b 34) [ true ↦ true | false ↦ quoted bs ]
-
 abbrev pub columns : Bool → ℕ → ℕ
 columns false b = 1
 columns true b = pick (eqb b 34) 2 1

@@ -12,7 +12,7 @@ use Rattle.format.specs.Bytes.{pick, spaces}
 use Rattle.format.specs.Wrap.{lineText, lineRest, fill, closing, linesAfter, wrapped}
 use Rattle.pen.specs.Pen.{Writes, Left, left-start, left-step, left-as, left-end, writes-then}
 use Rattle.wrap.specs.declared.Break.{Break}
-use Rattle.wrap.specs.Line.{Breaks, escape, shown, quoted, closed, drop-more, cases, line-is, rest-is, rest-shorter, rest-most}
+use Rattle.wrap.specs.Line.{Breaks, escape, shown, closed, drop-more, cases, line-is, rest-is, rest-shorter, rest-most}
 
 -- ---- a line's bytes
 pub escape-turn : {l m n x : List ℕ} {i j k : ℕ} (q : Bool) (b : List ℕ) (p : ℕ)
@@ -26,12 +26,6 @@ escape-done q b p s h = left-end (left-as (rw (drop-of-length-le b h)) s)
 pub escape-bare : (t : List ℕ) → t ≡ escape false t
 escape-bare [] = refl
 escape-bare (b ∷ t) = ap (λ (l : List ℕ). b ∷ l) (escape-bare t)
-
-pub escape-plain : (t : List ℕ) → quoted t ≡ false → t ≡ escape true t
-escape-plain [] h = refl
-escape-plain (b ∷ t) h =
-    cases (eqb b 34) (λ e. let z : true ≡ false = rw (e, quoted) at h in absurd (let y : _≡_ {A = ℕ} 0 1 = cc in omega arith))
-    (λ e. rw e (ap (λ (l : List ℕ). b ∷ l) (escape-plain t (rw (e, quoted) at h))))
 
 -- ---- the end of a text
 -- the same order is the same test

@@ -1,26 +1,31 @@
 -- The start of a text that holds neither LF nor quote: each of its bytes takes one column, so that where its line ends is known without going over it.
-use mathlib.Core.Path.{_≡_, refl, sym, _∙_}
+use mathlib.Core.Path.{_≡_, refl, sym, ap, _∙_}
 use Prim.Native.Nat.{ℕ, suc, zero, _+_, _-_, _≤_, _<_}
 use native.Mathlib.Omega.{arith}
 use native.Mathlib.Nat.{add-zero}
 use native.Mathlib.Numerals.{add-one}
-use mathlib.Core.Bool.{Bool, true, false}
-use mathlib.Core.List.{List}
+use mathlib.Core.Bool.{Bool, true, false, not, _&&_}
+use mathlib.Core.List.{List, [], _∷_}
 use lib.Dec.{eqb}
-use lib.ListN.{length, getD, drop, drop-of-length-le}
-use borrow.Author.Tests.{lt-ltb, le-ltb, eq-eqb, ne-eqb}
+use lib.ListN.{length, getD, drop}
+use borrow.Author.Tests.{lt-ltb, le-ltb, eq-eqb, ne-eqb, eqb-true, eqb-false}
 use Rattle.format.specs.Bytes.{pick}
 use Rattle.wrap.specs.declared.Break.{Break}
-use Rattle.wrap.specs.Line.{Breaks, quoted, drop-more, columns, stops, full, spot, placed, cases, scan-turn, scan-full, scan-end, breaks}
+use Rattle.wrap.specs.Line.{Breaks, columns, stops, full, spot, placed, escape, cases, scan-turn, scan-full, scan-feed, scan-end, breaks}
 
--- what was plain before b is plain with it
-abbrev pub stillPlain : Bool → ℕ → Bool
-stillPlain ok b = pick (eqb b 10) false (pick (eqb b 34) false ok)
+-- neither LF nor quote
+abbrev pub plain : ℕ → Bool
+plain b = pick (eqb b 10) false (not (eqb b 34))
 
--- the first n bytes are neither LF nor quote
+-- the first n bytes are plain
 abbrev pub plainTo : ℕ → List ℕ → Bool
 plainTo zero t = true
-plainTo (suc n) t = stillPlain (plainTo n t) (getD t n 0)
+plainTo (suc n) t = plainTo n t && plain (getD t n 0)
+
+-- what a caller of `plain_run` learns: r bytes are plain
+pub record PlainRun (n : ℕ) (t : List ℕ) (r : ℕ) : Type 0 where
+  pub is : plainTo r t ≡ true
+  pub most : r ≤ n
 
 -- the place after the last space among the first n bytes, 0 where there is none
 abbrev pub lastTo : ℕ → List ℕ → ℕ
@@ -33,8 +38,28 @@ pub record LastTo (n : ℕ) (t : List ℕ) (r : ℕ) : Type 0 where
   pub most : r ≤ n
 
 -- ---- the loops
-pub plain-turn : (t : List ℕ) (j : ℕ) (ok r : Bool) → ok ≡ plainTo j t → r ≡ stillPlain ok (getD t j 0) → r ≡ plainTo (j + 1) t
-plain-turn t j ok r e f = f ∙ rw (e, add-one j)
+and-left : (x y : Bool) → (x && y) ≡ true → x ≡ true
+and-left true y h = refl
+and-left false y h = h
+
+and-right : (x y : Bool) → (x && y) ≡ true → y ≡ true
+and-right true y h = h
+and-right false true h = refl
+and-right false false h = h
+
+both-true : (a b : Bool) → a ≡ true → b ≡ true → (a && b) ≡ true
+both-true a b e f = rw (e, f)
+
+pub plain-more : (t : List ℕ) (i : ℕ) → plainTo i t ≡ true → plain (getD t i 0) ≡ true → plainTo (i + 1) t ≡ true
+plain-more t i e f = rw (add-one i) (both-true (plainTo i t) (plain (getD t i 0)) e f)
+
+-- a block that is tested byte by byte
+pub block-turn : (t : List ℕ) (at j : ℕ) (ok b r : Bool) → (ok ≡ true → plainTo at t ≡ true → plainTo (at + j) t ≡ true) → b ≡ plain (getD t (at + j) 0) → r ≡ (ok && b)
+    → r ≡ true → plainTo at t ≡ true → plainTo (at + (j + 1)) t ≡ true
+block-turn t at j ok b r go e f h p =
+    let z : at + (j + 1) ≡ at + j + 1 = omega arith in
+    let y : (ok && b) ≡ true = sym f ∙ h in
+    rw z (plain-more t (at + j) (go (and-left ok b y) p) (sym e ∙ and-right ok b y))
 
 pub last-found : (t : List ℕ) (n i : ℕ) → lastTo n t ≡ lastTo i t → 0 < i → getD t (i - 1) 0 ≡ 32 → i ≤ n → LastTo n t i
 last-found t n zero e p b h = absurd (omega arith)
@@ -51,21 +76,18 @@ last-none t n zero e h = record { is = sym e; most = omega arith }
 last-none t n (suc i) e h = absurd (omega arith)
 
 -- ---- a plain start is passed whole
-record Plain (ok : Bool) (b : ℕ) : Type 0 where
-  before : ok ≡ true
+record Plain (b : ℕ) : Type 0 where
   feed : b ≡ 10 → ⊥
   quote : eqb b 34 ≡ false
 
-plain-is : (ok : Bool) (b : ℕ) → stillPlain ok b ≡ true → Plain ok b
-plain-is ok b h =
+plain-is : (b : ℕ) → plain b ≡ true → Plain b
+plain-is b h =
     cases (eqb b 10) (λ e. absurd (let z : false ≡ true = rw e at h in let y : _≡_ {A = ℕ} 0 1 = cc in omega arith))
-    (λ e. cases (eqb b 34) (λ f. absurd (let z : false ≡ true = rw (e, f) at h in let y : _≡_ {A = ℕ} 0 1 = cc in omega arith))
-    (λ f.
+    (λ e.
     record {
-      before = rw (e, f) at h;
       feed = λ n. let z : true ≡ false = sym (eq-eqb b 10 n) ∙ e in let y : _≡_ {A = ℕ} 0 1 = cc in omega arith;
-      quote = f;
-    }))
+      quote = cases (eqb b 34) (λ f. absurd (let z : false ≡ true = rw (e, f) at h in let y : _≡_ {A = ℕ} 0 1 = cc in omega arith)) (λ f. f);
+    })
 
 one-column : (q : Bool) (b : ℕ) → eqb b 34 ≡ false → columns q b ≡ 1
 one-column false b e = refl
@@ -76,17 +98,25 @@ plain-run : (n : ℕ) (q : Bool) (W used : ℕ) (t : List ℕ) → n ≤ length 
 plain-run zero q W used t h w p = rw (add-zero used)
 plain-run (suc n) q W used t h w p =
     let b = getD t n 0 in
-    let f = plain-is (plainTo n t) b p in
+    let f = plain-is b (and-right (plainTo n t) (plain b) p) in
     let c : columns q b ≡ 1 = one-column q b (f .quote) in
     let e : used + n + 1 ≡ used + suc n = omega arith in
     let s : stops b W (used + n + columns q b) ≡ false = rw (c, le-ltb W (used + n + 1) (omega arith)) in
-    plain-run n q W used t (omega arith) (omega arith) (f .before) ∙ scan-turn q W (used + n) n (lastTo n t) t (omega arith) s (f .feed) ∙ rw (c, e, add-one n)
+    plain-run n q W used t (omega arith) (omega arith) (and-left (plainTo n t) (plain b) p) ∙ scan-turn q W (used + n) n (lastTo n t) t (omega arith) s (f .feed) ∙ rw (c, e, add-one n)
 
 -- a text that fits its line
-pub plain-whole : (q : Bool) (W used : ℕ) (t : List ℕ) → used + length t ≤ W → true ≡ plainTo (length t) t
+pub plain-whole : (q : Bool) (W used : ℕ) (t : List ℕ) → used + length t ≤ W → plainTo (length t) t ≡ true
     → Breaks q W used t (record { end = length t; next = length t })
 plain-whole q W used t w p =
-    breaks q W used t _ (plain-run (length t) q W used t (omega arith) w (sym p) ∙ scan-end q W (used + length t) (length t) (lastTo (length t) t) t (omega arith))
+    breaks q W used t _ (plain-run (length t) q W used t (omega arith) w p ∙ scan-end q W (used + length t) (length t) (lastTo (length t) t) t (omega arith))
+
+-- a text whose line ends at a LF
+pub plain-feed : (q : Bool) (W used k : ℕ) (t : List ℕ) → used + k < W → k < length t → plainTo k t ≡ true → getD t k 0 ≡ 10
+    → Breaks q W used t (record { end = k; next = k + 1 })
+plain-feed q W used k t w h p b =
+    let c : columns q (getD t k 0) ≡ 1 = one-column q (getD t k 0) (rw b) in
+    let s : stops (getD t k 0) W (used + k + columns q (getD t k 0)) ≡ false = rw (c, le-ltb W (used + k + 1) (omega arith)) in
+    breaks q W used t _ (plain-run k q W used t (omega arith) (omega arith) p ∙ scan-feed q W (used + k) k (lastTo k t) t h s b)
 
 stops-there : (q : Bool) (W w b : ℕ) → W ≤ w → 1 ≤ columns q b → b < 128 → stops b W (w + columns q b) ≡ true
 stops-there q W w b h c l = rw (lt-ltb W (w + columns q b) (omega arith), le-ltb 127 b (omega arith))
@@ -96,26 +126,25 @@ some-columns false b = omega arith
 some-columns true b = cases (eqb b 34) (λ e. rw e (omega arith)) (λ e. rw e (omega arith))
 
 -- a text that goes past its line
-pub plain-full : (q : Bool) (W used n : ℕ) (t : List ℕ) (space : ℕ) (r : Break) → used + n ≡ W → n < length t → true ≡ plainTo n t → getD t n 0 < 128
+pub plain-full : (q : Bool) (W used n : ℕ) (t : List ℕ) (space : ℕ) (r : Break) → used + n ≡ W → n < length t → plainTo n t ≡ true → getD t n 0 < 128
     → space ≡ lastTo n t → r ≡ full (getD t n 0) n space → Breaks q W used t r
 plain-full q W used n t space r w h p b s e =
     breaks q W used t r
-    (plain-run n q W used t (omega arith) (omega arith) (sym p)
+    (plain-run n q W used t (omega arith) (omega arith) p
     ∙ scan-full q W (used + n) n (lastTo n t) t h (stops-there q W (used + n) (getD t n 0) (omega arith) (some-columns q (getD t n 0)) b) ∙ rw (← s) (sym e))
 
--- ---- quotes, without a branch
-turn-by : (x hit rest whole : Bool) → pick hit true (elim x [ true ↦ true | false ↦ rest ]) ≡ whole → pick (pick x true hit) true rest ≡ whole
-turn-by true true rest whole e = e
-turn-by true false rest whole e = e
-turn-by false hit rest whole e = e
+-- ---- a plain text is written as it is
+no-quote : (n : ℕ) (t : List ℕ) → plainTo n t ≡ true → (k : ℕ) → k < n → eqb (getD t k 0) 34 ≡ false
+no-quote zero t p k h = absurd (omega arith)
+no-quote (suc n) t p k h =
+    cases (eqb k n) (λ e. rw (eqb-true k n e) (plain-is (getD t n 0) (and-right (plainTo n t) (plain (getD t n 0)) p) .quote))
+    (λ e. no-quote n t (and-left (plainTo n t) (plain (getD t n 0)) p) k (omega (arith, eqb-false k n e)))
 
-end-by : (hit whole : Bool) → pick hit true false ≡ whole → hit ≡ whole
-end-by true whole e = e
-end-by false whole e = e
+escape-each : (t : List ℕ) → ((k : ℕ) → k < length t → eqb (getD t k 0) 34 ≡ false) → t ≡ escape true t
+escape-each [] f = refl
+escape-each (b ∷ t) f =
+    let z : eqb b 34 ≡ false = f 0 (omega arith) in
+    rw z (ap (λ (l : List ℕ). b ∷ l) (escape-each t (λ k h. f (suc k) (omega arith))))
 
-pub quoted-turn : (t : List ℕ) (i : ℕ) (hit r : Bool) → i < length t → pick hit true (quoted (drop i t)) ≡ quoted t → r ≡ pick (eqb (getD t i 0) 34) true hit
-    → pick r true (quoted (drop (i + 1) t)) ≡ quoted t
-quoted-turn t i hit r h e f = rw f (turn-by (eqb (getD t i 0) 34) hit (quoted (drop (i + 1) t)) (quoted t) (rw (drop-more t i h) at e))
-
-pub quoted-end : (t : List ℕ) (i : ℕ) (hit : Bool) → length t ≤ i → pick hit true (quoted (drop i t)) ≡ quoted t → hit ≡ quoted t
-quoted-end t i hit h e = end-by hit (quoted t) (rw (drop-of-length-le t h) at e)
+pub escape-plain : (t : List ℕ) (r : ℕ) → PlainRun (length t) t r → length t ≤ r → t ≡ escape true t
+escape-plain t r p h = escape-each t (λ k l. no-quote r t (p .is) k (omega arith))

@@ -3,16 +3,16 @@ use pen::put_byte;
 use pen::put_bytes;
 use pen::put_spaces;
 ghost use mathlib.Core.Path.{_≡_};
-ghost use mathlib.Core.Bool.{true};
+ghost use mathlib.Core.Bool.{true, _&&_};
 ghost use mathlib.Core.List.{[], _∷_, _++_};
 ghost use Prim.Native.Nat.{_+_, _≤_, _<_};
-ghost use lib.Dec.{ltb, eqb};
+ghost use lib.Dec.{ltb};
 ghost use lib.ListN.{length};
-ghost use Rattle.format.specs.Bytes.{pick, spaces};
+ghost use Rattle.format.specs.Bytes.{spaces};
 ghost use Rattle.format.specs.Wrap.{wrapped};
 ghost use Rattle.pen.specs.Pen.{Writes};
-ghost use Rattle.wrap.specs.Plain.{stillPlain, plainTo, LastTo};
-ghost use Rattle.wrap.specs.Line.{Breaks, Columns, LastSpace, stops, full, shown, escape, quoted, closed};
+ghost use Rattle.wrap.specs.Plain.{plain, plainTo, PlainRun, LastTo};
+ghost use Rattle.wrap.specs.Line.{Breaks, Columns, LastSpace, stops, full, shown, escape, closed};
 
 // Where a line ends in its text, and where the next one starts.
 pub struct Break {
@@ -113,31 +113,65 @@ fn line_scan(text: &[u8], taken: usize, width: usize, quote: bool) -> Break
     Break { end: i, next: i }
 }
 
-// What was plain before b is plain with it.
-fn still_plain(ok: bool, b: u8) -> bool
-    ensures { λ r. ⌜ r ≡ stillPlain ok b ⌝ }
+// Neither LF nor quote.
+fn is_plain(b: u8) -> bool
+    ensures { λ r. ⌜ r ≡ plain b ⌝ }
 {
     if b == 10 {
         return false;
     }
-    if b == 34 {
-        return false;
+    b != 34
+}
+
+// Both, without a branch: the compiler then tests many bytes at once.
+fn both(a: bool, b: bool) -> bool
+    ensures { λ r. ⌜ r ≡ (a && b) ⌝ }
+{
+    if a { b } else { false }
+}
+
+// Whether the 16 bytes from `at` on are plain.
+fn plain_block(text: &[u8], at: usize) -> bool
+    requires { ⌜ at + 16 ≤ length (now text) ⌝ }
+    ensures { λ r. ⌜ (r ≡ true → plainTo at (now (text .entry)) ≡ true → plainTo (at + 16) (now (text .entry)) ≡ true) ⌝ }
+{
+    let mut ok = true;
+    let mut j = 0;
+    while j < 16 {
+        ok = both(ok, is_plain(text[at + j]));
+        j += 1;
     }
     ok
 }
 
-// Whether the first n bytes hold neither LF nor quote, without a branch: the compiler then tests many at once.
-fn plain_to(text: &[u8], n: usize) -> bool
-    requires { ⌜ n ≤ length (now text) ⌝ }
-    ensures { λ r. ⌜ r ≡ plainTo n (now (text .entry)) ⌝ }
+// Where the plain bytes end among the first n, of which those before `at` are plain.
+fn plain_from(text: &[u8], at: usize, n: usize) -> usize
+    requires { ⌜ (at ≤ n) × (n ≤ length (now text)) × (plainTo at (now text) ≡ true) ⌝ }
+    ensures { λ r. ⌜ PlainRun n (now (text .entry)) r ⌝ }
 {
-    let mut ok = true;
-    let mut j = 0;
-    while j < n {
-        ok = still_plain(ok, text[j]);
-        j += 1;
+    let mut i = at;
+    while i < n {
+        if !is_plain(text[i]) {
+            return i;
+        }
+        i += 1;
     }
-    ok
+    i
+}
+
+// Where the plain bytes end among the first n.
+fn plain_run(text: &[u8], n: usize) -> usize
+    requires { ⌜ n ≤ length (now text) ⌝ }
+    ensures { λ r. ⌜ PlainRun n (now (text .entry)) r ⌝ }
+{
+    let mut i = 0;
+    while 16 <= n - i {
+        if !plain_block(text, i) {
+            return plain_from(text, i, n);
+        }
+        i += 16;
+    }
+    plain_from(text, i, n)
 }
 
 // The place after the last space among the first n bytes, 0 where there is none.
@@ -155,9 +189,23 @@ fn last_to(text: &[u8], n: usize) -> usize
     0
 }
 
-// The first line of the text, where `taken` columns are taken. Most lines are plain and need no scan.
+// The line that ends in the plain bytes before k, which is LF; or any other.
+fn fed_break(text: &[u8], k: usize, taken: usize, width: usize, quote: bool) -> Break
+    requires { ⌜ (length (now text) ≤ 16777216) × (taken + k < width) × (k < length (now text)) × (width ≤ 33554432) × (plainTo k (now text) ≡ true) ⌝ }
+    ensures { λ r. ⌜ Breaks quote width taken (now (text .entry)) r ⌝ }
+{
+    if text[k] == 10 {
+        return Break {
+            end: k,
+            next: k + 1,
+        };
+    }
+    line_scan(text, taken, width, quote)
+}
+
+// The first line of the text, where `taken` columns are taken. Most lines are plain up to their end and need no scan.
 fn line_break(text: &[u8], taken: usize, width: usize, quote: bool) -> Break
-    requires { ⌜ (length (now text) ≤ 16777216) × (taken ≤ 33554432) ⌝ }
+    requires { ⌜ (length (now text) ≤ 16777216) × (taken ≤ 33554432) × (width ≤ 132) ⌝ }
     ensures { λ r. ⌜ Breaks quote width taken (now (text .entry)) r ⌝ }
 {
     if width < taken {
@@ -166,16 +214,18 @@ fn line_break(text: &[u8], taken: usize, width: usize, quote: bool) -> Break
     let room = width - taken;
     let n = text.len();
     if n <= room {
-        if plain_to(text, n) {
-            return Break { end: n, next: n };
+        let k = plain_run(text, n);
+        if k < n {
+            return fed_break(text, k, taken, width, quote);
         }
-        return line_scan(text, taken, width, quote);
+        return Break { end: n, next: n };
+    }
+    let k = plain_run(text, room);
+    if k < room {
+        return fed_break(text, k, taken, width, quote);
     }
     if text[room] < 128 {
-        if plain_to(text, room) {
-            return full(text[room], room, last_to(text, room));
-        }
-        return line_scan(text, taken, width, quote);
+        return full(text[room], room, last_to(text, room));
     }
     line_scan(text, taken, width, quote)
 }
@@ -205,31 +255,12 @@ fn put_each_shown(out: &mut [u8], at: usize, line: &[u8], quote: bool) -> usize
     p
 }
 
-fn or_quote(hit: bool, b: u8) -> bool
-    ensures { λ r. ⌜ r ≡ pick (eqb b 34) true hit ⌝ }
-{
-    if b == 34 { true } else { hit }
-}
-
-// Whether a line holds a quote, without a branch.
-fn quoted(line: &[u8]) -> bool
-    ensures { λ r. ⌜ r ≡ quoted (now (line .entry)) ⌝ }
-{
-    let mut hit = false;
-    let mut i = 0;
-    while i < line.len() {
-        hit = or_quote(hit, line[i]);
-        i += 1;
-    }
-    hit
-}
-
 // A line as it is written: most hold no quote and go as they are.
 fn put_escaped(out: &mut [u8], at: usize, line: &[u8], quote: bool) -> usize
     ensures { λ r. ⌜ Writes (now (out .entry)) at (escape quote (now (line .entry))) (now (out .exit)) r ⌝ }
 {
     if quote {
-        if quoted(line) {
+        if plain_run(line, line.len()) < line.len() {
             return put_each_shown(out, at, line, quote);
         }
         return put_bytes(out, at, line);

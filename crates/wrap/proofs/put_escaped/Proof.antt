@@ -1,13 +1,13 @@
 -- `wrap::put_escaped` meets its contract.
 use Rattle.pen.specs.Pen.{writes-as}
-use mathlib.Core.Path.{sym, _∙_}
-use Rattle.wrap.specs.Loop.{escape-plain, escape-bare}
+use Rattle.wrap.specs.Loop.{escape-bare}
+use Rattle.wrap.specs.Plain.{escape-plain}
 use borrow.Author.Needs.{needs}
 use Rattle.wrap.proofs.put_escaped.Statement.{statement}
 use Rattle.wrap.proofs.put_escaped.Tie as tie
 
-quoted-requires : tie.Need-quoted-requires
-quoted-requires c κs = search needs
+plain-run-requires : tie.Need-plain-run-requires
+plain-run-requires c κs = search needs
 
 put-each-shown-requires : tie.Need-put-each-shown-requires
 put-each-shown-requires c κs = search needs
@@ -25,7 +25,7 @@ same-length-2 : tie.Need-same-length-2
 same-length-2 c = search needs
 
 returns-2 : tie.Need-returns-2
-returns-2 c = simp (c .before .before .before .before .before .before .if1 .taken) (writes-as (escape-plain _ (sym (c .before .before .before .before .before .quoted .ensures) ∙ c .before .before .before .before .if2 .left)) (c .before .before .put-bytes .ensures))
+returns-2 c = simp (c .before .before .before .before .before .before .if1 .taken) (writes-as (escape-plain _ _ (c .before .before .before .before .before .plain-run .ensures) (c .before .before .before .before .if2 .left)) (c .before .before .put-bytes .ensures))
 
 put-bytes-requires-2 : tie.Need-put-bytes-requires-2
 put-bytes-requires-2 c κs = search needs
@@ -40,7 +40,7 @@ pub put-escaped-spec : {M : Type 1} → statement M
 put-escaped-spec =
     tie.close
     (tie.spec
-    quoted-requires
+    plain-run-requires
     put-each-shown-requires
     same-length
     returns

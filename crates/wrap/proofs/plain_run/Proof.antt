@@ -1,0 +1,63 @@
+-- `wrap::plain_run` meets its contract.
+use mathlib.Core.Bool.{true}
+use borrow.Author.Tests.{not-false}
+use Rattle.wrap.specs.Plain.{plainTo}
+use Prim.Native.Nat.{_-_, _≤_}
+use mathlib.Core.Path.{_≡_, refl}
+use native.Mathlib.Omega.{arith}
+use borrow.Author.Needs.{needs}
+use Rattle.wrap.proofs.plain_run.Statement.{statement}
+use Rattle.wrap.proofs.plain_run.Tie as tie
+
+abbrev Inv-loop : tie.InvT-loop
+Inv-loop text n i₀ i = (i ≤ n) × (plainTo i text ≡ true)
+
+abbrev μ-loop : tie.MeasureT-loop
+μ-loop text n i₀ i = n - i
+
+loop-holds : tie.Need-loop-holds Inv-loop μ-loop
+loop-holds c = (search needs, refl)
+
+sub-loop : tie.Need-sub-loop Inv-loop μ-loop
+sub-loop c = search needs
+
+plain-block-requires : tie.Need-plain-block-requires Inv-loop μ-loop
+plain-block-requires c κs = search needs
+
+plain-from-requires : tie.Need-plain-from-requires Inv-loop μ-loop
+plain-from-requires c κs = search needs
+
+returns : tie.Need-returns Inv-loop μ-loop
+returns c = search needs
+
+add-i : tie.Need-add-i Inv-loop μ-loop
+add-i c = search needs
+
+loop-less : tie.Need-loop-less Inv-loop μ-loop
+loop-less c = search needs
+
+loop-again : tie.Need-loop-again Inv-loop μ-loop
+loop-again c = (omega arith, c .before .plain-block .ensures (not-false _ (c .if1 .left)) (c .before .before .before .loop .inv .1))
+
+plain-from-requires-2 : tie.Need-plain-from-requires-2 Inv-loop μ-loop
+plain-from-requires-2 c κs = search needs
+
+returns-2 : tie.Need-returns-2 Inv-loop μ-loop
+returns-2 c = search needs
+
+pub plain-run-spec : {M : Type 1} → statement M
+plain-run-spec =
+    tie.close
+    (tie.spec
+    Inv-loop
+    μ-loop
+    loop-holds
+    sub-loop
+    plain-block-requires
+    plain-from-requires
+    returns
+    add-i
+    loop-less
+    loop-again
+    plain-from-requires-2
+    returns-2)
