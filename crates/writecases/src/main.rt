@@ -301,17 +301,32 @@ fn all_edges() {
     edges(132);
 }
 
+// A kind, with a note of one letter.
+fn kind_case(kind: &[u8], width: usize) {
+    feature_case(kind, b"1..12", b"note", 1, b"", width);
+}
+
 fn kinds(width: usize) {
     say(b"== a kind of 15, of 16, at width", width);
-    feature_case(b"abcdefghijklmno", b"1..12", b"note", 1, b"", width);
-    feature_case(b"abcdefghijklmnop", b"1..12", b"note", 1, b"", width);
+    kind_case(b"abcdefghijklmno", width);
+    kind_case(b"abcdefghijklmnop", width);
+}
+
+// A key, with a value of n letters and `end`.
+fn value_case(key: &[u8], n: usize, end: &[u8], width: usize) {
+    feature_case(b"CDS", b"1", key, n, end, width);
 }
 
 // Two keys, of W - 25 bytes and of one more.
 fn long_keys(fits: &[u8], over: &[u8], width: usize) {
     say(b"== a key of W - 25, of one byte more, at width", width);
-    feature_case(b"CDS", b"1", fits, 1, b"", width);
-    feature_case(b"CDS", b"1", over, 1, b"", width);
+    value_case(fits, 1, b"", width);
+    value_case(over, 1, b"", width);
+}
+
+// A location, with a note of one letter.
+fn location_case(location: &[u8], width: usize) {
+    feature_case(b"CDS", location, b"note", 1, b"", width);
 }
 
 fn locations(width: usize) {
@@ -319,28 +334,20 @@ fn locations(width: usize) {
         b"== a location with commas, without, empty, at width",
         width,
     );
-    feature_case(
-        b"CDS",
+    location_case(
         b"join(100..200,300..400,500..600,700..800,900..1000,1100..1200,1300..1400,1500..1600,1700..1800,1900..2000,2100..2200,2300..2400)",
-        b"note",
-        1,
-        b"",
         width,
     );
-    feature_case(
-        b"CDS",
+    location_case(
         b"aaaaaaaaaabbbbbbbbbbccccccccccddddddddddeeeeeeeeeeffffffffffgggggggggghhhhhhhhhhiiiiiiiiiijjjjjjjjjjkkkkkkkkkkllllllllll",
-        b"note",
-        1,
-        b"",
         width,
     );
-    feature_case(b"CDS", b"", b"note", 1, b"", width);
+    location_case(b"", width);
 }
 
 // A short value of that key.
 fn key_case(key: &[u8]) {
-    feature_case(b"CDS", b"1", key, 2, b"1", 80);
+    value_case(key, 2, b"1", 80);
 }
 
 fn bare_keys() {
@@ -372,11 +379,14 @@ fn more_values() {
     line(
         b"== a translation over lines, a comma-broken value, a bare value with LF, a key with =, a value that is not UTF-8",
     );
-    feature_case(b"CDS", b"1", b"translation", 150, b"", 60);
-    feature_case(b"CDS", b"1", b"anticodon", 40, b",aa,seq:tgc)", 60);
-    feature_case(b"CDS", b"1", b"citation", 1, b"\nb", 60);
-    feature_case(b"CDS", b"1", b"a=b", 1, b"", 60);
-    feature_case(b"CDS", b"1", b"note", 1, b"\xff", 60);
+    value_case(b"translation", 150, b"", 60);
+    value_case(b"anticodon", 40, b",aa,seq:tgc)", 60);
+}
+
+fn further_values() {
+    value_case(b"citation", 1, b"\nb", 60);
+    value_case(b"a=b", 1, b"", 60);
+    value_case(b"note", 1, b"\xff", 60);
 }
 
 // A DEFINITION of n letters and `end`.
@@ -406,6 +416,9 @@ fn definitions() {
     definition_case(67, b"", 80);
     definition_case(68, b"", 80);
     definition_case(69, b"", 80);
+}
+
+fn more_definitions() {
     definition_case(60, b" and more words", 80);
     definition_case(3, b"\n", 80);
     definition_case(3, b"\rb", 80);
@@ -480,9 +493,15 @@ fn names() {
     name_case(b"abcdefghijklmnopqrstuvwx", 123, false, false);
     name_case(b"abcdefghijklmnopqrstuvwxy", 123, false, false);
     name_case(b"abcdefghijklmnopqrstuvwxy", 123, true, false);
+}
+
+fn more_names() {
     name_case(b"two words", 123, false, false);
     name_case(b"two words", 123, false, true);
     name_case(b" two \xc2\xa0 three\xe2\x80\x83words ", 123, false, true);
+}
+
+fn further_names() {
     name_case(b"one\xc2\xa0", 123, false, true);
     name_case(b"a long name of more than 28 bytes", 4294967295, true, true);
     name_case(b"", 1, false, false);
@@ -666,9 +685,13 @@ fn main() {
     more_bare_keys();
     last_bare_keys();
     more_values();
+    further_values();
     definitions();
+    more_definitions();
     sequences();
     names();
+    more_names();
+    further_names();
     rooms();
     spans();
     run_examples();
