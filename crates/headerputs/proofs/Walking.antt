@@ -26,10 +26,12 @@ use Rattle.headerfields.specs.declared.FieldAt.the-variants as read
 use Rattle.headerfields.specs.Fields.{FieldIs, FieldKnown, FieldAs, FieldRead}
 use Rattle.gather.specs.Notes.{entryIn}
 use Rattle.gather.specs.Gathered.{fieldsAt}
-use Rattle.headerputs.specs.declared.Pens.{Pens}
-use Rattle.headerputs.specs.Pieces.{allPieces, onePieces, wantedIn, wanted, entryText, mayText, referenceOf, referenceFound, commentFound, foundIn, Ready, MayReady, ReferenceReady, FieldReady}
-use Rattle.headerputs.specs.Puts.{begun, bytesOf, numbersOf, Room, Puts, Laid}
-use Rattle.headerputs.proofs.Putting.{bytes-length, numbers-length, bytes-append, numbers-append, text-append, rows-append, puts-none, puts-append}
+use Rattle.referenceputs.specs.declared.Pens.{Pens}
+use Rattle.referenceputs.specs.Pieces.{entryText, mayText, referenceOf, commentFound, Ready, MayReady, ReferenceReady}
+use Rattle.referenceputs.specs.Puts.{bytesOf, numbersOf, Room, Puts}
+use Rattle.headerputs.specs.Pieces.{allPieces, onePieces, wantedIn, wanted, referenceFound, foundIn, FieldReady}
+use Rattle.headerputs.specs.Puts.{begun, Laid}
+use Rattle.referenceputs.specs.Putting.{bytes-length, numbers-length, bytes-append, numbers-append, text-append, rows-append, puts-none, puts-append}
 
 -- ---- what stands in a field is found there
 

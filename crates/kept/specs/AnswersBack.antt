@@ -17,7 +17,7 @@ use Rattle.format.specs.Answers.{keepingAnswer, sliceAfter}
 use Rattle.format.specs.declared.Head.{Head}
 use Rattle.format.specs.declared.ReadAnswer.the-variants as read
 use Rattle.format.specs.declared.WriteAnswer.the-variants as answer
-use Rattle.kept.specs.Tests.{and-both}
+use Rattle.textsback.specs.Tests.{and-both}
 use Rattle.kept.specs.LocusBack.{lengthFits}
 use Rattle.kept.specs.RecordsBack.{kept-alone}
 

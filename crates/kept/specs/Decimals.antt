@@ -12,7 +12,7 @@ use Rattle.format.specs.Dates.{made, isDate, months, monthName, dateText}
 use Rattle.format.specs.Locus.{placeIn, dateOf, dateToken}
 use Rattle.format.specs.declared.Date.{Date}
 use Rattle.format.specs.declared.Dated.the-variants as dated
-use Rattle.kept.specs.Tests.{and-left, and-right, all-append}
+use Rattle.textsback.specs.Tests.{and-left, and-right, all-append}
 
 abbrev power : ℕ → ℕ
 power zero = 1

@@ -18,10 +18,10 @@ use Rattle.format.specs.WellFormed.{kindFine, qualifierFine, featureFine}
 use Rattle.format.specs.Keeping.{kindKept, noSlash, qualifierKept, featureKept}
 use Rattle.laws.specs.Loops.{fit-shrinks, try-shrinks}
 use Rattle.laws.specs.Shrinks.{qualifier-small, feature-small}
-use Rattle.kept.specs.Tests.{and-left, and-right, all-head, all-tail, all-imp, all-first, starts-more}
-use Rattle.kept.specs.Pieces.{until-back, spaces-back, visible-but}
-use Rattle.kept.specs.Joins.{each-follow, each-back}
-use Rattle.kept.specs.BareBack.{ends, commas-starts, commas-back}
+use Rattle.textsback.specs.Tests.{and-left, and-right, all-head, all-tail, all-imp, all-first, starts-more}
+use Rattle.textsback.specs.Pieces.{until-back, spaces-back, visible-but}
+use Rattle.textsback.specs.Joins.{each-follow, each-back}
+use Rattle.textsback.specs.BareBack.{ends, commas-starts, commas-back}
 use Rattle.kept.specs.QualifierBack.{qualifier-back, qualifier-follow, outside, outside-ends, outside-qualifier, starts-outside}
 
 all-both : {A : Type 0} (p q : A → Bool) (xs : List A) → all p xs ≡ true → all q xs ≡ true → all (λ x. p x && q x) xs ≡ true

@@ -16,8 +16,8 @@ use Rattle.format.specs.WellFormed.{ifIs, sourceTexts, referenceTexts, headerTe
 use Rattle.format.specs.Keeping.{headerKept, pubmedKept}
 use Rattle.laws.specs.Loops.{tries-more, tries-no}
 use Rattle.laws.specs.Shrinks.{header-small}
-use Rattle.kept.specs.Tests.{and-left, and-right, and-both, all-head, all-tail}
-use Rattle.kept.specs.FieldBack.{field-back}
+use Rattle.textsback.specs.Tests.{and-left, and-right, and-both, all-head, all-tail}
+use Rattle.textsback.specs.FieldBack.{field-back}
 use Rattle.kept.specs.ReferenceBack.{no-indent, other-word, after, begins, field-test, source-back, reference-back, afterReference, begins-reference}
 
 -- ---- which reader the word chooses: those before it say no

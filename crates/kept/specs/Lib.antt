@@ -1,15 +1,8 @@
-pub mod Tests
-pub mod WrapKept
-pub mod Pieces
-pub mod Joins
-pub mod BareBack
-pub mod QuotedBack
 pub mod QualifierBack
 pub mod FeatureBack
 pub mod Decimals
 pub mod LocusBack
 pub mod OriginBack
-pub mod FieldBack
 pub mod ReferenceBack
 pub mod HeaderBack
 pub mod RecordBack

@@ -18,8 +18,8 @@ use Rattle.format.specs.Keeping.{spaceless, present, locusKept}
 use Rattle.format.specs.declared.Date.{Date}
 use Rattle.format.specs.declared.Dated.{Dated}
 use Rattle.format.specs.declared.Dated.the-variants as dated
-use Rattle.kept.specs.Tests.{and-left, and-right, all-head, all-tail, all-append, all-imp, all-and, all-first, starts-more}
-use Rattle.kept.specs.Pieces.{until-back, all-spaces, noEnd, line-back, visible-noEnd}
+use Rattle.textsback.specs.Tests.{and-left, and-right, all-head, all-tail, all-append, all-imp, all-and, all-first, starts-more}
+use Rattle.textsback.specs.Pieces.{until-back, all-spaces, noEnd, line-back, visible-noEnd}
 use Rattle.kept.specs.Decimals.{decimal-back, all-digits, some-digits, length-digits, DateBack, date-back}
 
 -- nothing is skipped before the word

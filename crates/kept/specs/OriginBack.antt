@@ -11,8 +11,8 @@ use Rattle.format.specs.Bytes.{bytes, spaces, all, but, digit, letter, digits, 
 use Rattle.format.specs.Readers.{Got, tag, until, lineEnd}
 use Rattle.format.specs.Origin.{originTag, AtSlash, skipped, letters}
 use Rattle.format.specs.Write.{rightAligned, lineStart, tenStart, letterLines, originLines}
-use Rattle.kept.specs.Tests.{and-left, and-right, all-head, all-tail, all-append, all-imp}
-use Rattle.kept.specs.Pieces.{all-spaces}
+use Rattle.textsback.specs.Tests.{and-left, and-right, all-head, all-tail, all-append, all-imp}
+use Rattle.textsback.specs.Pieces.{all-spaces}
 use Rattle.kept.specs.Decimals.{all-digits}
 
 -- ---- which bytes are kept, and which are skipped

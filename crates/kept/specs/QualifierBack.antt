@@ -16,11 +16,11 @@ use Rattle.format.specs.Wrap.{commaLines, wrapLocation, wrapped, wrapText}
 use Rattle.format.specs.Write.{commaKey, bareKey, keyText, valueLines, qualifierText, qualifierLines}
 use Rattle.format.specs.WellFormed.{ifIs, keyFine, valueFine, qualifierFine}
 use Rattle.format.specs.Keeping.{linesKept, noSlash, noQuoteFirst, translationKept, bareKept, valueKept, qualifierKept}
-use Rattle.kept.specs.Tests.{and-left, and-right, and-both, all-head, all-tail, all-and}
-use Rattle.kept.specs.Pieces.{until-back, noEnd, visible-noEnd}
-use Rattle.kept.specs.WrapKept.{laid-one, wrapped-kept}
-use Rattle.kept.specs.BareBack.{ends, line-bare, commas-starts, commas-back}
-use Rattle.kept.specs.QuotedBack.{quoted-back, joined-back}
+use Rattle.textsback.specs.Tests.{and-left, and-right, and-both, all-head, all-tail, all-and}
+use Rattle.textsback.specs.Pieces.{until-back, noEnd, visible-noEnd}
+use Rattle.textsback.specs.WrapKept.{laid-one, wrapped-kept}
+use Rattle.textsback.specs.BareBack.{ends, line-bare, commas-starts, commas-back}
+use Rattle.textsback.specs.QuotedBack.{quoted-back, joined-back}
 
 -- ---- bytes
 

@@ -23,10 +23,10 @@ use Rattle.format.specs.Keeping.{switchesKept, locusKept, headerKept, pubmedKep
 use Rattle.format.specs.declared.Unread.the-variants as unread
 use Rattle.laws.specs.Loops.{tries-more, tries-no, tries-cut}
 use Rattle.laws.specs.Shrinks.{lineEnd-small}
-use Rattle.kept.specs.Tests.{and-left, and-right}
+use Rattle.textsback.specs.Tests.{and-left, and-right}
 use Rattle.kept.specs.LocusBack.{preamble-back, lengthFits, locus-back}
 use Rattle.kept.specs.OriginBack.{origin-back, numbered-back}
-use Rattle.kept.specs.FieldBack.{contig-back}
+use Rattle.textsback.specs.FieldBack.{contig-back}
 use Rattle.kept.specs.ReferenceBack.{refused, is-no}
 use Rattle.kept.specs.HeaderBack.{fieldsOf, header-back, definition-is, accession-is, version-is, dblink-is, keywords-is, source-is, references-are, comments-are, definitions-are, mayList}
 use Rattle.kept.specs.FeatureBack.{table-back}

@@ -16,7 +16,7 @@ use Rattle.format.specs.Write.{locusText, written}
 use Rattle.format.specs.WellFormed.{widthFine, wellFormed}
 use Rattle.format.specs.Keeping.{keeps}
 use Rattle.format.specs.declared.Unread.the-variants as unread
-use Rattle.kept.specs.Tests.{and-left, and-right, all-head, all-tail}
+use Rattle.textsback.specs.Tests.{and-left, and-right, all-head, all-tail}
 use Rattle.kept.specs.LocusBack.{lengthFits}
 use Rattle.kept.specs.RecordBack.{lineEnds, kept}
 

@@ -15,8 +15,8 @@ use Rattle.format.specs.Wrap.{wrapped, wrapText}
 use Rattle.format.specs.Write.{padded, fieldLines, maybeLines, referenceLines}
 use Rattle.format.specs.WellFormed.{ifIs, sourceTexts, referenceTexts}
 use Rattle.format.specs.Keeping.{headerKept, pubmedKept}
-use Rattle.kept.specs.Tests.{and-left, and-right}
-use Rattle.kept.specs.FieldBack.{field-back}
+use Rattle.textsback.specs.Tests.{and-left, and-right}
+use Rattle.textsback.specs.FieldBack.{field-back}
 
 -- ---- what a reader refuses
 

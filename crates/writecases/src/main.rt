@@ -90,6 +90,94 @@ fn head_with(bases: u32, definition: Text, features: usize, letters: usize) -> H
     }
 }
 
+// The plain writer, of a table without references and comments.
+fn write_plainly(
+    out: &mut [u8],
+    texts: &[u8],
+    features: &[usize],
+    qualifiers: &[usize],
+    letters: &[u8],
+    head: Head,
+    width: usize,
+    truncate: bool,
+    escape: bool,
+) -> WriteAnswer {
+    let rows = [0usize; 0];
+    writer::write(
+        out,
+        texts,
+        &rows,
+        &rows,
+        features,
+        qualifiers,
+        letters,
+        head,
+        width,
+        truncate,
+        escape,
+    )
+}
+
+// The same of a table that is its head alone.
+fn write_head(
+    out: &mut [u8],
+    texts: &[u8],
+    head: Head,
+    width: usize,
+    truncate: bool,
+    escape: bool,
+) -> WriteAnswer {
+    let rows = [0usize; 0];
+    let letters = [0u8; 0];
+    write_plainly(
+        out,
+        texts,
+        &rows,
+        &rows,
+        &letters,
+        head,
+        width,
+        truncate,
+        escape,
+    )
+}
+
+// The keeping writer.
+fn write_keeping(
+    out: &mut [u8],
+    texts: &[u8],
+    features: &[usize],
+    qualifiers: &[usize],
+    letters: &[u8],
+    head: Head,
+    width: usize,
+) -> WriteAnswer {
+    let rows = [0usize; 0];
+    writer::keep(
+        out,
+        texts,
+        &rows,
+        &rows,
+        features,
+        qualifiers,
+        letters,
+        head,
+        width,
+        false,
+        false,
+    )
+}
+
+// The answer, and what was written, from the given place on.
+fn show_written(answer: WriteAnswer, out: &[u8], from: usize) {
+    tell(answer);
+    match answer {
+        WriteAnswer::Done(n) => show_from(out, from, n),
+        WriteAnswer::Refused(_) => {}
+        WriteAnswer::Room(_) => {}
+    }
+}
+
 // Writes the table plainly and shows what stands from a place on; then says what the keeping writer answers.
 fn write_both(
     texts: &[u8],
@@ -101,12 +189,9 @@ fn write_both(
     width: usize,
 ) {
     let mut out = io::buffer();
-    let rows = [0usize; 0];
-    let answer = writer::write(
+    let answer = write_plainly(
         &mut out,
         texts,
-        &rows,
-        &rows,
         features,
         qualifiers,
         letters,
@@ -115,25 +200,8 @@ fn write_both(
         false,
         false,
     );
-    tell(answer);
-    match answer {
-        WriteAnswer::Done(n) => show_from(&out, from, n),
-        WriteAnswer::Refused(_) => {}
-        WriteAnswer::Room(_) => {}
-    }
-    tell(writer::keep(
-        &mut out,
-        texts,
-        &rows,
-        &rows,
-        features,
-        qualifiers,
-        letters,
-        head,
-        width,
-        false,
-        false,
-    ));
+    show_written(answer, &out, from);
+    tell(write_keeping(&mut out, texts, features, qualifiers, letters, head, width));
 }
 
 // n letters.
@@ -207,14 +275,22 @@ fn edge(name: &[u8], end: &[u8], width: usize) {
     }
 }
 
-fn edges(width: usize) {
+fn byte_edges(width: usize) {
     edge(b"== letters", b"", width);
     edge(b"== a space", b" bc", width);
     edge(b"== a quote", b"\"bc", width);
     edge(b"== LF", b"\nbc", width);
+}
+
+fn character_edges(width: usize) {
     edge(b"== two bytes", b"\xc3\xa9bc", width);
     edge(b"== three bytes", b"\xe2\x82\xacbc", width);
     edge(b"== four bytes", b"\xf0\x9d\x84\x9ebc", width);
+}
+
+fn edges(width: usize) {
+    byte_edges(width);
+    character_edges(width);
 }
 
 fn all_edges() {
@@ -225,17 +301,32 @@ fn all_edges() {
     edges(132);
 }
 
+// A kind, with a note of one letter.
+fn kind_case(kind: &[u8], width: usize) {
+    feature_case(kind, b"1..12", b"note", 1, b"", width);
+}
+
 fn kinds(width: usize) {
     say(b"== a kind of 15, of 16, at width", width);
-    feature_case(b"abcdefghijklmno", b"1..12", b"note", 1, b"", width);
-    feature_case(b"abcdefghijklmnop", b"1..12", b"note", 1, b"", width);
+    kind_case(b"abcdefghijklmno", width);
+    kind_case(b"abcdefghijklmnop", width);
+}
+
+// A key, with a value of n letters and `end`.
+fn value_case(key: &[u8], n: usize, end: &[u8], width: usize) {
+    feature_case(b"CDS", b"1", key, n, end, width);
 }
 
 // Two keys, of W - 25 bytes and of one more.
 fn long_keys(fits: &[u8], over: &[u8], width: usize) {
     say(b"== a key of W - 25, of one byte more, at width", width);
-    feature_case(b"CDS", b"1", fits, 1, b"", width);
-    feature_case(b"CDS", b"1", over, 1, b"", width);
+    value_case(fits, 1, b"", width);
+    value_case(over, 1, b"", width);
+}
+
+// A location, with a note of one letter.
+fn location_case(location: &[u8], width: usize) {
+    feature_case(b"CDS", location, b"note", 1, b"", width);
 }
 
 fn locations(width: usize) {
@@ -243,28 +334,20 @@ fn locations(width: usize) {
         b"== a location with commas, without, empty, at width",
         width,
     );
-    feature_case(
-        b"CDS",
+    location_case(
         b"join(100..200,300..400,500..600,700..800,900..1000,1100..1200,1300..1400,1500..1600,1700..1800,1900..2000,2100..2200,2300..2400)",
-        b"note",
-        1,
-        b"",
         width,
     );
-    feature_case(
-        b"CDS",
+    location_case(
         b"aaaaaaaaaabbbbbbbbbbccccccccccddddddddddeeeeeeeeeeffffffffffgggggggggghhhhhhhhhhiiiiiiiiiijjjjjjjjjjkkkkkkkkkkllllllllll",
-        b"note",
-        1,
-        b"",
         width,
     );
-    feature_case(b"CDS", b"", b"note", 1, b"", width);
+    location_case(b"", width);
 }
 
 // A short value of that key.
 fn key_case(key: &[u8]) {
-    feature_case(b"CDS", b"1", key, 2, b"1", 80);
+    value_case(key, 2, b"1", 80);
 }
 
 fn bare_keys() {
@@ -296,11 +379,14 @@ fn more_values() {
     line(
         b"== a translation over lines, a comma-broken value, a bare value with LF, a key with =, a value that is not UTF-8",
     );
-    feature_case(b"CDS", b"1", b"translation", 150, b"", 60);
-    feature_case(b"CDS", b"1", b"anticodon", 40, b",aa,seq:tgc)", 60);
-    feature_case(b"CDS", b"1", b"citation", 1, b"\nb", 60);
-    feature_case(b"CDS", b"1", b"a=b", 1, b"", 60);
-    feature_case(b"CDS", b"1", b"note", 1, b"\xff", 60);
+    value_case(b"translation", 150, b"", 60);
+    value_case(b"anticodon", 40, b",aa,seq:tgc)", 60);
+}
+
+fn further_values() {
+    value_case(b"citation", 1, b"\nb", 60);
+    value_case(b"a=b", 1, b"", 60);
+    value_case(b"note", 1, b"\xff", 60);
 }
 
 // A DEFINITION of n letters and `end`.
@@ -330,6 +416,9 @@ fn definitions() {
     definition_case(67, b"", 80);
     definition_case(68, b"", 80);
     definition_case(69, b"", 80);
+}
+
+fn more_definitions() {
     definition_case(60, b" and more words", 80);
     definition_case(3, b"\n", 80);
     definition_case(3, b"\rb", 80);
@@ -362,21 +451,14 @@ fn sequences() {
     letters_case(121, 121);
 }
 
-// A record with that name, a molecule type of eight bytes, and no date.
-fn name_case(name: &[u8], bases: u32, truncate: bool, escape: bool) {
-    let mut texts = io::buffer();
-    let a = pen::put_bytes(&mut texts, 0, name);
-    let b = pen::put_bytes(&mut texts, a, b"mRNA-ctD");
-    let c = pen::put_bytes(&mut texts, b, b"SYN");
-    let mut out = io::buffer();
-    let rows = [0usize; 0];
-    let letters = [0u8; 0];
-    let head = Head {
-        name: Text::At(span(0, a)),
+// The head of a circular record without a date; where its name, its molecule type and its division lie.
+fn named_head(name: Span, bases: u32, molecule: Span, division: Span) -> Head {
+    Head {
+        name: Text::At(name),
         length: Length::Bases(bases),
-        molecule: Text::At(span(a, b)),
+        molecule: Text::At(molecule),
         circular: true,
-        division: span(b, c),
+        division: division,
         date: Dated::Absent,
         definition: Text::Absent,
         accession: Text::Absent,
@@ -389,26 +471,19 @@ fn name_case(name: &[u8], bases: u32, truncate: bool, escape: bool) {
         features: 0,
         contig: Text::Absent,
         letters: 0,
-    };
-    let answer = writer::write(
-        &mut out,
-        &texts,
-        &rows,
-        &rows,
-        &rows,
-        &rows,
-        &letters,
-        head,
-        80,
-        truncate,
-        escape,
-    );
-    tell(answer);
-    match answer {
-        WriteAnswer::Done(n) => show_from(&out, 0, n),
-        WriteAnswer::Refused(_) => {}
-        WriteAnswer::Room(_) => {}
     }
+}
+
+// A record with that name, a molecule type of eight bytes, and no date.
+fn name_case(name: &[u8], bases: u32, truncate: bool, escape: bool) {
+    let mut texts = io::buffer();
+    let a = pen::put_bytes(&mut texts, 0, name);
+    let b = pen::put_bytes(&mut texts, a, b"mRNA-ctD");
+    let c = pen::put_bytes(&mut texts, b, b"SYN");
+    let head = named_head(span(0, a), bases, span(a, b), span(b, c));
+    let mut out = io::buffer();
+    let answer = write_head(&mut out, &texts, head, 80, truncate, escape);
+    show_written(answer, &out, 0);
 }
 
 fn names() {
@@ -418,9 +493,15 @@ fn names() {
     name_case(b"abcdefghijklmnopqrstuvwx", 123, false, false);
     name_case(b"abcdefghijklmnopqrstuvwxy", 123, false, false);
     name_case(b"abcdefghijklmnopqrstuvwxy", 123, true, false);
+}
+
+fn more_names() {
     name_case(b"two words", 123, false, false);
     name_case(b"two words", 123, false, true);
     name_case(b" two \xc2\xa0 three\xe2\x80\x83words ", 123, false, true);
+}
+
+fn further_names() {
     name_case(b"one\xc2\xa0", 123, false, true);
     name_case(b"a long name of more than 28 bytes", 4294967295, true, true);
     name_case(b"", 1, false, false);
@@ -428,48 +509,18 @@ fn names() {
 
 // The width, and the slice that is too short or empty.
 fn rooms_case(out: &mut [u8], width: usize) {
-    let rows = [0usize; 0];
-    let letters = [0u8; 0];
-    tell(writer::write(
-        out,
-        b"P318SYN",
-        &rows,
-        &rows,
-        &rows,
-        &rows,
-        &letters,
-        head_with(12, Text::Absent, 0, 0),
-        width,
-        false,
-        false,
-    ));
+    let head = head_with(12, Text::Absent, 0, 0);
+    tell(write_head(out, b"P318SYN", head, width, false, false));
 }
 
 fn spans_case(start: usize, length: usize) {
     let mut out = io::buffer();
-    let rows = [0usize; 0];
-    let letters = [0u8; 0];
-    tell(writer::write(
-        &mut out,
-        b"P318SYN",
-        &rows,
-        &rows,
-        &rows,
-        &rows,
-        &letters,
-        head_with(
-            12,
-            Text::At(Span {
-                start: start,
-                length: length,
-            }),
-            0,
-            0,
-        ),
-        80,
-        false,
-        false,
-    ));
+    let definition = Text::At(Span {
+        start: start,
+        length: length,
+    });
+    let head = head_with(12, definition, 0, 0);
+    tell(write_head(&mut out, b"P318SYN", head, 80, false, false));
 }
 
 fn rooms() {
@@ -486,11 +537,42 @@ fn rooms() {
     rooms_case(&mut out, 80);
     rooms_case(&mut short, 80);
     rooms_case(&mut empty, 80);
+}
+
+fn spans() {
     line(b"== a span at the store's end, past it, one that would wrap");
     spans_case(7, 0);
     spans_case(0, 8);
     spans_case(8, 0);
     spans_case(5, 18446744073709551615);
+}
+
+// What is said of a record that was read back, or not.
+fn show_read(
+    answer: ReadAnswer,
+    texts: &[u8],
+    references: &[usize],
+    comments: &[usize],
+    features: &[usize],
+    qualifiers: &[usize],
+    letters: &[u8],
+) {
+    match answer {
+        ReadAnswer::Done { head, place } => {
+            say(b"0", place);
+            showtable::show_table(
+                texts,
+                references,
+                comments,
+                features,
+                qualifiers,
+                letters,
+                head,
+            );
+        }
+        ReadAnswer::Refused(why) => say(b"refused by", numbers::unread_number(why)),
+        ReadAnswer::Room(_) => line(b"6"),
+    }
 }
 
 // Reads back what was written.
@@ -501,7 +583,7 @@ fn read_back(s: &[u8]) {
     let mut features = [7usize; 6];
     let mut qualifiers = [7usize; 4];
     let mut letters = [35u8; 16];
-    match reader::read(
+    let answer = reader::read(
         s,
         0,
         &mut texts,
@@ -510,22 +592,16 @@ fn read_back(s: &[u8]) {
         &mut features,
         &mut qualifiers,
         &mut letters,
-    ) {
-        ReadAnswer::Done { head, place } => {
-            say(b"0", place);
-            showtable::show_table(
-                &texts,
-                &references,
-                &comments,
-                &features,
-                &qualifiers,
-                &letters,
-                head,
-            );
-        }
-        ReadAnswer::Refused(why) => say(b"refused by", numbers::unread_number(why)),
-        ReadAnswer::Room(_) => line(b"6"),
-    }
+    );
+    show_read(
+        answer,
+        &texts,
+        &references,
+        &comments,
+        &features,
+        &qualifiers,
+        &letters,
+    );
 }
 
 fn read_start(s: &[u8], n: usize) {
@@ -536,13 +612,10 @@ fn read_start(s: &[u8], n: usize) {
 
 fn write_and_read(texts: &[u8], features: &[usize], qualifiers: &[usize], head: Head) {
     let mut out = io::buffer();
-    let rows = [0usize; 0];
     let letters = [0u8; 0];
-    match writer::write(
+    match write_plainly(
         &mut out,
         texts,
-        &rows,
-        &rows,
         features,
         qualifiers,
         &letters,
@@ -557,40 +630,39 @@ fn write_and_read(texts: &[u8], features: &[usize], qualifiers: &[usize], head: 
     }
 }
 
-fn run_examples() {
-    line(
-        b"== a kind of 16 bytes written with a note reads as 7; of 15 as itself; a final LF is lost",
-    );
-    let rows = [0usize; 0];
+// A feature whose kind is the first n of sixteen letters, with a note.
+fn kind_example(n: usize) {
     let note = [29usize, 4, 33, 2];
-    let sixteen = [7usize, 16, 23, 5, 0, 1];
-    let fifteen = [7usize, 15, 23, 5, 0, 1];
+    let feature = [7usize, n, 23, 5, 0, 1];
     write_and_read(
         b"P318SYNabcdefghijklmnop1..12-notex",
-        &sixteen,
+        &feature,
         &note,
         head_with(12, Text::Absent, 1, 0),
     );
-    write_and_read(
-        b"P318SYNabcdefghijklmnop1..12-notex",
-        &fifteen,
-        &note,
-        head_with(12, Text::Absent, 1, 0),
-    );
+}
+
+fn definition_example() {
+    let rows = [0usize; 0];
+    let definition = Text::At(Span {
+        start: 7,
+        length: 5,
+    });
     write_and_read(
         b"P318SYNlost\n",
         &rows,
         &rows,
-        head_with(
-            12,
-            Text::At(Span {
-                start: 7,
-                length: 5,
-            }),
-            0,
-            0,
-        ),
+        head_with(12, definition, 0, 0),
     );
+}
+
+fn run_examples() {
+    line(
+        b"== a kind of 16 bytes written with a note reads as 7; of 15 as itself; a final LF is lost",
+    );
+    kind_example(16);
+    kind_example(15);
+    definition_example();
 }
 
 fn main() {
@@ -613,9 +685,14 @@ fn main() {
     more_bare_keys();
     last_bare_keys();
     more_values();
+    further_values();
     definitions();
+    more_definitions();
     sequences();
     names();
+    more_names();
+    further_names();
     rooms();
+    spans();
     run_examples();
 }

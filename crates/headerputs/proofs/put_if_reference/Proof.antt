@@ -1,6 +1,6 @@
 -- `headerputs::put_if_reference` meets its contract. Assumes nothing.
 use denote.Ref.{now}
-use Rattle.headerputs.proofs.Putting.{puts-none}
+use Rattle.referenceputs.specs.Putting.{puts-none}
 use Rattle.headerputs.proofs.Walking.{reference-entries, reference-room}
 use borrow.Author.Needs.{needs}
 use Rattle.headerputs.proofs.put_if_reference.Statement.{statement}

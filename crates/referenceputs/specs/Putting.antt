@@ -12,9 +12,9 @@ use Rattle.pen.specs.Pen.{Wrote, Writes, sets-append}
 use Rattle.field.specs.declared.Entry.{Entry}
 use Rattle.header.specs.declared.MayEntry.{MayEntry}
 use Rattle.header.specs.declared.MayEntry.the-variants as may
-use Rattle.headerputs.specs.declared.Pens.{Pens}
-use Rattle.headerputs.specs.Pieces.{alwaysPiece, mayPiece, commentFound, Ready, MayReady}
-use Rattle.headerputs.specs.Puts.{bytesOf, numbersOf, Room, Puts, Texted}
+use Rattle.referenceputs.specs.declared.Pens.{Pens}
+use Rattle.referenceputs.specs.Pieces.{alwaysPiece, mayPiece, commentFound, Ready, MayReady}
+use Rattle.referenceputs.specs.Puts.{bytesOf, numbersOf, Room, Puts, Texted}
 
 -- ---- lists of pieces
 

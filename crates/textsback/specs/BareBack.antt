@@ -12,10 +12,10 @@ use Rattle.format.specs.Readers.{Got, No, bind, tag, line, more}
 use Rattle.format.specs.Features.{notSlash, bareMore, bare}
 use Rattle.format.specs.Wrap.{lastComma, breakAt, commaLines}
 use Rattle.laws.specs.Shrinks.{bareMore-small}
-use Rattle.kept.specs.Tests.{all-left, all-right, all-imp, all-first, some-pos}
-use Rattle.kept.specs.Pieces.{tag-back, noEnd, line-back, visible-noEnd}
-use Rattle.kept.specs.FieldBack.{commas-short, commas-long}
-use Rattle.kept.specs.Joins.{joining, joining-more, joining-stop, joining-parts}
+use Rattle.textsback.specs.Tests.{all-left, all-right, all-imp, all-first, some-pos}
+use Rattle.textsback.specs.Pieces.{tag-back, noEnd, line-back, visible-noEnd}
+use Rattle.textsback.specs.FieldBack.{commas-short, commas-long}
+use Rattle.textsback.specs.Joins.{joining, joining-more, joining-stop, joining-parts}
 
 -- what may follow a value or a location: not n spaces and another byte than `/`, and enough of it to say so
 abbrev pub ends : ℕ → List ℕ → Bool

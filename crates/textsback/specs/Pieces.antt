@@ -8,7 +8,7 @@ use lib.Dec.{eqb, leb}
 use borrow.Author.Tests.{eq-eqb, ne-eqb, not-true, leb-true}
 use Rattle.format.specs.Bytes.{spaces, starts, all, but, visible}
 use Rattle.format.specs.Readers.{Got, tag, until, spaces1, line}
-use Rattle.kept.specs.Tests.{and-left, and-right, all-head, all-tail}
+use Rattle.textsback.specs.Tests.{and-left, and-right, all-head, all-tail}
 
 pub tag-back : (w s : List ℕ) → tag w (w ++ s) ≡ Got tt s
 unfolding tag

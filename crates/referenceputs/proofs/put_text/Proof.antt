@@ -1,8 +1,8 @@
--- `headerputs::put_text` meets its contract. Assumes nothing.
-use Rattle.headerputs.proofs.Putting.{texted}
+-- `referenceputs::put_text` meets its contract. Assumes nothing.
+use Rattle.referenceputs.specs.Putting.{texted}
 use borrow.Author.Needs.{needs}
-use Rattle.headerputs.proofs.put_text.Statement.{statement}
-use Rattle.headerputs.proofs.put_text.Tie as tie
+use Rattle.referenceputs.proofs.put_text.Statement.{statement}
+use Rattle.referenceputs.proofs.put_text.Tie as tie
 
 put-entry-requires : tie.Need-put-entry-requires
 put-entry-requires c κs = search needs

@@ -1,8 +1,8 @@
--- `headerputs::put_always` meets its contract. Assumes nothing.
-use Rattle.headerputs.proofs.Putting.{puts-always}
+-- `referenceputs::put_always` meets its contract. Assumes nothing.
+use Rattle.referenceputs.specs.Putting.{puts-always}
 use borrow.Author.Needs.{needs}
-use Rattle.headerputs.proofs.put_always.Statement.{statement}
-use Rattle.headerputs.proofs.put_always.Tie as tie
+use Rattle.referenceputs.proofs.put_always.Statement.{statement}
+use Rattle.referenceputs.proofs.put_always.Tie as tie
 
 put-text-requires : tie.Need-put-text-requires
 put-text-requires c κs = search needs

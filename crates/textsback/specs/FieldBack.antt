@@ -18,9 +18,9 @@ use Rattle.format.specs.Write.{padded, fieldLines, contigLines}
 use Rattle.format.specs.Keeping.{linesKept, headerKept}
 use Rattle.laws.specs.Loops.{many0-more, many0-stop}
 use Rattle.laws.specs.Shrinks.{further-small}
-use Rattle.kept.specs.Tests.{and-left, and-right, all-head, all-tail, all-left, all-right, all-imp}
-use Rattle.kept.specs.Pieces.{tag-back, spaces-back, noEnd, visible-noEnd, visible-but}
-use Rattle.kept.specs.WrapKept.{laid, wrapped-kept}
+use Rattle.textsback.specs.Tests.{and-left, and-right, all-head, all-tail, all-left, all-right, all-imp}
+use Rattle.textsback.specs.Pieces.{tag-back, spaces-back, noEnd, visible-noEnd, visible-but}
+use Rattle.textsback.specs.WrapKept.{laid, wrapped-kept}
 
 -- ---- a text's lines, one byte or one line more
 

@@ -1,10 +1,10 @@
--- `headerputs::put_comment` meets its contract. Assumes nothing.
+-- `referenceputs::put_comment` meets its contract. Assumes nothing.
 use mathlib.Core.Bool.{true}
 use denote.Ref.{now}
-use Rattle.headerputs.proofs.Putting.{may-ready, commented-room, puts-none}
+use Rattle.referenceputs.specs.Putting.{may-ready, commented-room, puts-none}
 use borrow.Author.Needs.{needs}
-use Rattle.headerputs.proofs.put_comment.Statement.{statement}
-use Rattle.headerputs.proofs.put_comment.Tie as tie
+use Rattle.referenceputs.proofs.put_comment.Statement.{statement}
+use Rattle.referenceputs.proofs.put_comment.Tie as tie
 
 enum-told : tie.Need-enum-told
 enum-told c = search needs

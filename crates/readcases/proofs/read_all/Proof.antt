@@ -1,28 +1,13 @@
 -- Eight turns at most.
 use borrow.Author.Needs.{needs}
-use Rattle.readcases.proofs.case.Statement.{statement}
-use Rattle.readcases.proofs.case.Tie as tie
+use Rattle.readcases.proofs.read_all.Statement.{statement}
+use Rattle.readcases.proofs.read_all.Tie as tie
 
 abbrev Inv-loop : tie.InvT-loop
-Inv-loop name s at₀ left₀ at left = Unit
+Inv-loop s at₀ left₀ at left = Unit
 
 abbrev μ-loop : tie.MeasureT-loop
-μ-loop name s at₀ left₀ at left = left
-
-slice-aggregate-write-all : tie.Need-slice-aggregate-write-all Inv-loop μ-loop
-slice-aggregate-write-all c = search needs
-
-write-all-requires : tie.Need-write-all-requires Inv-loop μ-loop
-write-all-requires c κs = search needs
-
-write-all-requires-2 : tie.Need-write-all-requires-2 Inv-loop μ-loop
-write-all-requires-2 c κs = search needs
-
-slice-aggregate-write-all-2 : tie.Need-slice-aggregate-write-all-2 Inv-loop μ-loop
-slice-aggregate-write-all-2 c = search needs
-
-write-all-requires-3 : tie.Need-write-all-requires-3 Inv-loop μ-loop
-write-all-requires-3 c κs = search needs
+μ-loop s at₀ left₀ at left = left
 
 loop-holds : tie.Need-loop-holds Inv-loop μ-loop
 loop-holds c = tt
@@ -51,17 +36,12 @@ loop-again c = tt
 returns-2 : tie.Need-returns-2 Inv-loop μ-loop
 returns-2 c = search needs
 
-pub case-spec : {M : Type 1} → statement M
-case-spec =
+pub read-all-spec : {M : Type 1} → statement M
+read-all-spec =
     tie.close
     (tie.spec
     Inv-loop
     μ-loop
-    slice-aggregate-write-all
-    write-all-requires
-    write-all-requires-2
-    slice-aggregate-write-all-2
-    write-all-requires-3
     loop-holds
     read-one-requires
     enum-told

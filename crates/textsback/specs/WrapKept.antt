@@ -11,7 +11,7 @@ use borrow.Author.Tests.{eqb-true, ltb-true, lt-ltb, not-true}
 use Rattle.format.specs.Bytes.{spaces, some, all, but}
 use Rattle.format.specs.Wrap.{Fits, fill, closing, linesAfter, wrapped}
 use Rattle.format.specs.Keeping.{linesKept}
-use Rattle.kept.specs.Tests.{and-left, and-right, all-head, all-tail}
+use Rattle.textsback.specs.Tests.{and-left, and-right, all-head, all-tail}
 
 -- the text with its quotes doubled (where q says so) and its lines indented
 unfoldable pub laid : Bool → ℕ → List ℕ → List ℕ

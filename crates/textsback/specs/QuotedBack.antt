@@ -14,11 +14,11 @@ use Rattle.format.specs.Wrap.{Line, Fits, Over, lineText, lineRest, put, inner,
 use Rattle.format.specs.Keeping.{linesKept}
 use Rattle.format.specs.Public.{doubled, presentedLines, presented, brokenText}
 use Rattle.laws.specs.Shrinks.{quotedTurn-small}
-use Rattle.kept.specs.Tests.{and-left, and-right, and-both, all-head, all-tail, all-left, all-right, all-imp, all-and}
-use Rattle.kept.specs.Pieces.{tag-back, noEnd, visible-noEnd}
-use Rattle.kept.specs.Joins.{joining, joining-more, joining-stop, joining-parts}
-use Rattle.kept.specs.BareBack.{ends}
-use Rattle.kept.specs.WrapKept.{laid, wrapped-kept}
+use Rattle.textsback.specs.Tests.{and-left, and-right, and-both, all-head, all-tail, all-left, all-right, all-imp, all-and}
+use Rattle.textsback.specs.Pieces.{tag-back, noEnd, visible-noEnd}
+use Rattle.textsback.specs.Joins.{joining, joining-more, joining-stop, joining-parts}
+use Rattle.textsback.specs.BareBack.{ends}
+use Rattle.textsback.specs.WrapKept.{laid, wrapped-kept}
 
 -- ---- one turn of the reader
 

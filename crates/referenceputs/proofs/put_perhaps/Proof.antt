@@ -1,10 +1,10 @@
--- `headerputs::put_perhaps` meets its contract. Assumes nothing.
+-- `referenceputs::put_perhaps` meets its contract. Assumes nothing.
 use native.Mathlib.Omega.{arith}
 use denote.Ref.{now}
-use Rattle.headerputs.proofs.Putting.{may-ready, may-room, absent-room, puts-absent, puts-perhaps, plus-one}
+use Rattle.referenceputs.specs.Putting.{may-ready, may-room, absent-room, puts-absent, puts-perhaps, plus-one}
 use borrow.Author.Needs.{needs}
-use Rattle.headerputs.proofs.put_perhaps.Statement.{statement}
-use Rattle.headerputs.proofs.put_perhaps.Tie as tie
+use Rattle.referenceputs.proofs.put_perhaps.Statement.{statement}
+use Rattle.referenceputs.proofs.put_perhaps.Tie as tie
 
 enum-told : tie.Need-enum-told
 enum-told c = search needs

@@ -1,8 +1,8 @@
--- `headerputs::put_reference` meets its contract. Assumes nothing.
-use Rattle.headerputs.proofs.Putting.{puts-append}
+-- `referenceputs::put_reference` meets its contract. Assumes nothing.
+use Rattle.referenceputs.specs.Putting.{puts-append}
 use borrow.Author.Needs.{needs}
-use Rattle.headerputs.proofs.put_reference.Statement.{statement}
-use Rattle.headerputs.proofs.put_reference.Tie as tie
+use Rattle.referenceputs.proofs.put_reference.Statement.{statement}
+use Rattle.referenceputs.proofs.put_reference.Tie as tie
 
 put-front-requires : tie.Need-put-front-requires
 put-front-requires c κs = search needs

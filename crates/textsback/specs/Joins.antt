@@ -6,7 +6,7 @@ use mathlib.Core.List.{List, [], _∷_, _++_, append-assoc}
 use Rattle.format.specs.Bytes.{all, each, concat}
 use Rattle.format.specs.Readers.{Ans, Got, No, Cut, bind, mapped, Turn, more, stop, loop}
 use Rattle.laws.specs.Loops.{Shrinks, loop-more, loop-stop}
-use Rattle.kept.specs.Tests.{all-head, all-tail}
+use Rattle.textsback.specs.Tests.{all-head, all-tail}
 
 -- the members' texts as one
 unfoldable pub joining : (List ℕ → Ans (Turn (List ℕ))) → List ℕ → Ans (List ℕ)
