@@ -15,7 +15,7 @@ ghost use Rattle.pen.specs.Pen.{Writes};
 ghost use Rattle.rows.specs.Rows.{numbers};
 ghost use Rattle.table.specs.Parts.{featureRooms, featureNext};
 
-pub fn row_numbers(row: Feature) -> [usize; 6]
+fn row_numbers(row: Feature) -> [usize; 6]
     ensures { λ r. ⌜ r ≡ numbers row ⌝ }
 {
     let kind = row.kind;

@@ -13,9 +13,10 @@ use Rattle.format.specs.Rooms.{Rooms, mayText, mayLength, rowsFrom, referenceIn
 use Rattle.format.specs.Table.{Table}
 use Rattle.format.specs.Features.{locationText}
 use Rattle.format.specs.Utf8.{utf8}
+use Rattle.format.specs.Table.{Feature as Described}
 use Rattle.format.specs.WellFormed.{ifIs, headerTexts, locusFine, featureFine, lettersFine, wellFormed}
 use Rattle.format.specs.Keeping.{switchesKept, locusKept, headerKept, pubmedKept, featureKept, keeps}
-use Rattle.format.specs.Write.{lengthText, printedName, locusText, headerLines, featureLines, featuresLines, written}
+use Rattle.format.specs.Write.{lengthOr, lengthText, printedName, locusText, headerLines, featureLines, featuresLines, written}
 use Rattle.format.specs.declared.Head.{Head}
 use Rattle.headers.specs.declared.Rule.the-variants as rule
 use Rattle.locusline.specs.Line.{lineWith, line-is}
@@ -36,7 +37,7 @@ abbrev pub rowsRooms : List ℕ → List ℕ → List ℕ → List ℕ → List 
 rowsRooms t rf cm q l rows = allRooms t rf cm (flat rows) q l
 
 -- the feature at a place of the flat numbers
-abbrev pub featureAt : List ℕ → List ℕ → List Feature → ℕ → Rattle.format.specs.Table.Feature
+abbrev pub featureAt : List ℕ → List ℕ → List Feature → ℕ → Described
 featureAt t q rows at = featureIn (featureRooms t (flat rows) q) at
 
 module _ (t rf cm q l : List ℕ) (rows : List Feature) (h : Head) where
@@ -121,14 +122,14 @@ module _ (t rf cm q l : List ℕ) (rows : List Feature) (h : Head) where
 
 -- ---- the record
 
-titled : (W n : ℕ) (g : ℕ → Rattle.format.specs.Table.Feature) → featuresLines W (rowsFrom g 6 0 n) ≡ title n ++ each (featureLines W) (rowsFrom g 6 0 n)
+titled : (W n : ℕ) (g : ℕ → Described) → featuresLines W (rowsFrom g 6 0 n) ≡ title n ++ each (featureLines W) (rowsFrom g 6 0 n)
 unfolding rowsFrom featuresLines
 titled W zero g = refl
 titled W (suc n) g = refl
 
 module _ (t rf cm q l : List ℕ) (rows : List Feature) (h : Head) (how : How) where
   locus-alike : roomsFine (allRooms t rf cm [] q l) (noRows h) ≡ true
-      → lineWith (how .truncate) (how .escape) (Rattle.format.specs.Write.lengthOr (mayLength (h .length)) (h .letters)) (tableOf (referenceRooms t []) (noRows h)) ≡
+      → lineWith (how .truncate) (how .escape) (lengthOr (mayLength (h .length)) (h .letters)) (tableOf (referenceRooms t []) (noRows h)) ≡
       locusText (how .truncate) (how .escape) (tableOf (rowsRooms t rf cm q l rows) h)
   unfolding locusText printedName lengthText tableOf
   locus-alike e = line-is (allRooms t rf cm [] q l) (noRows h) (rooms-in (allRooms t rf cm [] q l) (noRows h) e .counts .letters) (how .truncate) (how .escape)

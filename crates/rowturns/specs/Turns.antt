@@ -14,6 +14,7 @@ use Rattle.format.specs.Answers.{room}
 use Rattle.format.specs.Bytes.{all, each}
 use Rattle.format.specs.Keeping.{keeps}
 use Rattle.format.specs.Rooms.{rowsFrom, featureIn, tableOf, featuresFine, roomsFine}
+use Rattle.format.specs.Table.{Feature as Described}
 use Rattle.format.specs.WellFormed.{widthFine, wellFormed}
 use Rattle.format.specs.Write.{featureLines}
 use Rattle.format.specs.declared.Head.{Head}
@@ -34,7 +35,7 @@ use Rattle.rowparts.specs.Split.{featureAt, fine-split, keeps-split, written-sp
 use Rattle.rowparts.specs.declared.How.{How}
 use Rattle.table.specs.Facts.{feature-in, features-each, rooms-in}
 use Rattle.table.specs.Parts.{featureRooms, featureNext}
-use Rattle.table.specs.Steps.{features-go, features-no, features-end, next-alike}
+use Rattle.table.specs.Steps.{and-left, and-right, features-go, features-no, features-end, next-alike}
 use Rattle.table.specs.declared.Next.{Next}
 use Rattle.table.specs.declared.Next.the-variants as next
 use Rattle.writer.specs.Bound.{written-small}
@@ -135,7 +136,7 @@ nowhere : {x n : List ℕ} {i k : ℕ} → Writes [] i x n k → Writes [] i x [
 nowhere {x} {n} {i} {k} w = record { fit = λ h. record { is = sym (sets-past x [] i (omega arith)); to = w .fit h .to }; up = w .up }
 
 module _ (a : Asking) (rows : List Feature) (i : ℕ) where
-  abbrev feature : Rattle.format.specs.Table.Feature
+  abbrev feature : Described
   feature = featureAt (a .texts) (a .qualifiers) rows (6 * i)
 
   text-more : i < a .head .features → textFrom a rows i ≡ featureLines (a .how .width) feature ++ textFrom a rows (i + 1)
@@ -188,8 +189,8 @@ module _ (a : Asking) (b : Bool) (e : b ≡ widthFine (a .how .width)) where
             by = λ rows old m.
                 let p : Passed (a .how .width) (restOf a) (noRows (a .head)) = passed-two (a .how .width) (restOf a) (noRows (a .head)) b c e t f u in
                 let y : (leb n 16777216 && leb (a .head .features) n) ≡ true = sym g ∙ not-false d v in
-                let few : n ≤ 16777216 = leb-true _ _ (Rattle.table.specs.Steps.and-left _ _ y) in
-                let enough : a .head .features ≤ n = leb-true _ _ (Rattle.table.specs.Steps.and-right (leb n 16777216) _ y) in
+                let few : n ≤ 16777216 = leb-true _ _ (and-left _ _ y) in
+                let enough : a .head .features ≤ n = leb-true _ _ (and-right (leb n 16777216) _ y) in
                 let z : a .head .features - 0 ≡ a .head .features = sub-zero (a .head .features) in
                 record {
                   asked = record { passed = p; few = omega arith; enough = omega arith };
