@@ -189,7 +189,7 @@ fn last_to(text: &[u8], n: usize) -> usize
     0
 }
 
-// The line that ends in the plain bytes before k, which is LF; or any other.
+// The first line, where the bytes before k are plain and k is not: it ends there if that is LF.
 fn fed_break(text: &[u8], k: usize, taken: usize, width: usize, quote: bool) -> Break
     requires { ⌜ (length (now text) ≤ 16777216) × (taken + k < width) × (k < length (now text)) × (width ≤ 33554432) × (plainTo k (now text) ≡ true) ⌝ }
     ensures { λ r. ⌜ Breaks quote width taken (now (text .entry)) r ⌝ }
