@@ -1,20 +1,19 @@
 -- What a feature's put into six numbers says of the row made of them.
 use Prim.Native.Nat.{ℕ, _+_, _<_, _^_}
 use native.Mathlib.Omega.{arith}
-use mathlib.Core.Path.{_≡_, refl, ap, _∙_}
+use mathlib.Core.Path.{_≡_, refl, _∙_}
 use mathlib.Core.List.{List, [], _∷_}
 use lib.ListN.{length, drop, getD}
 use Rattle.format.specs.Table.{Feature}
 use Rattle.format.specs.Readers.{Ans, Got, No, Cut}
 use Rattle.format.specs.Features.{feature}
-use Rattle.format.specs.Rooms.{featureText, piecesRow}
-use Rattle.featureputs.specs.Puts.{rowOf, underOf, WroteThree, FeatureThen, FeaturePut}
+use Rattle.format.specs.Rooms.{piecesRow}
+use Rattle.featureputs.specs.Puts.{rowOf, underOf, FeatureThen, FeaturePut}
 use Rattle.featureputs.specs.declared.Pens.{Pens}
 use Rattle.rows.specs.declared.Feature as rows
-use Rattle.rows.specs.Rows.{numbers}
 use Rattle.rowmaker.specs.declared.Reached.{Reached}
 use Rattle.rowmaker.specs.declared.Made.{Made}
-use Rattle.rowmaker.specs.Makes.{Ahead, RowOf, RowThen, RowMade}
+use Rattle.rowmaker.specs.Makes.{RowThen, RowMade}
 
 -- six numbers, all written over
 abbrev zeros : List ℕ

@@ -1,13 +1,12 @@
 -- The laws of preparing: what refuses or does not fit stores no row, and what fits has all of them stored.
-use Prim.Native.Nat.{ℕ, _+_, _*_, _≤_, _<_}
+use Prim.Native.Nat.{ℕ, _*_, _≤_, _<_}
 use native.Mathlib.Omega.{arith}
 use mathlib.Core.Bool.{Bool, true, false, not}
 use mathlib.Core.Path.{_≡_, refl, sym, ap, subst, _∙_}
 use mathlib.Core.List.{List, []}
-use lib.ListN.{length, take, drop}
+use lib.ListN.{length, drop}
 use lib.Seq.{sets, take-length}
 use Rattle.format.specs.Bytes.{each}
-use Rattle.format.specs.Table.{Feature}
 use Rattle.format.specs.Record.{most, readRecord}
 use Rattle.format.specs.Rooms.{Rooms, featureText, featureRows, qualifierRows, featuresAt, layout}
 use Rattle.format.specs.declared.Sizes.{Sizes}
@@ -21,11 +20,11 @@ use Rattle.plan.specs.declared.Plan.{Plan}
 use Rattle.plan.specs.declared.PlanAt.{PlanAt}
 use Rattle.plan.specs.declared.PlanAt.the-variants as plan
 use Rattle.plan.specs.Plans.{planTable, Plans}
-use Rattle.plan.specs.Parts.{TableParts, table-parts}
+use Rattle.plan.specs.Parts.{table-parts}
 use Rattle.fill.specs.Fills.{roomsIn, Ready, Filled}
 use Rattle.fill.proofs.Laws.{features-fit}
 use Rattle.reader.specs.Reads.{Answering, Answered}
-use Rattle.sizing.specs.Sizing.{contigPlace, sizesIn, headPlan, fitsIn}
+use Rattle.sizing.specs.Sizing.{sizesIn, headPlan, fitsIn}
 use Rattle.reader.proofs.Laws.{refused-long, refused-beyond, refused-end, refused-plan, answered, contig-place, answer-room, answer-done}
 use Rattle.rowmaker.specs.Stores.{rowsTo, featuresTo, Storable}
 use Rattle.rowplan.specs.declared.Prepared.{Prepared}

@@ -1,9 +1,9 @@
 -- The loop over rows: what is left to be stored, one row fewer at each turn.
 use Prim.Native.Nat.{ℕ, suc, _+_, _-_, _*_, _≤_, _<_, _^_}
 use native.Mathlib.Omega.{arith}
-use mathlib.Core.Path.{_≡_, refl, sym, ap, subst, _∙_}
+use mathlib.Core.Path.{_≡_, refl, ap, subst, _∙_}
 use mathlib.Core.List.{List, [], _∷_, _++_}
-use lib.ListN.{length, take, drop, set, length-append}
+use lib.ListN.{length, drop, set, length-append}
 use lib.Seq.{sets}
 use Rattle.format.specs.Bytes.{each}
 use Rattle.format.specs.Table.{Feature}

@@ -2,7 +2,7 @@
 -- The invariant: `Storing` of the place reached and of the rows as they are.
 -- Assumes nothing.
 use mathlib.Core.Path.{_≡_, refl, sym, ap, subst, _∙_}
-use Prim.Native.Nat.{ℕ, _<_, _≤_, _^_, _-_}
+use Prim.Native.Nat.{ℕ, _<_, _^_, _-_}
 use mathlib.Core.Bool.{Bool}
 use mathlib.Core.WellFounded.{WellFounded, InvImage·wf}
 use mathlib.Core.List.{[], _∷_, List}
