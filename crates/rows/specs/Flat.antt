@@ -6,9 +6,7 @@ use mathlib.Core.Path.{_≡_, refl, ap, subst, _∙_}
 use mathlib.Core.List.{List, [], _∷_, _++_}
 use lib.ListN.{length, getD, set, drop}
 use lib.Seq.{sets}
-use Rattle.format.specs.declared.Span.{Span}
 use Rattle.rows.specs.declared.Feature.{Feature}
-use Rattle.rows.specs.declared.Fetched.{Fetched}
 use Rattle.rows.specs.declared.Fetched.the-variants.{Row, Outside}
 use Rattle.rows.specs.Rows.{rowAt, numbers, flat}
 

@@ -1,8 +1,6 @@
 // Feature rows as structs in lent room, and the two thin functions that store and fetch one. An index outside the room is answered.
 use format::Span;
 ghost use mathlib.Core.Path.{_≡_};
-ghost use lib.Dec.{ltb};
-ghost use lib.ListN.{length, set};
 ghost use Rattle.rows.specs.Rows.{rowAt, Stored};
 
 // A feature: its kind, its location, and which qualifiers are its own.
