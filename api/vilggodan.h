@@ -49,6 +49,13 @@ extern "C" {
 /* How many numbers a head has, and how many `told` wants for reading. */
 enum { VILGGODAN_HEAD = 31, VILGGODAN_TOLD = 32 };
 
+/* A row of `features` as a struct: row i is ((struct vilggodan_feature *)features)[i]. */
+struct vilggodan_feature {
+    size_t kind, kind_length;
+    size_t location, location_length;
+    size_t first, count; /* the first qualifier's row, and how many */
+};
+
 /* Reads the record that starts at the place `at` of `s` into the rooms. Returns 0 to 9. Told:
  *    0   [0] the place after the record, [1] to [31] the head. The rooms hold the table; what it does not take of them is unchanged.
  *    6   [0] `at`, [1] to [6] what the record takes: bytes of texts, rows of references, comments, features, qualifiers, and letters.
