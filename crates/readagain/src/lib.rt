@@ -8,6 +8,7 @@ use storedlines::number_room;
 use storedlines::same_numbers;
 use storedlines::take_numbers;
 use storedlines::take_text;
+use telling::tell_read;
 
 fn and_then(so_far: Checked, next: usize, same: bool) -> Checked {
     if same {
@@ -90,17 +91,18 @@ fn read_lent(
     let d = lent(call, n, 4, features.len());
     let e = lent(call, n, 5, qualifiers.len());
     let f = lent(call, n, 6, letters.len());
-    boundary::vilggodan_read(
+    let at = number_at(call, 0);
+    let answer = reader::read(
         input,
-        number_at(call, 0),
+        at,
         &mut texts[0..a],
         &mut references[0..b],
         &mut comments[0..c],
         &mut features[0..d],
         &mut qualifiers[0..e],
         &mut letters[0..f],
-        told,
-    )
+    );
+    tell_read(told, at, answer)
 }
 
 // Reads the slice at the place that the call names.

@@ -1,4 +1,7 @@
 // One stored writing: the table is written again by both writers, and their numbers, values and all of the slice are held against what is stored.
+use format::Head;
+use format::WriteAnswer;
+use headnumbers::head_from;
 use storedlines::Checked;
 use storedlines::count_answer;
 use storedlines::lent;
@@ -6,6 +9,7 @@ use storedlines::number_at;
 use storedlines::number_room;
 use storedlines::take_numbers;
 use storedlines::take_text;
+use telling::tell_written;
 
 // Writes by one of the two writers, as the call says: width, truncation, escaping.
 fn write_by(
@@ -17,15 +21,14 @@ fn write_by(
     features: &[usize],
     qualifiers: &[usize],
     letters: &[u8],
-    head: &[usize],
+    head: Head,
     call: &[usize],
-    told: &mut [usize],
-) -> usize {
+) -> WriteAnswer {
     let width = number_at(call, 0);
     let truncate = number_at(call, 1) != 0;
     let escape = number_at(call, 2) != 0;
     if keeping {
-        return boundary::vilggodan_keep(
+        return writer::keep(
             out,
             texts,
             references,
@@ -37,10 +40,9 @@ fn write_by(
             width,
             truncate,
             escape,
-            told,
         );
     }
-    boundary::vilggodan_write(
+    writer::write(
         out,
         texts,
         references,
@@ -52,7 +54,6 @@ fn write_by(
         width,
         truncate,
         escape,
-        told,
     )
 }
 
@@ -102,7 +103,7 @@ fn write_lent(
     told: &mut [usize],
 ) -> usize {
     let length = lent(call, n, 3, out.len());
-    write_by(
+    let answer = write_by(
         keeping,
         &mut out[0..length],
         texts,
@@ -111,10 +112,10 @@ fn write_lent(
         features,
         qualifiers,
         letters,
-        head,
+        head_from(head),
         call,
-        told,
-    )
+    );
+    tell_written(told, answer)
 }
 
 // One writer, whose number and value stand in `stored` from `from` on.
