@@ -1,4 +1,5 @@
 // The scanners that every reader is made of: words, spaces, runs of bytes and lines. Each is given a slice and a place, and writes nothing.
+use basics::both;
 ghost use mathlib.Core.Path.{_≡_};
 ghost use Prim.Native.Nat.{_+_, _≤_, _<_};
 ghost use mathlib.Core.Bool.{_&&_, _||_, not};
@@ -108,13 +109,6 @@ pub fn tag(s: &[u8], at: usize, word: &[u8]) -> Step
         j += 1;
     }
     Step::Got(i)
-}
-
-// Both, without a branch: the compiler then tests many bytes at once.
-fn both(a: bool, b: bool) -> bool
-    ensures { λ r. ⌜ r ≡ a && b ⌝ }
-{
-    if a { b } else { false }
 }
 
 // Whether the 16 bytes at a place are spaces.

@@ -1,4 +1,5 @@
 // `wrap_location` of writer.rs: a text over lines that break after the last comma that fits, else at the width.
+use basics::left_of;
 use pen::put_byte;
 use pen::put_bytes;
 use pen::put_spaces;
@@ -10,13 +11,6 @@ ghost use Rattle.format.specs.Bytes.{spaces};
 ghost use Rattle.format.specs.Wrap.{commaLines};
 ghost use Rattle.pen.specs.Pen.{Writes};
 ghost use Rattle.commas.specs.Commas.{Broke};
-
-// How many columns of the width are left.
-fn room(width: usize, used: usize) -> usize
-    ensures { λ r. ⌜ r ≡ width - used ⌝ }
-{
-    if used < width { width - used } else { 0 }
-}
 
 // Where a text of more than n bytes breaks.
 fn comma_break(text: &[u8], n: usize) -> usize
@@ -58,7 +52,7 @@ fn put_lines(
     let mut used = taken;
     let mut from = 0;
     while width < used + (text.len() - from) {
-        let end = from + comma_break(&text[from..], room(width, used));
+        let end = from + comma_break(&text[from..], left_of(width, used));
         p = put_line(out, p, &text[from..end], indent);
         from = end;
         used = indent;

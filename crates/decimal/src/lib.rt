@@ -1,4 +1,5 @@
 // Numbers in decimal, as they are and right-aligned.
+use basics::left_of;
 use pen::put_byte;
 use pen::put_spaces;
 ghost use mathlib.Core.Path.{_≡_};
@@ -41,17 +42,10 @@ pub fn put_decimal(out: &mut [u8], at: usize, n: u32) -> usize
     put_digits(out, at, n, 10)
 }
 
-// How many columns of nine are left of a number of d digits.
-fn spare(d: usize) -> usize
-    ensures { λ r. ⌜ r ≡ 9 - d ⌝ }
-{
-    if d < 9 { 9 - d } else { 0 }
-}
-
 // n right-aligned in nine columns.
 pub fn put_nine(out: &mut [u8], at: usize, n: u32) -> usize
     ensures { λ r. ⌜ Writes (now (out .entry)) at (rightAligned 9 (decimal n)) (now (out .exit)) r ⌝ }
 {
-    let p = put_spaces(out, at, spare(width(n)));
+    let p = put_spaces(out, at, left_of(9, width(n)));
     put_decimal(out, p, n)
 }

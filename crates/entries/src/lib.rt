@@ -1,7 +1,7 @@
 // The tests that numbers 11 and 13 make of features and their qualifiers, of a table in rooms.
+use basics::both;
 use headers::Rule;
 use keys::comma_key;
-use table::both;
 use texts::key_fine;
 use texts::kind_fine;
 use texts::kind_kept;

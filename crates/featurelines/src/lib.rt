@@ -1,6 +1,6 @@
 // A feature's lines of writer.rs: its first line, its qualifiers, and CONTIG.
+use basics::left_of;
 use commas::put_commas;
-use fieldlines::left_of;
 use fieldlines::put_padded;
 use keys::bare_key;
 use keys::comma_key;

@@ -1,4 +1,5 @@
 // Header entries (field.rs): a word, spaces, a text, and further lines at the text's column. What is found is where the text stands; it is put later.
+use basics::both;
 use chars::Line;
 use chars::Step;
 use utf8::State;
@@ -74,13 +75,6 @@ fn unjudged() -> Judge
         utf8: state,
         visible: true,
     }
-}
-
-// Both, without a branch: the compiler then tests many bytes at once.
-fn both(a: bool, b: bool) -> bool
-    ensures { λ r. ⌜ r ≡ a && b ⌝ }
-{
-    if a { b } else { false }
 }
 
 fn visible_in(s: &[u8], from: usize, to: usize) -> bool

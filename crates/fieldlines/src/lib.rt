@@ -1,4 +1,5 @@
 // `write_field` of writer.rs: a header word padded to 12 columns, and its text over lines.
+use basics::left_of;
 use pen::put_bytes;
 use pen::put_spaces;
 use wrap::put_wrapped;
@@ -7,13 +8,6 @@ ghost use Prim.Native.Nat.{_-_, _≤_};
 ghost use lib.ListN.{length};
 ghost use Rattle.format.specs.Write.{padded, fieldLines};
 ghost use Rattle.pen.specs.Pen.{Writes};
-
-// How much of n is left of `used`.
-pub fn left_of(n: usize, used: usize) -> usize
-    ensures { λ r. ⌜ r ≡ n - used ⌝ }
-{
-    if used < n { n - used } else { 0 }
-}
 
 // A word, with spaces up to n columns.
 pub fn put_padded(out: &mut [u8], at: usize, word: &[u8], n: usize) -> usize

@@ -3,6 +3,7 @@ ghost use mathlib.Core.Path.{_≡_};
 ghost use Rattle.format.specs.Dates.{made, firstDate, printedDate};
 
 // A text in the store of texts: where it starts and how many bytes it has.
+#[repr(C)]
 pub struct Span {
     pub start: usize,
     pub length: usize,

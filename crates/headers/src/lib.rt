@@ -1,8 +1,8 @@
 // The tests that numbers 11 and 13 make of header texts, of a table in rooms.
+use basics::both;
 use format::Head;
 use format::SourceText;
 use format::Text;
-use table::both;
 use texts::header_kept;
 use texts::without;
 use utf8::utf8_ok;

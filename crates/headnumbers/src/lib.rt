@@ -1,4 +1,5 @@
 // The head of a table as 31 numbers and back, for callers that pass numbers and slices only. specs/Numbers.antt has the layout.
+use basics::both;
 use format::Date;
 use format::Dated;
 use format::Head;
@@ -9,7 +10,6 @@ use format::Text;
 use pen::put_four;
 use pen::put_number;
 use pen::put_two;
-use table::both;
 ghost use mathlib.Core.Path.{_≡_};
 ghost use mathlib.Core.List.{[], _∷_};
 ghost use Prim.Native.Nat.{_≤_};

@@ -1,5 +1,6 @@
 // The letters of ORIGIN: `parse_seq_data` of stream_parser.rs, counted first and then put into the lent room. A line of the usual layout
 // (nine columns of number, six times a space and ten letters, a line end) is tested at once and taken whole.
+use basics::both;
 ghost use mathlib.Core.Path.{_≡_};
 ghost use mathlib.Core.Bool.{_&&_, _||_};
 ghost use mathlib.Core.List.{[], _++_};
@@ -15,12 +16,6 @@ pub enum Counted {
     AtSlash { count: usize, next: usize },
     AtEnd { count: usize },
     Bad,
-}
-
-fn both(a: bool, b: bool) -> bool
-    ensures { λ r. ⌜ r ≡ a && b ⌝ }
-{
-    if a { b } else { false }
 }
 
 fn either(a: bool, b: bool) -> bool

@@ -1,5 +1,5 @@
 // Parts of the LOCUS line: the molecule type, the topology and the date, each in its columns.
-use fieldlines::left_of;
+use basics::left_of;
 use fieldlines::put_padded;
 use format::Date;
 use pen::put_byte;

@@ -1,10 +1,10 @@
 // The name that a LOCUS line prints: `truncate_locus` and `escape_locus` of writer.rs.
+use basics::both;
+use basics::left_of;
 use decimal::put_decimal;
 use decimal::width;
-use fieldlines::left_of;
 use pen::put_bytes;
 use pen::put_spaces;
-use table::both;
 use texts::printing_all;
 use words::put_joined;
 use words::two_words;

@@ -1,4 +1,5 @@
 // What a scan of a joined text answers; specs/ has the laws of texts that are joined from several pieces.
+use basics::both;
 ghost use mathlib.Core.Path.{_≡_};
 ghost use Prim.Native.Nat.{_≤_};
 ghost use mathlib.Core.Bool.{_&&_};
@@ -11,13 +12,6 @@ pub enum Value {
     Got { length: usize, next: usize },
     No,
     Cut,
-}
-
-// Both, without a branch: the compiler then tests many bytes at once.
-fn both(a: bool, b: bool) -> bool
-    ensures { λ r. ⌜ r ≡ a && b ⌝ }
-{
-    if a { b } else { false }
 }
 
 // Whether `before` holds and each byte of a piece is visible.

@@ -1,4 +1,5 @@
 // Quoted values of feature_table.rs: escapes are undone, lines are joined by LF, or by nothing in `translation`, and the joined text is UTF-8.
+use basics::both;
 use chars::Step;
 use pieces::Value;
 use utf8::State;
@@ -137,13 +138,6 @@ fn is_ordinary(b: u8) -> bool
         return true;
     }
     b == 32
-}
-
-// Both, without a branch: the compiler then tests many bytes at once.
-fn both(a: bool, b: bool) -> bool
-    ensures { λ r. ⌜ r ≡ a && b ⌝ }
-{
-    if a { b } else { false }
 }
 
 // Whether the eight bytes at a place are such.

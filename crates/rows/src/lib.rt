@@ -3,7 +3,8 @@ use format::Span;
 ghost use mathlib.Core.Path.{_≡_};
 ghost use Rattle.rows.specs.Rows.{rowAt, Stored};
 
-// A feature: its kind, its location, and which qualifiers are its own.
+// A feature: its kind, its location, and which qualifiers are its own. In memory it is as in C, for api/vilggodan.h.
+#[repr(C)]
 pub struct Feature {
     pub kind: Span,
     pub location: Span,

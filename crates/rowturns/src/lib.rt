@@ -1,5 +1,6 @@
 // The turns of the writers on feature rows that are structs. The rows are gone through twice, in one loop: first each is judged and measured, then,
 // where the record is to be written, each is put. What a turn does is decided by a state that is passed by value, so the loop itself only fetches rows.
+use basics::both;
 use featurerows::put_row;
 use featurerows::row_next;
 use featurerows::row_passes;
@@ -15,7 +16,6 @@ use rowparts::without_rows;
 use rows::Feature;
 use rows::Fetched;
 use table::Next;
-use table::both;
 use table::rooms_fine;
 use verdict::Verdict;
 use verdict::width_fine;

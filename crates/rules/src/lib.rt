@@ -1,4 +1,5 @@
 // Numbers 11 and 13 of a table in rooms for which number 10 is not due.
+use basics::both;
 use entries::features_pass;
 use format::Date;
 use format::Dated;
@@ -9,7 +10,6 @@ use format::Text;
 use headers::Rule;
 use headers::header_passes;
 use headers::pubmeds_kept;
-use table::both;
 use texts::letters_all;
 use texts::location_fine;
 use texts::printing_all;

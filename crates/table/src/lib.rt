@@ -1,4 +1,5 @@
 // Number 10: whether each span and row of a table in lent rooms lies inside its room.
+use basics::both;
 use format::Head;
 use format::SourceText;
 use format::Span;
@@ -10,12 +11,6 @@ ghost use Prim.Native.Nat.{_+_, _-_, _*_, _/_, _≤_, _<_};
 ghost use lib.ListN.{length, getD};
 ghost use Rattle.format.specs.Rooms.{spanFine, textFine, sourceFine, rowTextFine, rowPerhapsFine, rowsFine, referenceRowFine, commentRowFine, qualifierRowFine, qualifiersFine, featuresFine, lengthsFine, headFine, countsFine, roomsFine};
 ghost use Rattle.table.specs.Parts.{allRooms, referenceRooms, commentRooms, qualifierRooms, featureRooms, featureNext, Within};
-
-pub fn both(a: bool, b: bool) -> bool
-    ensures { λ r. ⌜ r ≡ (a && b) ⌝ }
-{
-    if a { b } else { false }
-}
 
 // No sum is made, so none can wrap.
 pub fn span_fine(room: usize, start: usize, n: usize) -> bool

@@ -1,11 +1,11 @@
 // The tests that numbers 11 and 13 make of a single text.
+use basics::both;
 use chars::is_between;
 use chars::is_letter;
 use chars::is_visible;
 use keys::bare_key;
 use keys::comma_key;
 use keys::translation_key;
-use table::both;
 ghost use mathlib.Core.Path.{_≡_};
 ghost use mathlib.Core.Bool.{_&&_, not};
 ghost use Prim.Native.Nat.{_+_, _≤_, _<_};

@@ -1,4 +1,5 @@
 // UTF-8, tested byte by byte with a state that can be carried from one piece of a text to the next.
+use basics::both;
 ghost use mathlib.Core.Path.{_≡_};
 ghost use Prim.Native.Nat.{_≤_};
 ghost use mathlib.Core.Bool.{_&&_};
@@ -76,13 +77,6 @@ fn step(u: State, b: u8) -> State
         return state_of(more - 1, 128, 191);
     }
     state_of(1, 1, 0)
-}
-
-// Both, without a branch: the compiler then tests many bytes at once.
-fn both(a: bool, b: bool) -> bool
-    ensures { λ r. ⌜ r ≡ a && b ⌝ }
-{
-    if a { b } else { false }
 }
 
 fn is_ascii(b: u8) -> bool

@@ -1,9 +1,9 @@
 // Whether a table can be written: the tests of the numbers 12, 10 and 11, in that order.
+use basics::both;
 use format::Head;
 use format::Unwritten;
 use locusline::name_fine;
 use rules::well_formed;
-use table::both;
 use table::rooms_fine;
 ghost use mathlib.Core.Path.{_≡_};
 ghost use Rattle.format.specs.WellFormed.{widthFine};

@@ -1,9 +1,9 @@
 // The words of a name, parted by white space: `escape_locus` of writer.rs joins them.
+use basics::both;
+use basics::left_of;
 use chars::is_between;
 use chars::is_blank;
-use fieldlines::left_of;
 use pen::put_byte;
-use table::both;
 ghost use mathlib.Core.Path.{_≡_};
 ghost use mathlib.Core.Bool.{_||_};
 ghost use Prim.Native.Nat.{_≤_, _<_};

@@ -1,4 +1,5 @@
 // `wrap_text` and `wrap_get_line` of writer.rs: free text over lines, with quotes doubled where asked.
+use basics::both;
 use pen::put_byte;
 use pen::put_bytes;
 use pen::put_spaces;
@@ -121,13 +122,6 @@ fn is_plain(b: u8) -> bool
         return false;
     }
     b != 34
-}
-
-// Both, without a branch: the compiler then tests many bytes at once.
-fn both(a: bool, b: bool) -> bool
-    ensures { λ r. ⌜ r ≡ (a && b) ⌝ }
-{
-    if a { b } else { false }
 }
 
 // Whether the 16 bytes from `at` on are plain.

@@ -37,8 +37,8 @@ part-comma-break-start c = search needs
 part-comma-break-end : tie.Need-part-comma-break-end Inv-loop μ-loop
 part-comma-break-end c = search needs
 
-room-requires : tie.Need-room-requires Inv-loop μ-loop
-room-requires c κs = search needs
+left-of-requires : tie.Need-left-of-requires Inv-loop μ-loop
+left-of-requires c κs = search needs
 
 comma-break-requires : tie.Need-comma-break-requires Inv-loop μ-loop
 comma-break-requires c κs = search needs
@@ -59,14 +59,14 @@ put-line-requires : tie.Need-put-line-requires Inv-loop μ-loop
 put-line-requires c κs = search needs
 
 loop-less : tie.Need-loop-less Inv-loop μ-loop
-loop-less c = commas-fall (c .before .before .before .before .before .before .before .before .before .before .before .before .args .width) (c .before .before .before .before .before .before .before .before .before .before .before .before .args .indent) (c .before .before .before .before .before .before .before .before .before .loop .used) (length (now (c .before .before .before .before .before .before .before .before .before .before .before .before .args .text))) (c .before .before .before .before .before .before .before .before .before .loop .from) (search needs) (c .before .before .before .before .before .before .room .ensures) (c .before .before .before .before .before .comma-break .ensures) (search needs) (search needs)
+loop-less c = commas-fall (c .before .before .before .before .before .before .before .before .before .before .before .before .args .width) (c .before .before .before .before .before .before .before .before .before .before .before .before .args .indent) (c .before .before .before .before .before .before .before .before .before .loop .used) (length (now (c .before .before .before .before .before .before .before .before .before .before .before .before .args .text))) (c .before .before .before .before .before .before .before .before .before .loop .from) (search needs) (c .before .before .before .before .before .before .left-of .ensures) (c .before .before .before .before .before .comma-break .ensures) (search needs) (search needs)
 
 loop-again : tie.Need-loop-again Inv-loop μ-loop
 loop-again c = (
   search needs,
   search needs,
   search needs,
-  commas-turn (now (c .before .before .before .before .before .before .before .before .before .before .before .before .args .text)) (c .before .before .before .before .before .before .before .before .before .loop .from) (c .before .before .before .before .before .before .before .before .before .loop .inv .3) (search needs) (c .before .before .before .before .before .before .before .before .loop-test .taken) (c .before .before .before .before .before .before .room .ensures) (c .before .before .before .before .before .comma-break .ensures) (c .before .before .put-line .ensures),
+  commas-turn (now (c .before .before .before .before .before .before .before .before .before .before .before .before .args .text)) (c .before .before .before .before .before .before .before .before .before .loop .from) (c .before .before .before .before .before .before .before .before .before .loop .inv .3) (search needs) (c .before .before .before .before .before .before .before .before .loop-test .taken) (c .before .before .before .before .before .before .left-of .ensures) (c .before .before .before .before .before .comma-break .ensures) (c .before .before .put-line .ensures),
 )
 
 sub-put-bytes : tie.Need-sub-put-bytes Inv-loop μ-loop
@@ -102,7 +102,7 @@ put-lines-spec =
     sub-comma-break
     part-comma-break-start
     part-comma-break-end
-    room-requires
+    left-of-requires
     comma-break-requires
     add-end
     sub-put-line

@@ -7,8 +7,8 @@ use Rattle.decimal.proofs.put_nine.Tie as tie
 width-requires : tie.Need-width-requires
 width-requires c κs = search needs
 
-spare-requires : tie.Need-spare-requires
-spare-requires c κs = search needs
+left-of-requires : tie.Need-left-of-requires
+left-of-requires c κs = search needs
 
 put-spaces-requires : tie.Need-put-spaces-requires
 put-spaces-requires c κs = search needs
@@ -20,14 +20,14 @@ same-length : tie.Need-same-length
 same-length c = search needs
 
 returns : tie.Need-returns
-returns c = writes-as (rw (c .before .before .before .before .before .before .before .spare .ensures, c .before .before .before .before .before .before .before .before .width .ensures .is)) (writes-append (c .before .before .before .before .before .before .put-spaces .ensures) (c .before .before .put-decimal .ensures))
+returns c = writes-as (rw (c .before .before .before .before .before .before .before .left-of .ensures, c .before .before .before .before .before .before .before .before .width .ensures .is)) (writes-append (c .before .before .before .before .before .before .put-spaces .ensures) (c .before .before .put-decimal .ensures))
 
 pub put-nine-spec : {M : Type 1} → statement M
 put-nine-spec =
     tie.close
     (tie.spec
     width-requires
-    spare-requires
+    left-of-requires
     put-spaces-requires
     put-decimal-requires
     same-length
