@@ -21,11 +21,11 @@
  *   13  a keeping rule is broken
  * With any number but 0 no room and no output is changed; `told` is always written.
  *
- * ROOMS. A table lies in six rooms: bytes of texts, rows of numbers, bytes of letters. A text in `texts` is a start and a length; one that may be absent is a start
+ * ROOMS. A table lies in six rooms: bytes of texts, four of rows, bytes of letters. A text in `texts` is a start and a length; one that may be absent is a start
  * and its length plus one, and 0, 0 where it is absent.
  *    references  14 numbers a row: text; AUTHORS, CONSRTM (may be absent); TITLE; JOURNAL, PUBMED, REMARK (may be absent)
  *    comments     2 numbers a row: text
- *    features     6 numbers a row: kind; location; first qualifier's row; number of qualifiers
+ *    features     a struct a row: kind; location; first qualifier's row; number of qualifiers
  *    qualifiers   4 numbers a row: key; value (may be absent)
  *
  * HEAD. What a table holds outside the rooms, as 31 numbers:
@@ -49,10 +49,14 @@ extern "C" {
 /* How many numbers a head has, and how many `told` wants for reading. */
 enum { VILGGODAN_HEAD = 31, VILGGODAN_TOLD = 32 };
 
-/* A row of `features` as a struct: row i is ((struct vilggodan_feature *)features)[i]. */
+/* A text in `texts`. */
+struct vilggodan_span {
+    size_t start, length;
+};
+
+/* A row of `features`. */
 struct vilggodan_feature {
-    size_t kind, kind_length;
-    size_t location, location_length;
+    struct vilggodan_span kind, location;
     size_t first, count; /* the first qualifier's row, and how many */
 };
 
@@ -67,13 +71,14 @@ size_t vilggodan_read(
     uint8_t *texts, size_t texts_length,
     size_t *references, size_t references_length,
     size_t *comments, size_t comments_length,
-    size_t *features, size_t features_length,
+    struct vilggodan_feature *features, size_t features_length,
     size_t *qualifiers, size_t qualifiers_length,
     uint8_t *letters, size_t letters_length,
     size_t *told, size_t told_length);
 
-/* Writes the table in the rooms to `out` at a width of 60 to 132, as gb-io does. Returns 0, 6, 10, 11 or 12. Told: [0] the bytes written with 0, the bytes
- * that it takes with 6, and 0 with any other.
+/* Writes the table in the rooms to `out` at a width of 60 to 132, as gb-io does. Returns 0, 6, 10, 11, 12 or, with `keep`, 13. Told: [0] the bytes written
+ * with 0, the bytes that it takes with 6, and 0 with any other.
+ * `keep` asks for the keeping writer: what it writes reads back as the same table, and it answers 13 where a keeping rule is broken.
  * `head` is 31 numbers, as read (told + 1). Fewer, or a length above 4,294,967,295, is 10; a date that is none is 11. Any number but 0 at [5] is circular.
  * `truncate` cuts what is too long for the LOCUS line; `escape` joins the words of the name by `_`. */
 size_t vilggodan_write(
@@ -81,24 +86,11 @@ size_t vilggodan_write(
     const uint8_t *texts, size_t texts_length,
     const size_t *references, size_t references_length,
     const size_t *comments, size_t comments_length,
-    const size_t *features, size_t features_length,
+    const struct vilggodan_feature *features, size_t features_length,
     const size_t *qualifiers, size_t qualifiers_length,
     const uint8_t *letters, size_t letters_length,
     const size_t *head, size_t head_length,
-    size_t width, bool truncate, bool escape,
-    size_t *told, size_t told_length);
-
-/* The same by the keeping writer: it answers 13 where a keeping rule is broken. What it writes reads back as the same table. */
-size_t vilggodan_keep(
-    uint8_t *out, size_t out_length,
-    const uint8_t *texts, size_t texts_length,
-    const size_t *references, size_t references_length,
-    const size_t *comments, size_t comments_length,
-    const size_t *features, size_t features_length,
-    const size_t *qualifiers, size_t qualifiers_length,
-    const uint8_t *letters, size_t letters_length,
-    const size_t *head, size_t head_length,
-    size_t width, bool truncate, bool escape,
+    size_t width, bool keep, bool truncate, bool escape,
     size_t *told, size_t told_length);
 
 #ifdef __cplusplus

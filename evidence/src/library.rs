@@ -1,22 +1,21 @@
 //! The proved library, called through its boundary with rooms that have canaries around them.
-use crate::table::Rooms;
+use crate::table::{Rooms, ROWS};
+
+/// A row of features, which is six numbers in memory.
+#[repr(C)]
+struct Feature([usize; ROWS[2]]);
 
 #[link(name = "boundary", kind = "static")]
 extern "C" {
     fn vilggodan_read(
         s: *const u8, s_length: usize, at: usize, texts: *mut u8, texts_length: usize, references: *mut usize, references_length: usize, comments: *mut usize,
-        comments_length: usize, features: *mut usize, features_length: usize, qualifiers: *mut usize, qualifiers_length: usize, letters: *mut u8,
+        comments_length: usize, features: *mut Feature, features_length: usize, qualifiers: *mut usize, qualifiers_length: usize, letters: *mut u8,
         letters_length: usize, told: *mut usize, told_length: usize,
     ) -> usize;
     fn vilggodan_write(
         out: *mut u8, out_length: usize, texts: *const u8, texts_length: usize, references: *const usize, references_length: usize, comments: *const usize,
-        comments_length: usize, features: *const usize, features_length: usize, qualifiers: *const usize, qualifiers_length: usize, letters: *const u8,
-        letters_length: usize, head: *const usize, head_length: usize, width: usize, truncate: bool, escape: bool, told: *mut usize, told_length: usize,
-    ) -> usize;
-    fn vilggodan_keep(
-        out: *mut u8, out_length: usize, texts: *const u8, texts_length: usize, references: *const usize, references_length: usize, comments: *const usize,
-        comments_length: usize, features: *const usize, features_length: usize, qualifiers: *const usize, qualifiers_length: usize, letters: *const u8,
-        letters_length: usize, head: *const usize, head_length: usize, width: usize, truncate: bool, escape: bool, told: *mut usize, told_length: usize,
+        comments_length: usize, features: *const Feature, features_length: usize, qualifiers: *const usize, qualifiers_length: usize, letters: *const u8,
+        letters_length: usize, head: *const usize, head_length: usize, width: usize, keep: bool, truncate: bool, escape: bool, told: *mut usize, told_length: usize,
     ) -> usize;
 }
 
@@ -26,7 +25,7 @@ pub fn read(s: &[u8], at: usize, texts: &mut [u8], rows: [&mut [usize]; 4], lett
     unsafe {
         vilggodan_read(
             s.as_ptr(), s.len(), at, texts.as_mut_ptr(), texts.len(), references.as_mut_ptr(), references.len(), comments.as_mut_ptr(), comments.len(),
-            features.as_mut_ptr(), features.len(), qualifiers.as_mut_ptr(), qualifiers.len(), letters.as_mut_ptr(), letters.len(), told.as_mut_ptr(), told.len(),
+            features.as_mut_ptr().cast(), features.len() / ROWS[2], qualifiers.as_mut_ptr(), qualifiers.len(), letters.as_mut_ptr(), letters.len(), told.as_mut_ptr(), told.len(),
         )
     }
 }
@@ -42,14 +41,13 @@ pub struct How {
 
 /// Writes the table of the rooms; the number answered and the value told.
 pub fn write(out: &mut [u8], rooms: &Rooms, how: How) -> (usize, usize) {
-    let call = if how.keeping { vilggodan_keep } else { vilggodan_write };
     let Rooms { texts, references, comments, features, qualifiers, letters, head } = rooms;
     let mut told = [usize::MAX];
     let number = unsafe {
-        call(
+        vilggodan_write(
             out.as_mut_ptr(), out.len(), texts.as_ptr(), texts.len(), references.as_ptr(), references.len(), comments.as_ptr(), comments.len(),
-            features.as_ptr(), features.len(), qualifiers.as_ptr(), qualifiers.len(), letters.as_ptr(), letters.len(), head.as_ptr(), head.len(), how.width,
-            how.truncate, how.escape, told.as_mut_ptr(), told.len(),
+            features.as_ptr().cast(), features.len() / ROWS[2], qualifiers.as_ptr(), qualifiers.len(), letters.as_ptr(), letters.len(), head.as_ptr(), head.len(), how.width,
+            how.keeping, how.truncate, how.escape, told.as_mut_ptr(), told.len(),
         )
     };
     (number, told[0])

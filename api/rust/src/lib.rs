@@ -128,7 +128,7 @@ pub struct Record {
     texts: Vec<u8>,
     references: Vec<usize>,
     comments: Vec<usize>,
-    features: Vec<usize>,
+    features: Vec<raw::Feature>,
     qualifiers: Vec<usize>,
     letters: Vec<u8>,
     head: [usize; HEAD],
@@ -197,7 +197,7 @@ impl Record {
         grow(&mut self.texts, sizes[0]);
         grow(&mut self.references, 14 * sizes[1]);
         grow(&mut self.comments, 2 * sizes[2]);
-        grow(&mut self.features, 6 * sizes[3]);
+        grow(&mut self.features, sizes[3]);
         grow(&mut self.qualifiers, 4 * sizes[4]);
         grow(&mut self.letters, sizes[5]);
     }
@@ -212,18 +212,13 @@ impl Record {
         self.written(true, layout)
     }
 
-    fn written(&self, keeping: bool, layout: Layout) -> Result<Vec<u8>, Error> {
-        let writer = if keeping {
-            raw::vilggodan_keep
-        } else {
-            raw::vilggodan_write
-        };
+    fn written(&self, keep: bool, layout: Layout) -> Result<Vec<u8>, Error> {
         let mut out = Vec::new();
         loop {
             let mut told = [0];
             // Safety: each pointer is that of a slice with the length beside it, and `out` and `told` are borrowed here alone.
             let number = unsafe {
-                writer(
+                raw::vilggodan_write(
                     out.as_mut_ptr(),
                     out.len(),
                     self.texts.as_ptr(),
@@ -241,6 +236,7 @@ impl Record {
                     self.head.as_ptr(),
                     self.head.len(),
                     layout.width,
+                    keep,
                     layout.truncate,
                     layout.escape,
                     told.as_mut_ptr(),
@@ -352,14 +348,14 @@ impl Record {
 
     pub fn features(&self) -> impl Iterator<Item = Feature<'_>> {
         self.features
-            .chunks_exact(6)
+            .iter()
             .take(self.head[27])
             .map(|row| Feature {
-                kind: self.text_in(row, 0),
-                location: self.text_in(row, 2),
+                kind: self.span(row.kind.start, row.kind.length),
+                location: self.span(row.location.start, row.location.length),
                 record: self,
-                first: row[4],
-                count: row[5],
+                first: row.first,
+                count: row.count,
             })
     }
 
