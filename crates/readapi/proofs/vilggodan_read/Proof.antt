@@ -188,11 +188,11 @@ module _ {M : Type 1} (𝓤 : URA M) (H : Heap 𝓤) (A : Atoms 𝓤) (W : Given
   abbrev New : Lasts → Rooms
   New z = allRooms (z .t) (z .r) (z .c) (flat (z .w)) (z .q) (z .l)
 
-  -- the tokens, the rooms' last lists
+  -- the tokens of the rooms' lifetimes, and the rooms' last lists
   abbrev Had : Lasts → List (Item 𝓤) → List (Item 𝓤)
   Had z Γ = Lent ∷ ‵ (finally u8 (lt .name) (z .l)) ∷ ‵ (finally usize (ql .name) (z .q)) ∷ ‵ (finally T.the-row (ft .name) (z .w)) ∷ ‵ (finally usize (cm .name) (z .c)) ∷ ‵ (finally usize (rf .name) (z .r)) ∷ ‵ (finally u8 (tx .name) (z .t)) ∷ Γ
 
-  -- and those of `told`
+  -- the same with those of `told`, and the bytes
   abbrev All : Lasts → List ℕ → List (Item 𝓤) → List (Item 𝓤)
   All z ts Γ = (‵ (flft κ₇ q₇) ⊛ ‵ ftrue) ∷ ‵ (finally usize (td .name) ts) ∷ Had z (‵ Bytes ∷ Γ)
 
@@ -315,25 +315,27 @@ module _ {M : Type 1} (𝓤 : URA M) (H : Heap 𝓤) (A : Atoms 𝓤) (W : Given
     abbrev Held₃ : List (Item 𝓤) → List (Item 𝓤)
     Held₃ Γ = ‵ (fat fullShare σ₆₄ l₂₄ 0 v₉) ∷ ‵ (fdies σ₆₄ l₂₄) ∷ ‵ (fat fullShare ρ₆₄ l₂₃ 0 (vptr (td .ptr .0) (td .ptr .1))) ∷ ‵ (fdies ρ₆₄ l₂₃) ∷ Γ
 
-    -- _10, the answer, and the number that is returned
+    -- _10 and _0: the answer, and the number that is returned
     abbrev Room₀ : List (Item 𝓤) → List (Item 𝓤)
     Room₀ Γ = ‵ (froom Y′.mir l₁₀ 0) ∷ ‵ (fdies Y′.mir l₁₀) ∷ Params (‵ (froom (tyInt w64) l₀ 0) ∷ ‵ (fdies (tyInt w64) l₀) ∷ Γ)
 
+    -- the same, the answer set
     abbrev Held₀ : ReadAnswer → List (Item 𝓤)
     Held₀ r = ‵ (fat fullShare Y′.mir l₁₀ 0 (said r)) ∷ ‵ (fdies Y′.mir l₁₀) ∷ Params (‵ (froom (tyInt w64) l₀ 0) ∷ ‵ (fdies (tyInt w64) l₀) ∷ [])
 
-    abbrev Answer₀ : ReadAnswer → ℕ → List (Item 𝓤)
-    Answer₀ r m = ‵ (fat fullShare Y′.mir l₁₀ 0 (said r)) ∷ ‵ (fdies Y′.mir l₁₀) ∷ Params (‵ (fat fullShare (tyInt w64) l₀ 0 (vint w64 m)) ∷ ‵ (fdies (tyInt w64) l₀) ∷ [])
+    -- and the number set too
+    abbrev Both₀ : ReadAnswer → ℕ → List (Item 𝓤)
+    Both₀ r m = ‵ (fat fullShare Y′.mir l₁₀ 0 (said r)) ∷ ‵ (fdies Y′.mir l₁₀) ∷ Params (‵ (fat fullShare (tyInt w64) l₀ 0 (vint w64 m)) ∷ ‵ (fdies (tyInt w64) l₀) ∷ [])
 
     -- all is told: the number is returned
     leaves : (r : ReadAnswer) (m : ℕ) (z : Lasts) (ts : List ℕ) → m < 2 ^ 64 → length ts ≡ length (td .now) → ReadTold (s .now) n Old (New z) (td .now) ts m
-        → Sq W (All z ts (Held₃ (Held₂ (Held₁ (Answer₀ r m))))) (runs C Λ E body.t-17 (atRet E Post))
+        → Sq W (All z ts (Held₃ (Held₂ (Held₁ (Both₀ r m))))) (runs C Λ E body.t-17 (atRet E Post))
     leaves r m z ts gm l e =
         -- [the tokens of κ₇; the last list of `told`; the other tokens; six last lists; bytes; _24 at 10; …; _0 at 58]
         returns ! (look ! 58 refl) $ forget ! 10 refl $ forget ! 12 refl $ forget ! 14 refl $ forget ! 16 refl $ forget ! 18 refl $ forget ! 20 refl $ forget ! 22 refl $ forget ! 24 refl $ forget ! 26 refl $ forget ! 28 refl $ forget ! 30 refl $ forget ! 32 refl $ forget ! 34 refl $ forget ! 36 refl $ forget ! 38 refl $ forget ! 40 refl $ forget ! 42 refl $ forget ! 44 refl $ forget ! 46 refl $ forget ! 48 refl $ forget ! 50 refl $ forget ! 52 refl $ forget ! 54 refl $ forget ! 56 refl $ forget ! 58 refl $
         move ! (58 ∷ 59 ∷ []) $ free1 ! $ move ! (56 ∷ 57 ∷ []) $ free1 ! $ move ! (54 ∷ 55 ∷ []) $ free1 ! $ move ! (52 ∷ 53 ∷ []) $ free1 ! $ move ! (50 ∷ 51 ∷ []) $ free1 ! $ move ! (48 ∷ 49 ∷ []) $ free1 ! $ move ! (46 ∷ 47 ∷ []) $ free1 ! $ move ! (44 ∷ 45 ∷ []) $ free1 ! $ move ! (42 ∷ 43 ∷ []) $ free1 ! $ move ! (40 ∷ 41 ∷ []) $ free1 ! $ move ! (38 ∷ 39 ∷ []) $ free1 ! $ move ! (36 ∷ 37 ∷ []) $ free1 ! $ move ! (34 ∷ 35 ∷ []) $ free1 ! $ move ! (32 ∷ 33 ∷ []) $ free1 ! $ move ! (30 ∷ 31 ∷ []) $ free1 ! $ move ! (28 ∷ 29 ∷ []) $ free1 ! $ move ! (26 ∷ 27 ∷ []) $ free1 ! $ move ! (24 ∷ 25 ∷ []) $ free1 ! $ move ! (22 ∷ 23 ∷ []) $ free1 ! $ move ! (20 ∷ 21 ∷ []) $ free1 ! $ move ! (18 ∷ 19 ∷ []) $ free1 ! $ move ! (16 ∷ 17 ∷ []) $ free1 ! $ move ! (14 ∷ 15 ∷ []) $ free1 ! $ move ! (12 ∷ 13 ∷ []) $ free1 ! $ move ! (10 ∷ 11 ∷ []) $ free1 ! $ free0 ! $ by ! (exits m z ts gm l e)
 
-    -- the answer is known: `told` is lent, and it is told
+    -- the answer is known: `told` is lent to `tell_read`
     telling : (r : ReadAnswer) (z : Lasts) → Answered (s .now) n Old (New z) r → Is Y.the-row r (said r ∷ [])
         → Sq W (Had z (‵ (flft κ₇ q₇) ∷ ‵ Bytes ∷ ‵ Told ∷ Room₃ (Held₂ (Held₁ (Held₀ r))))) (runs C Λ E body.t-14 (atRet E Post))
     telling r z e is =
