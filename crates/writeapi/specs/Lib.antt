@@ -1,0 +1,2 @@
+-- What the exported function returns and tells.
+pub mod Told
