@@ -1,7 +1,7 @@
 -- From what was answered and told of it to what is told of the call.
 use Prim.Native.Nat.{ℕ}
 use mathlib.Core.Path.{_≡_, ap, _∙_}
-use mathlib.Core.Bool.{Bool}
+use mathlib.Core.Bool.{Bool, true, false}
 use mathlib.Core.List.{List}
 use Rattle.format.specs.Rooms.{Rooms}
 use Rattle.format.specs.declared.Head.{Head}
@@ -10,8 +10,9 @@ use Rattle.format.specs.declared.WriteAnswer.{WriteAnswer}
 use Rattle.headnumbers.specs.Numbers.{headFrom}
 use Rattle.reader.specs.Reads.{Answered}
 use Rattle.writer.specs.Writer.{PlainAnswered, KeepingAnswered}
+use Rattle.rowturns.specs.Answered.{AnsweredBy}
 use Rattle.telling.specs.Telling.{readNumber, Tells, Returns}
-use Rattle.boundary.specs.Told.{ReadTold, PlainTold, KeepingTold}
+use Rattle.boundary.specs.Told.{ReadTold, WriteTold}
 
 pub read-told : (s : List ℕ) (at : ℕ) (old new : Rooms) (told told′ : List ℕ) (n : ℕ) (r : ReadAnswer) → Answered s at old new r → Tells at r told told′ n
     → ReadTold s at old new told told′ n
@@ -28,12 +29,10 @@ read-told s at old new told told′ n r a t =
     }
 
 module _ (W : ℕ) (truncate escape : Bool) (r : Rooms) (ns : List ℕ) (h : Head) (old new told told′ : List ℕ) (n : ℕ) (a : WriteAnswer) (e : h ≡ headFrom ns) (t : Returns a told told′ n) where
-  pub plain-told : PlainAnswered W truncate escape r h old new a → PlainTold W truncate escape r ns old new told told′ n
-  plain-told w =
-      let x : PlainAnswered W truncate escape r (headFrom ns) old new a = rw e at w in
-      record { is = rw (x .is) at (t .is); tells = rw (x .is) at (t .tells); slice = rw (x .is) at (x .slice) }
-
-  pub keeping-told : KeepingAnswered W truncate escape r h old new a → KeepingTold W truncate escape r ns old new told told′ n
-  keeping-told w =
+  pub write-told : (keep : Bool) → AnsweredBy keep W truncate escape r h old new a → WriteTold keep W truncate escape r ns old new told told′ n
+  write-told true w =
       let x : KeepingAnswered W truncate escape r (headFrom ns) old new a = rw e at w in
+      record { is = rw (x .is) at (t .is); tells = rw (x .is) at (t .tells); slice = rw (x .is) at (x .slice) }
+  write-told false w =
+      let x : PlainAnswered W truncate escape r (headFrom ns) old new a = rw e at w in
       record { is = rw (x .is) at (t .is); tells = rw (x .is) at (t .tells); slice = rw (x .is) at (x .slice) }

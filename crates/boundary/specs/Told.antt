@@ -1,7 +1,7 @@
 -- What the exported functions return and tell. `told` is a lent slice of numbers: what falls past its end is lost, and no other number of it is changed.
 use Prim.Native.Nat.{ℕ}
 use mathlib.Core.Path.{_≡_}
-use mathlib.Core.Bool.{Bool}
+use mathlib.Core.Bool.{Bool, true, false}
 use mathlib.Core.List.{List, [], _∷_}
 use lib.ListN.{length}
 use lib.Seq.{sets}
@@ -27,18 +27,21 @@ pub record ReadTold (s : List ℕ) (at : ℕ) (old new : Rooms) (told told′ : 
   pub qualifiers : new .qualifiers ≡ roomsAfter s at old .qualifiers
   pub letters : new .letters ≡ roomsAfter s at old .letters
 
--- ---- writing: the answer a's number is returned, and its value told
+-- ---- writing
 
--- a writer lent the slice `old` answers a, and leaves `new`
-pub record WriteTold (W : ℕ) (truncate escape : Bool) (r : Rooms) (h : Head) (a : WriteAnswer) (old new told told′ : List ℕ) (n : ℕ) : Type 0 where
+-- the answer of the keeping writer, where it is asked for, or of the plain one, lent a slice of n bytes
+abbrev pub answerOf : Bool → ℕ → Bool → Bool → Rooms → Head → ℕ → WriteAnswer
+answerOf true W truncate escape r h n = keepingAnswer W truncate escape r h n
+answerOf false W truncate escape r h n = plainAnswer W truncate escape r h n
+
+-- The answer a's number is returned, and its value told. The slice `old` is left as `new`: with `text` at its start where a is number 0, else unchanged.
+-- This rules out a number that is always the same, and a slice that is changed with another number than 0.
+pub record AnswerTold (a : WriteAnswer) (text old new told told′ : List ℕ) (n : ℕ) : Type 0 where
   pub is : n ≡ write.number a
   pub tells : told′ ≡ sets told 0 (valueWith a ∷ [])
-  pub slice : new ≡ sliceAfter a (written W truncate escape (tableOf r h)) old
+  pub slice : new ≡ sliceAfter a text old
 
-abbrev pub PlainTold : ℕ → Bool → Bool → Rooms → List ℕ → List ℕ → List ℕ → List ℕ → List ℕ → ℕ → Type 0
-PlainTold W truncate escape r ns old new told told′ n =
-    WriteTold W truncate escape r (headFrom ns) (plainAnswer W truncate escape r (headFrom ns) (length old)) old new told told′ n
-
-abbrev pub KeepingTold : ℕ → Bool → Bool → Rooms → List ℕ → List ℕ → List ℕ → List ℕ → List ℕ → ℕ → Type 0
-KeepingTold W truncate escape r ns old new told told′ n =
-    WriteTold W truncate escape r (headFrom ns) (keepingAnswer W truncate escape r (headFrom ns) (length old)) old new told told′ n
+-- of a call with the rooms r and the head that the numbers ns stand for
+abbrev pub WriteTold : Bool → ℕ → Bool → Bool → Rooms → List ℕ → List ℕ → List ℕ → List ℕ → List ℕ → ℕ → Type 0
+WriteTold keep W truncate escape r ns old new told told′ n =
+    AnswerTold (answerOf keep W truncate escape r (headFrom ns) (length old)) (written W truncate escape (tableOf r (headFrom ns))) old new told told′ n
