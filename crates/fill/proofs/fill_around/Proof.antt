@@ -29,7 +29,7 @@ same-length-4 : tie.Need-same-length-4
 same-length-4 c = search needs
 
 returns : tie.Need-returns
-returns c = around-filled _ _ (c^pre) _ _ _ _ _ _ _ (c^fill-header .ensures) _ _ _ _ _ (c^put-contig .ensures) (c^put-letters .ensures)
+returns c = around-filled _ _ (c .before .before .before .before .before .before .before .before .before .before .before .before .before .before .before .before .before .before .before .before .before .before .before .before .before .before .pre) _ _ _ _ _ _ _ (c .before .before .before .before .before .before .before .before .before .before .before .before .before .before .before .fill-header .ensures) _ _ _ _ _ (c .before .before .before .before .before .before .put-contig .ensures) (c .before .before .put-letters .ensures)
 
 pub fill-around-spec : {M : Type 1} → statement M
 fill-around-spec =
