@@ -19,7 +19,7 @@ use ghost.Atoms.{Atoms}
 use contract.Monad.{Fun, fact}
 use contract.Running.{givenOf, tables, tablesOf}
 use types.Kit.{Given, Item, Sq, runs, ‵, raw, _⊛_, ⋆, some, later, atRet, _$_, _∵_, !, qed, by, move, drop, use1, use2, use3, split, group, pick, rewrite, fsplit, fjoin, feqL, suffices, frame, await, done}
-use types.Run.{look, init, forget, stop, hop, fld, from, load, of-opd, addr, and-then, no-more, assigns, land, returns, enter, alloc1, alloc0, params1, pass1, pass0, free1, free0}
+use types.Run.{look, init, store, forget, stop, hop, fld, from, load, of-opd, addr, and-then, no-more, assigns, land, returns, enter, alloc1, alloc0, params1, pass1, pass0, free1, free0}
 use types.Part.{whole, sub, look-in, agg}
 use types.Tokens.{lft-new, lft-end}
 use sound.WpLaws.{FmC, fmOf, WpFn-mono}
@@ -288,7 +288,7 @@ module _ {M : Type 1} (𝓤 : URA M) (H : Heap 𝓤) (A : Atoms 𝓤) (W : Given
       nothing ! $ move ! (4 ∷ 0 ∷ []) $ fjoin ! $ move ! (3 ∷ 0 ∷ []) $ fjoin ! $ owned ! usize (Is usize) (uint-makes 𝓤 H A W w64) (p .place) _ (refl, gp) $ fjoin ! $ move ! (2 ∷ 0 ∷ []) $ fjoin ! $ owned ! usize (Is usize) (uint-makes 𝓤 H A W w64) (p .count) _ (refl, gc) $ fjoin ! $ owned ! usize (Is usize) (uint-makes 𝓤 H A W w64) (p .at) _ (refl, ga) $ fjoin ! $ move ! (1 ∷ 0 ∷ []) $ fjoin ! $ done !
 
   module _ (C : Calls 𝓤 H) (Λ : Loops 𝓤 H) (fm : FmC 𝓤 H (W .laws) C) (known-plan : Triple 𝓤 (C #rowplan·prepare) (Plan 𝓤 H A mem run)) (known-fill : Triple 𝓤 (C #rowstore·store-rows) (Fill 𝓤 H A mem run))
-      (l₀ l₁ l₂ l₃ l₄ l₅ l₆ l₇ l₈ l₉ l₁₀ l₁₁ l₁₂ l₁₃ l₁₄ l₁₅ l₁₆ l₁₇ l₁₈ l₁₉ l₂₀ l₂₁ l₂₂ l₂₃ l₂₄ l₂₅ l₂₆ : ℕ) where
+      (l₀ l₁ l₂ l₃ l₄ l₅ l₆ l₇ l₈ l₉ l₁₀ l₁₁ l₁₂ l₁₃ l₁₄ l₁₅ l₁₆ l₁₇ l₁₈ l₁₉ l₂₀ l₂₁ l₂₂ l₂₃ l₂₄ l₂₅ : ℕ) where
     abbrev ρ : Ty
     ρ = pointee (T.the-row .written)
 
@@ -333,7 +333,7 @@ module _ {M : Type 1} (𝓤 : URA M) (H : Heap 𝓤) (A : Atoms 𝓤) (W : Given
     σρ = sliceTy (tyRef erased mut ρ)
 
     abbrev E : Env 𝓤 H
-    E = (Y′.mir, l₀) ∷ (τ₁, l₁) ∷ (tyInt w64, l₂) ∷ (τ₃, l₃) ∷ (τ₄, l₄) ∷ (τ₅, l₅) ∷ (τ₆, l₆) ∷ (τ₇, l₇) ∷ (τ₈, l₈) ∷ (P′.mir, l₉) ∷ (ρ₈, l₁₀) ∷ (σ₈, l₁₁) ∷ (ρ₆₄, l₁₂) ∷ (σ₆₄, l₁₃) ∷ (ρ₆₄, l₁₄) ∷ (σ₆₄, l₁₅) ∷ (tyInt w64, l₁₆) ∷ (tyInt w64, l₁₇) ∷ (ρ₈, l₁₈) ∷ (σ₈, l₁₉) ∷ (tyInt w64, l₂₀) ∷ (ρ₈, l₂₁) ∷ (σ₈, l₂₂) ∷ (ρρ, l₂₃) ∷ (σρ, l₂₄) ∷ (ρ₆₄, l₂₅) ∷ (σ₆₄, l₂₆) ∷ []
+    E = (Y′.mir, l₀) ∷ (τ₁, l₁) ∷ (tyInt w64, l₂) ∷ (τ₃, l₃) ∷ (τ₄, l₄) ∷ (τ₅, l₅) ∷ (τ₆, l₆) ∷ (τ₇, l₇) ∷ (τ₈, l₈) ∷ (P′.mir, l₉) ∷ (ρ₈, l₁₀) ∷ (σ₈, l₁₁) ∷ (ρ₆₄, l₁₂) ∷ (σ₆₄, l₁₃) ∷ (ρ₆₄, l₁₄) ∷ (σ₆₄, l₁₅) ∷ (tyInt w64, l₁₆) ∷ (tyInt w64, l₁₇) ∷ (ρ₈, l₁₈) ∷ (σ₈, l₁₉) ∷ (ρ₈, l₂₀) ∷ (σ₈, l₂₁) ∷ (ρρ, l₂₂) ∷ (σρ, l₂₃) ∷ (ρ₆₄, l₂₄) ∷ (σ₆₄, l₂₅) ∷ []
 
     -- the parameters, and the result
     abbrev Params : List (Item 𝓤) → List (Item 𝓤)
@@ -347,13 +347,13 @@ module _ {M : Type 1} (𝓤 : URA M) (H : Heap 𝓤) (A : Atoms 𝓤) (W : Given
     abbrev Held₁ : List (Item 𝓤) → List (Item 𝓤)
     Held₁ Γ = ‵ (fat fullShare σ₆₄ l₁₃ 0 v₄) ∷ ‵ (fdies σ₆₄ l₁₃) ∷ ‵ (fat fullShare ρ₆₄ l₁₂ 0 (vptr (rf .ptr .0) (rf .ptr .1))) ∷ ‵ (fdies ρ₆₄ l₁₂) ∷ ‵ (fat fullShare σ₈ l₁₁ 0 v₃) ∷ ‵ (fdies σ₈ l₁₁) ∷ ‵ (fat fullShare ρ₈ l₁₀ 0 (vptr (tx .ptr .0) (tx .ptr .1))) ∷ ‵ (fdies ρ₈ l₁₀) ∷ Γ
 
-    -- _17 to _14: comments, and how many rows and numbers of qualifiers there are
+    -- _17 to _14: comments, and how many rows, later what `store_rows` returns, and numbers of qualifiers there are
     abbrev Room₂ : List (Item 𝓤) → List (Item 𝓤)
     Room₂ Γ = ‵ (froom (tyInt w64) l₁₇ 0) ∷ ‵ (fdies (tyInt w64) l₁₇) ∷ ‵ (froom (tyInt w64) l₁₆ 0) ∷ ‵ (fdies (tyInt w64) l₁₆) ∷ ‵ (froom σ₆₄ l₁₅ 0) ∷ ‵ (fdies σ₆₄ l₁₅) ∷ ‵ (froom ρ₆₄ l₁₄ 0) ∷ ‵ (fdies ρ₆₄ l₁₄) ∷ Γ
 
     -- the same, set
-    abbrev Held₂ : List (Item 𝓤) → List (Item 𝓤)
-    Held₂ Γ = ‵ (fat fullShare (tyInt w64) l₁₇ 0 (vint w64 (length (ql .now)))) ∷ ‵ (fdies (tyInt w64) l₁₇) ∷ ‵ (fat fullShare (tyInt w64) l₁₆ 0 (vint w64 (length (rw .now)))) ∷ ‵ (fdies (tyInt w64) l₁₆) ∷ ‵ (fat fullShare σ₆₄ l₁₅ 0 v₅) ∷ ‵ (fdies σ₆₄ l₁₅) ∷ ‵ (fat fullShare ρ₆₄ l₁₄ 0 (vptr (cm .ptr .0) (cm .ptr .1))) ∷ ‵ (fdies ρ₆₄ l₁₄) ∷ Γ
+    abbrev Held₂ : Val → List (Item 𝓤) → List (Item 𝓤)
+    Held₂ h Γ = ‵ (fat fullShare (tyInt w64) l₁₇ 0 (vint w64 (length (ql .now)))) ∷ ‵ (fdies (tyInt w64) l₁₇) ∷ ‵ (fat fullShare (tyInt w64) l₁₆ 0 h) ∷ ‵ (fdies (tyInt w64) l₁₆) ∷ ‵ (fat fullShare σ₆₄ l₁₅ 0 v₅) ∷ ‵ (fdies σ₆₄ l₁₅) ∷ ‵ (fat fullShare ρ₆₄ l₁₄ 0 (vptr (cm .ptr .0) (cm .ptr .1))) ∷ ‵ (fdies ρ₆₄ l₁₄) ∷ Γ
 
     -- _19 and _18: letters
     abbrev Room₃ : List (Item 𝓤) → List (Item 𝓤)
@@ -363,9 +363,13 @@ module _ {M : Type 1} (𝓤 : URA M) (H : Heap 𝓤) (A : Atoms 𝓤) (W : Given
     abbrev Held₃ : List (Item 𝓤) → List (Item 𝓤)
     Held₃ Γ = ‵ (fat fullShare σ₈ l₁₉ 0 v₈) ∷ ‵ (fdies σ₈ l₁₉) ∷ ‵ (fat fullShare ρ₈ l₁₈ 0 (vptr (lt .ptr .0) (lt .ptr .1))) ∷ ‵ (fdies ρ₈ l₁₈) ∷ Γ
 
-    -- _26 to _20: texts again, rows and qualifiers, and what `store_rows` returns
+    -- _25 to _20: texts again, rows and qualifiers
     abbrev Room₄ : List (Item 𝓤) → List (Item 𝓤)
-    Room₄ Γ = ‵ (froom σ₆₄ l₂₆ 0) ∷ ‵ (fdies σ₆₄ l₂₆) ∷ ‵ (froom ρ₆₄ l₂₅ 0) ∷ ‵ (fdies ρ₆₄ l₂₅) ∷ ‵ (froom σρ l₂₄ 0) ∷ ‵ (fdies σρ l₂₄) ∷ ‵ (froom ρρ l₂₃ 0) ∷ ‵ (fdies ρρ l₂₃) ∷ ‵ (froom σ₈ l₂₂ 0) ∷ ‵ (fdies σ₈ l₂₂) ∷ ‵ (froom ρ₈ l₂₁ 0) ∷ ‵ (fdies ρ₈ l₂₁) ∷ ‵ (froom (tyInt w64) l₂₀ 0) ∷ ‵ (fdies (tyInt w64) l₂₀) ∷ Γ
+    Room₄ Γ = ‵ (froom σ₆₄ l₂₅ 0) ∷ ‵ (fdies σ₆₄ l₂₅) ∷ ‵ (froom ρ₆₄ l₂₄ 0) ∷ ‵ (fdies ρ₆₄ l₂₄) ∷ ‵ (froom σρ l₂₃ 0) ∷ ‵ (fdies σρ l₂₃) ∷ ‵ (froom ρρ l₂₂ 0) ∷ ‵ (fdies ρρ l₂₂) ∷ ‵ (froom σ₈ l₂₁ 0) ∷ ‵ (fdies σ₈ l₂₁) ∷ ‵ (froom ρ₈ l₂₀ 0) ∷ ‵ (fdies ρ₈ l₂₀) ∷ Γ
+
+    -- the same, set
+    abbrev Held₄ : List (Item 𝓤) → List (Item 𝓤)
+    Held₄ Γ = ‵ (fat fullShare σ₆₄ l₂₅ 0 v₇) ∷ ‵ (fdies σ₆₄ l₂₅) ∷ ‵ (fat fullShare ρ₆₄ l₂₄ 0 (vptr (ql .ptr .0) (ql .ptr .1))) ∷ ‵ (fdies ρ₆₄ l₂₄) ∷ ‵ (fat fullShare σρ l₂₃ 0 v₆) ∷ ‵ (fdies σρ l₂₃) ∷ ‵ (fat fullShare ρρ l₂₂ 0 (vptr (rw .ptr .0) (rw .ptr .1))) ∷ ‵ (fdies ρρ l₂₂) ∷ ‵ (fat fullShare σ₈ l₂₁ 0 v₃) ∷ ‵ (fdies σ₈ l₂₁) ∷ ‵ (fat fullShare ρ₈ l₂₀ 0 (vptr (tx .ptr .0) (tx .ptr .1))) ∷ ‵ (fdies ρ₈ l₂₀) ∷ Γ
 
     -- _9: what is prepared
     abbrev Room₀ : List (Item 𝓤) → List (Item 𝓤)
@@ -376,43 +380,43 @@ module _ {M : Type 1} (𝓤 : URA M) (H : Heap 𝓤) (A : Atoms 𝓤) (W : Given
 
     -- the features are put: the answer is passed on
     leaves : (p : Prepared) (z : Lasts) (y : Stored) (u : Val) → Is Y.the-row (p .answer) (said (p .answer) ∷ []) → Leaves z y (p .answer)
-        → Sq W (Ended z y (‵ (fat fullShare σ₆₄ l₂₆ 0 v₇) ∷ ‵ (fdies σ₆₄ l₂₆) ∷ ‵ (fat fullShare ρ₆₄ l₂₅ 0 (vptr (ql .ptr .0) (ql .ptr .1))) ∷ ‵ (fdies ρ₆₄ l₂₅) ∷ ‵ (fat fullShare σρ l₂₄ 0 v₆) ∷ ‵ (fdies σρ l₂₄) ∷ ‵ (fat fullShare ρρ l₂₃ 0 (vptr (rw .ptr .0) (rw .ptr .1))) ∷ ‵ (fdies ρρ l₂₃) ∷ ‵ (fat fullShare σ₈ l₂₂ 0 v₃) ∷ ‵ (fdies σ₈ l₂₂) ∷ ‵ (fat fullShare ρ₈ l₂₁ 0 (vptr (tx .ptr .0) (tx .ptr .1))) ∷ ‵ (fdies ρ₈ l₂₁) ∷ ‵ (fat fullShare (tyInt w64) l₂₀ 0 u) ∷ ‵ (fdies (tyInt w64) l₂₀) ∷ Held₃ (Held₂ (Held₁ (Held₀ p []))))) (runs C Λ E body.t-19 (atRet E Post))
+        → Sq W (Ended z y (Held₄ (Held₃ (Held₂ u (Held₁ (Held₀ p [])))))) (runs C Λ E body.t-19 (atRet E Post))
     leaves p z y u is e =
-        assigns ! (of-opd ! (load ! (from ! (fld ! refl (stop !))) (look-in ! 43 (sub ! 0 refl (whole !))))) (from ! (stop !)) (init ! 61 refl (EL.lawful Y.the-type Y′.the-laws 𝓤 H A W tt .typed (p .answer) _ is .0)) $
-        returns ! (look ! 61 refl) $ forget ! 9 refl $ forget ! 11 refl $ forget ! 13 refl $ forget ! 15 refl $ forget ! 17 refl $ forget ! 19 refl $ forget ! 21 refl $ forget ! 23 refl $ forget ! 25 refl $ forget ! 27 refl $ forget ! 29 refl $ forget ! 31 refl $ forget ! 33 refl $ forget ! 35 refl $ forget ! 37 refl $ forget ! 39 refl $ forget ! 41 refl $ forget ! 43 refl $ forget ! 45 refl $ forget ! 47 refl $ forget ! 49 refl $ forget ! 51 refl $ forget ! 53 refl $ forget ! 55 refl $ forget ! 57 refl $ forget ! 59 refl $ forget ! 61 refl $ 
-        move ! (61 ∷ 62 ∷ []) $ free1 ! $ move ! (59 ∷ 60 ∷ []) $ free1 ! $ move ! (57 ∷ 58 ∷ []) $ free1 ! $ move ! (55 ∷ 56 ∷ []) $ free1 ! $ move ! (53 ∷ 54 ∷ []) $ free1 ! $ move ! (51 ∷ 52 ∷ []) $ free1 ! $ move ! (49 ∷ 50 ∷ []) $ free1 ! $ move ! (47 ∷ 48 ∷ []) $ free1 ! $ move ! (45 ∷ 46 ∷ []) $ free1 ! $ move ! (43 ∷ 44 ∷ []) $ free1 ! $ move ! (41 ∷ 42 ∷ []) $ free1 ! $ move ! (39 ∷ 40 ∷ []) $ free1 ! $ move ! (37 ∷ 38 ∷ []) $ free1 ! $ move ! (35 ∷ 36 ∷ []) $ free1 ! $ move ! (33 ∷ 34 ∷ []) $ free1 ! $ move ! (31 ∷ 32 ∷ []) $ free1 ! $ move ! (29 ∷ 30 ∷ []) $ free1 ! $ move ! (27 ∷ 28 ∷ []) $ free1 ! $ move ! (25 ∷ 26 ∷ []) $ free1 ! $ move ! (23 ∷ 24 ∷ []) $ free1 ! $ move ! (21 ∷ 22 ∷ []) $ free1 ! $ move ! (19 ∷ 20 ∷ []) $ free1 ! $ move ! (17 ∷ 18 ∷ []) $ free1 ! $ move ! (15 ∷ 16 ∷ []) $ free1 ! $ move ! (13 ∷ 14 ∷ []) $ free1 ! $ move ! (11 ∷ 12 ∷ []) $ free1 ! $ move ! (9 ∷ 10 ∷ []) $ free1 ! $ free0 ! $ by ! (exits (p .answer) z y is e)
+        assigns ! (of-opd ! (load ! (from ! (fld ! refl (stop !))) (look-in ! 41 (sub ! 0 refl (whole !))))) (from ! (stop !)) (init ! 59 refl (EL.lawful Y.the-type Y′.the-laws 𝓤 H A W tt .typed (p .answer) _ is .0)) $
+        returns ! (look ! 59 refl) $ forget ! 9 refl $ forget ! 11 refl $ forget ! 13 refl $ forget ! 15 refl $ forget ! 17 refl $ forget ! 19 refl $ forget ! 21 refl $ forget ! 23 refl $ forget ! 25 refl $ forget ! 27 refl $ forget ! 29 refl $ forget ! 31 refl $ forget ! 33 refl $ forget ! 35 refl $ forget ! 37 refl $ forget ! 39 refl $ forget ! 41 refl $ forget ! 43 refl $ forget ! 45 refl $ forget ! 47 refl $ forget ! 49 refl $ forget ! 51 refl $ forget ! 53 refl $ forget ! 55 refl $ forget ! 57 refl $ forget ! 59 refl $ 
+        move ! (59 ∷ 60 ∷ []) $ free1 ! $ move ! (57 ∷ 58 ∷ []) $ free1 ! $ move ! (55 ∷ 56 ∷ []) $ free1 ! $ move ! (53 ∷ 54 ∷ []) $ free1 ! $ move ! (51 ∷ 52 ∷ []) $ free1 ! $ move ! (49 ∷ 50 ∷ []) $ free1 ! $ move ! (47 ∷ 48 ∷ []) $ free1 ! $ move ! (45 ∷ 46 ∷ []) $ free1 ! $ move ! (43 ∷ 44 ∷ []) $ free1 ! $ move ! (41 ∷ 42 ∷ []) $ free1 ! $ move ! (39 ∷ 40 ∷ []) $ free1 ! $ move ! (37 ∷ 38 ∷ []) $ free1 ! $ move ! (35 ∷ 36 ∷ []) $ free1 ! $ move ! (33 ∷ 34 ∷ []) $ free1 ! $ move ! (31 ∷ 32 ∷ []) $ free1 ! $ move ! (29 ∷ 30 ∷ []) $ free1 ! $ move ! (27 ∷ 28 ∷ []) $ free1 ! $ move ! (25 ∷ 26 ∷ []) $ free1 ! $ move ! (23 ∷ 24 ∷ []) $ free1 ! $ move ! (21 ∷ 22 ∷ []) $ free1 ! $ move ! (19 ∷ 20 ∷ []) $ free1 ! $ move ! (17 ∷ 18 ∷ []) $ free1 ! $ move ! (15 ∷ 16 ∷ []) $ free1 ! $ move ! (13 ∷ 14 ∷ []) $ free1 ! $ move ! (11 ∷ 12 ∷ []) $ free1 ! $ move ! (9 ∷ 10 ∷ []) $ free1 ! $ free0 ! $ by ! (exits (p .answer) z y is e)
 
     -- what is prepared is known: texts, rows and qualifiers are lent, and the features put
     fills : (p : Prepared) (z : Lasts) → Said z p → Is P.the-row p (prep p ∷ [])
-        → Sq W (Last₆ (z .l) ∷ Last₃ (z .c) ∷ Last₂ (z .r) ∷ ‵ (Texts (z .t)) ∷ ‵ (flft κ₁ q₁) ∷ ‵ (flft κ₀ q₀) ∷ Others ∷ ‵ (flft κ₄ q₄) ∷ ‵ (flft κ₅ q₅) ∷ ‵ Bytes ∷ ‵ Rows ∷ ‵ Qualifiers ∷ Room₄ (Held₃ (Held₂ (Held₁ (Held₀ p []))))) (runs C Λ E body.t-12 (atRet E Post))
+        → Sq W (Last₆ (z .l) ∷ Last₃ (z .c) ∷ Last₂ (z .r) ∷ ‵ (Texts (z .t)) ∷ ‵ (flft κ₁ q₁) ∷ ‵ (flft κ₀ q₀) ∷ Others ∷ ‵ (flft κ₄ q₄) ∷ ‵ (flft κ₅ q₅) ∷ ‵ Bytes ∷ ‵ Rows ∷ ‵ Qualifiers ∷ Room₄ (Held₃ (Held₂ (vint w64 (length (rw .now))) (Held₁ (Held₀ p []))))) (runs C Λ E body.t-12 (atRet E Post))
     fills p z e ip = let fields = LL.owed P.the-type P′.the-laws p _ ip in
-        assigns ! (addr ! (from ! (fld ! refl (hop ! (look-in ! 58 (sub ! 0 refl (whole !))) (stop !))))) (from ! (stop !)) (init ! 22 refl (tt, tt)) $
-        assigns ! (agg ! (and-then ! (load ! (from ! (stop !)) (look ! 22 refl)) (and-then ! (load ! (from ! (fld ! refl (stop !))) (look-in ! 58 (sub ! 1 refl (whole !)))) (no-more !)))) (from ! (stop !)) (init ! 20 refl (tt, (tt, (record { fits = room₁ .0 }, tt)))) $
-        assigns ! (addr ! (from ! (fld ! refl (hop ! (look-in ! 52 (sub ! 0 refl (whole !))) (stop !))))) (from ! (stop !)) (init ! 18 refl (tt, tt)) $
-        assigns ! (agg ! (and-then ! (load ! (from ! (stop !)) (look ! 18 refl)) (and-then ! (load ! (from ! (fld ! refl (stop !))) (look-in ! 52 (sub ! 1 refl (whole !)))) (no-more !)))) (from ! (stop !)) (init ! 16 refl (tt, (tt, (record { fits = room .0 }, tt)))) $
-        assigns ! (addr ! (from ! (fld ! refl (hop ! (look-in ! 50 (sub ! 0 refl (whole !))) (stop !))))) (from ! (stop !)) (init ! 14 refl (tt, tt)) $
-        assigns ! (agg ! (and-then ! (load ! (from ! (stop !)) (look ! 14 refl)) (and-then ! (load ! (from ! (fld ! refl (stop !))) (look-in ! 50 (sub ! 1 refl (whole !)))) (no-more !)))) (from ! (stop !)) (init ! 12 refl (tt, (tt, (record { fits = fits₅ }, tt)))) $
+        assigns ! (addr ! (from ! (fld ! refl (hop ! (look-in ! 56 (sub ! 0 refl (whole !))) (stop !))))) (from ! (stop !)) (init ! 22 refl (tt, tt)) $
+        assigns ! (agg ! (and-then ! (load ! (from ! (stop !)) (look ! 22 refl)) (and-then ! (load ! (from ! (fld ! refl (stop !))) (look-in ! 56 (sub ! 1 refl (whole !)))) (no-more !)))) (from ! (stop !)) (init ! 20 refl (tt, (tt, (record { fits = room₁ .0 }, tt)))) $
+        assigns ! (addr ! (from ! (fld ! refl (hop ! (look-in ! 50 (sub ! 0 refl (whole !))) (stop !))))) (from ! (stop !)) (init ! 18 refl (tt, tt)) $
+        assigns ! (agg ! (and-then ! (load ! (from ! (stop !)) (look ! 18 refl)) (and-then ! (load ! (from ! (fld ! refl (stop !))) (look-in ! 50 (sub ! 1 refl (whole !)))) (no-more !)))) (from ! (stop !)) (init ! 16 refl (tt, (tt, (record { fits = room .0 }, tt)))) $
+        assigns ! (addr ! (from ! (fld ! refl (hop ! (look-in ! 48 (sub ! 0 refl (whole !))) (stop !))))) (from ! (stop !)) (init ! 14 refl (tt, tt)) $
+        assigns ! (agg ! (and-then ! (load ! (from ! (stop !)) (look ! 14 refl)) (and-then ! (load ! (from ! (fld ! refl (stop !))) (look-in ! 48 (sub ! 1 refl (whole !)))) (no-more !)))) (from ! (stop !)) (init ! 12 refl (tt, (tt, (record { fits = fits₅ }, tt)))) $
         move ! (9 ∷ []) $ use1 W (‵ Bytes ⊛ ‵ Bytes) (shr-slice-copy 𝓤 H A W (named 0) κ₀ u8 .twice s (v₁ ∷ [])) $ split ! $ nothing ! $ move ! (8 ∷ 7 ∷ 10 ∷ 11 ∷ 0 ∷ []) $ group ! 5 $ move ! (0 ∷ 1 ∷ 6 ∷ 8 ∷ 9 ∷ []) $ group ! 5 $ use1 W (raw (Fill 𝓤 H A mem run .pre (to-fill (z .t) p))) (goes-fill (z .t) p (fields .1 .0 .1) (fields .1 .1 .0 .1) (fields .1 .1 .1 .0 .1) (e .fits)) $
-        -- [pre; bytes; l; c; r; Others; _26; d26; …]
-        calls-at ! fm (Fill 𝓤 H A mem run) known-fill (to-fill (z .t) p) (and-then ! (load ! (from ! (stop !)) (look ! 56 refl)) (and-then ! (load ! (from ! (fld ! refl (stop !))) (look-in ! 40 (sub ! 1 refl (whole !)))) (and-then ! (load ! (from ! (fld ! refl (stop !))) (look-in ! 40 (sub ! 3 refl (whole !)))) (and-then ! (load ! (from ! (stop !)) (look ! 14 refl)) (and-then ! (load ! (from ! (fld ! refl (stop !))) (look-in ! 40 (sub ! 2 refl (whole !)))) (and-then ! (load ! (from ! (stop !)) (look ! 10 refl)) (and-then ! (load ! (from ! (stop !)) (look ! 6 refl)) (no-more !)))))))) (λ u.
+        -- [pre; bytes; l; c; r; Others; _25; d25; …]
+        calls-at ! fm (Fill 𝓤 H A mem run) known-fill (to-fill (z .t) p) (and-then ! (load ! (from ! (stop !)) (look ! 54 refl)) (and-then ! (load ! (from ! (fld ! refl (stop !))) (look-in ! 38 (sub ! 1 refl (whole !)))) (and-then ! (load ! (from ! (fld ! refl (stop !))) (look-in ! 38 (sub ! 3 refl (whole !)))) (and-then ! (load ! (from ! (stop !)) (look ! 14 refl)) (and-then ! (load ! (from ! (fld ! refl (stop !))) (look-in ! 38 (sub ! 2 refl (whole !)))) (and-then ! (load ! (from ! (stop !)) (look ! 10 refl)) (and-then ! (load ! (from ! (stop !)) (look ! 6 refl)) (no-more !)))))))) (λ u.
         use1 W (later (some (λ (r : ℕ). (Four ⊛ ‵ (usize .own r (u ∷ []))) ⊛ raw (ensured 𝓤 H A fill.ended (fill.clauses 𝓤 H A mem run) fill-lfts (fill-args (z .t) p) tt r)))) (id⊢ 𝓤 _) $ await ! tt $ pick ! (λ r.
         split ! $ move ! (1 ∷ []) $ use1 W (some (λ (ws : Unit {0} × (Unit {0} × (Unit {0} × (List ℕ × (Unit {0} × (List Feature × (List ℕ × Unit {0}))))))). ‵ (lasts fill.ended fill-lfts (fill-args (z .t) p) ws) ⊛ raw (fact 𝓤 (FeaturesPut (p .place) (Left p) (z .t) (ws .1 .1 .1 .0) (flat (rw .now)) (flat (ws .1 .1 .1 .1 .1 .0)) (ql .now) (ws .1 .1 .1 .1 .1 .1 .0) r)))) (id⊢ 𝓤 _) $ pick ! (λ ws.
         split ! $ move ! (1 ∷ []) $ heard ! (FeaturesPut (p .place) (Left p) (z .t) (ws .1 .1 .1 .0) (flat (rw .now)) (flat (ws .1 .1 .1 .1 .1 .0)) (ql .now) (ws .1 .1 .1 .1 .1 .1 .0) r) (λ e′.
         -- the last lists, one by one, and that each is as long as before
         fsplit ! $ drop ! $ fsplit ! $ drop ! $ fsplit ! $ drop ! $ fsplit ! $ fsplit ! $ move ! (1 ∷ []) $ feqL ! (λ y₁. move ! (1 ∷ []) $ fsplit ! $ drop ! $ fsplit ! $ fsplit ! $ move ! (1 ∷ []) $ feqL ! (λ y₄. move ! (1 ∷ []) $ fsplit ! $ fsplit ! $ move ! (1 ∷ []) $ feqL ! (λ y₅.
         move ! (4 ∷ []) $ split ! $ move ! (1 ∷ []) $ peeks ! usize (Is usize) (shows 𝓤 H A usize) r (u ∷ []) (λ is.
-        -- [res; Four; q; lasts; f; t; bytes; l; c; r; Others; _26; d26; _25; …]
-        land ! (from ! (stop !)) (init ! 23 refl (uint-lawful 𝓤 H A W w64 .typed r _ is .0)) $
+        -- [res; Four; q; lasts; f; t; bytes; l; c; r; Others; _25; d25; _24; …]
+        land ! (from ! (stop !)) (store ! 29 refl (uint-lawful 𝓤 H A W w64 .typed r _ is .0)) $
         drop ! $ move ! (2 ∷ []) $ drop ! $ move ! (0 ∷ 3 ∷ 2 ∷ 1 ∷ 8 ∷ 4 ∷ 5 ∷ 6 ∷ 7 ∷ []) $
         leaves p z (record { t = ws .1 .1 .1 .0; f = ws .1 .1 .1 .1 .1 .0; q = ws .1 .1 .1 .1 .1 .1 .0; lt₁ = y₁ ∙ z .lt₁; lt₄ = y₄; lt₅ = y₅ }) u (fields .0)
         (e .answers (ws .1 .1 .1 .0) (flat (rw .now)) (flat (ws .1 .1 .1 .1 .1 .0)) (ql .now) (ws .1 .1 .1 .1 .1 .1 .0) r (flat-length (rw .now)) refl e′)))))))))
 
     -- the other rooms are lent to `prepare`, and texts for the lifetime ν, after which they come back
-    plans : (ν : ℕ) (δ : GName) → Sq W (Lent ν ∷ ‵ Bytes ∷ ‵ (LentTexts ν δ) ∷ ‵ References ∷ ‵ Comments ∷ ‵ Letters ∷ ‵ (KeptTexts ν δ) ∷ ‵ (flft κ₄ q₄) ∷ ‵ (flft κ₅ q₅) ∷ ‵ Bytes ∷ ‵ Rows ∷ ‵ Qualifiers ∷ Room₄ (Held₃ (Held₂ (Held₁ (Room₀ []))))) (runs C Λ E body.t-11 (atRet E Post))
+    plans : (ν : ℕ) (δ : GName) → Sq W (Lent ν ∷ ‵ Bytes ∷ ‵ (LentTexts ν δ) ∷ ‵ References ∷ ‵ Comments ∷ ‵ Letters ∷ ‵ (KeptTexts ν δ) ∷ ‵ (flft κ₄ q₄) ∷ ‵ (flft κ₅ q₅) ∷ ‵ Bytes ∷ ‵ Rows ∷ ‵ Qualifiers ∷ Room₄ (Held₃ (Held₂ (vint w64 (length (rw .now))) (Held₁ (Room₀ []))))) (runs C Λ E body.t-11 (atRet E Post))
     plans ν δ =
         group ! 6 $ use1 W (raw (Plan 𝓤 H A mem run .pre (to-plan ν δ))) (goes-plan ν δ) $
-        -- [pre; Kept; κ₄; κ₅; bytes; Rows; Quals; _26; …]
-        calls-at ! fm (Plan 𝓤 H A mem run) known-plan (to-plan ν δ) (and-then ! (load ! (from ! (stop !)) (look ! 57 refl)) (and-then ! (load ! (from ! (stop !)) (look ! 55 refl)) (and-then ! (load ! (from ! (stop !)) (look ! 37 refl)) (and-then ! (load ! (from ! (stop !)) (look ! 33 refl)) (and-then ! (load ! (from ! (stop !)) (look ! 29 refl)) (and-then ! (load ! (from ! (stop !)) (look ! 27 refl)) (and-then ! (load ! (from ! (stop !)) (look ! 25 refl)) (and-then ! (load ! (from ! (stop !)) (look ! 21 refl)) (no-more !))))))))) (λ u.
+        -- [pre; Kept; κ₄; κ₅; bytes; Rows; Quals; _25; …]
+        calls-at ! fm (Plan 𝓤 H A mem run) known-plan (to-plan ν δ) (and-then ! (load ! (from ! (stop !)) (look ! 55 refl)) (and-then ! (load ! (from ! (stop !)) (look ! 53 refl)) (and-then ! (load ! (from ! (stop !)) (look ! 35 refl)) (and-then ! (load ! (from ! (stop !)) (look ! 31 refl)) (and-then ! (load ! (from ! (stop !)) (look ! 27 refl)) (and-then ! (load ! (from ! (stop !)) (look ! 25 refl)) (and-then ! (load ! (from ! (stop !)) (look ! 23 refl)) (and-then ! (load ! (from ! (stop !)) (look ! 19 refl)) (no-more !))))))))) (λ u.
         use1 W (later (some (λ (p : Prepared). (Lent ν ⊛ ‵ (P.the-row .own p (u ∷ []))) ⊛ raw (ensured 𝓤 H A plan.ended (plan.clauses 𝓤 H A mem run) (plan-lfts ν) (plan-args δ) tt p)))) (id⊢ 𝓤 _) $ await ! tt $ pick ! (λ p.
         split ! $ move ! (1 ∷ []) $ use1 W (some (λ (ws : Unit {0} × (Unit {0} × (List ℕ × (List ℕ × (List ℕ × (Unit {0} × (Unit {0} × (List ℕ × Unit {0})))))))). ‵ (lasts plan.ended (plan-lfts ν) (plan-args δ) ws)
         ⊛ raw (fact 𝓤 (Prepares (s .now) n (tx .now) (ws .1 .1 .0) (rf .now) (ws .1 .1 .1 .0) (cm .now) (ws .1 .1 .1 .1 .0) (length (rw .now)) (length (ql .now)) (lt .now) (ws .1 .1 .1 .1 .1 .1 .1 .0) p)))) (id⊢ 𝓤 _) $ pick ! (λ ws.
@@ -421,7 +425,7 @@ module _ {M : Type 1} (𝓤 : URA M) (H : Heap 𝓤) (A : Atoms 𝓤) (W : Given
         fsplit ! $ drop ! $ fsplit ! $ drop ! $ fsplit ! $ fsplit ! $ move ! (1 ∷ []) $ feqL ! (λ x₁. move ! (1 ∷ []) $ fsplit ! $ fsplit ! $ move ! (1 ∷ []) $ feqL ! (λ x₂. move ! (1 ∷ []) $ fsplit ! $ fsplit ! $ move ! (1 ∷ []) $ feqL ! (λ x₃. move ! (1 ∷ []) $ fsplit ! $ drop ! $ fsplit ! $ drop ! $ fsplit ! $ fsplit ! $ move ! (1 ∷ []) $ feqL ! (λ x₆.
         move ! (5 ∷ []) $ split ! $ move ! (1 ∷ []) $ peeks ! P.the-row (Is P.the-row) (shows 𝓤 H A P.the-row) p (u ∷ []) (λ is. let told = LL.tells P.the-type P′.the-laws p _ is in
         -- [res; Lent; l; lasts; c; r; t; Kept; κ₄; κ₅; bytes; Rows; …]
-        land ! (from ! (stop !)) (init ! 47 refl (LL.lawful P.the-type P′.the-laws 𝓤 H A W .typed p _ is .0)) $ rewrite ! 47 (λ (y : Val). ‵ (fat fullShare P′.mir l₉ 0 y)) (ap only told) refl $
+        land ! (from ! (stop !)) (init ! 45 refl (LL.lawful P.the-type P′.the-laws 𝓤 H A W .typed p _ is .0)) $ rewrite ! 45 (λ (y : Val). ‵ (fat fullShare P′.mir l₉ 0 y)) (ap only told) refl $
         drop ! $ move ! (2 ∷ []) $ drop ! $ split ! $ move ! (1 ∷ []) $ split ! $ lft-end ! tt $ move ! (0 ∷ 7 ∷ 6 ∷ []) $
         use3 W (later (‵ (Texts (ws .1 .1 .0)) ⊛ ‵ (flft κ₁ q₁))) (comes-back u8 κ₁ (ν ∷ []) q₁ (tx .name) (tx .ptr .0) (tx .ptr .1) 𝓤 H A W (named 1) (named 1) (tx .now) (length (tx .now)) refl δ (ws .1 .1 .0) room₁ x₁) $ await ! tt $ split ! $
         move ! (4 ∷ 5 ∷ 6 ∷ 0 ∷ 1 ∷ 3 ∷ 2 ∷ 7 ∷ 8 ∷ 9 ∷ 10 ∷ 11 ∷ []) $
@@ -433,41 +437,41 @@ module _ {M : Type 1} (𝓤 : URA M) (H : Heap 𝓤) (A : Atoms 𝓤) (W : Given
         ∷ ‵ (owns (ShrSlice (named 0) κ₀ u8 ∷ usize ∷ MutSlice (named 1) κ₁ u8 ∷ MutSlice (named 2) κ₂ usize ∷ MutSlice (named 3) κ₃ usize ∷ MutSlice (named 4) κ₄ T.the-row ∷ MutSlice (named 5) κ₅ usize ∷ MutSlice (named 6) κ₆ u8 ∷ []) a at) ∷ []
 
     -- it is taken apart, and texts are lent again
-    parts : Sq W (Room₄ (Held₃ (Held₂ (Held₁ (Room₀ Had))))) (runs C Λ E body.t-11 (atRet E Post))
+    parts : Sq W (Room₄ (Held₃ (Held₂ (vint w64 (length (rw .now))) (Held₁ (Room₀ Had))))) (runs C Λ E body.t-11 (atRet E Post))
     parts =
-        move ! (55 ∷ []) $ fsplit ! $ move ! (1 ∷ []) $ fsplit ! $ drop ! $ fsplit ! $ move ! (1 ∷ []) $ fsplit ! $ move ! (1 ∷ []) $ fsplit ! $ move ! (1 ∷ []) $ fsplit ! $ move ! (1 ∷ []) $ fsplit ! $ move ! (1 ∷ []) $ fsplit ! $ move ! (1 ∷ []) $ drop ! $ move ! (6 ∷ []) $ use1 W (‵ Bytes ⊛ ‵ Bytes) (shr-slice-copy 𝓤 H A W (named 0) κ₀ u8 .twice s (v₁ ∷ [])) $ split ! $
-        move ! (62 ∷ []) $ split ! $ move ! (1 ∷ []) $ split ! $ move ! (1 ∷ []) $ split ! $ move ! (1 ∷ []) $ split ! $ move ! (1 ∷ []) $ split ! $ move ! (1 ∷ []) $ split ! $
+        move ! (53 ∷ []) $ fsplit ! $ move ! (1 ∷ []) $ fsplit ! $ drop ! $ fsplit ! $ move ! (1 ∷ []) $ fsplit ! $ move ! (1 ∷ []) $ fsplit ! $ move ! (1 ∷ []) $ fsplit ! $ move ! (1 ∷ []) $ fsplit ! $ move ! (1 ∷ []) $ fsplit ! $ move ! (1 ∷ []) $ drop ! $ move ! (6 ∷ []) $ use1 W (‵ Bytes ⊛ ‵ Bytes) (shr-slice-copy 𝓤 H A W (named 0) κ₀ u8 .twice s (v₁ ∷ [])) $ split ! $
+        move ! (60 ∷ []) $ split ! $ move ! (1 ∷ []) $ split ! $ move ! (1 ∷ []) $ split ! $ move ! (1 ∷ []) $ split ! $ move ! (1 ∷ []) $ split ! $ move ! (1 ∷ []) $ split ! $
         move ! (4 ∷ 3 ∷ 1 ∷ []) $ group ! 3 $ lft-new ! tt (λ ν. move ! (13 ∷ 4 ∷ []) $
         use2 W (later (some (λ (δ : GName). ‵ (LentTexts ν δ) ⊛ ‵ (KeptTexts ν δ)))) (lends-again u8 κ₁ (ν ∷ []) q₁ (tx .name) (tx .ptr .0) (tx .ptr .1) 𝓤 H A W (named 1) (named 1) (tx .now) (length (tx .now)) refl) $ await ! tt $ pick ! (λ δ. split ! $
         move ! (6 ∷ 2 ∷ 3 ∷ []) $ group ! 3 $ move ! (0 ∷ 5 ∷ 1 ∷ 11 ∷ 10 ∷ 7 ∷ 2 ∷ 4 ∷ 3 ∷ 6 ∷ 9 ∷ 8 ∷ []) $ plans ν δ))
 
-    third : Sq W (Room₄ (Room₃ (Held₂ (Held₁ (Room₀ Had))))) (runs C Λ E body.t-9 (atRet E Post))
+    third : Sq W (Room₄ (Room₃ (Held₂ (vint w64 (length (rw .now))) (Held₁ (Room₀ Had))))) (runs C Λ E body.t-9 (atRet E Post))
     third =
-        assigns ! (addr ! (from ! (fld ! refl (hop ! (look-in ! 36 (sub ! 0 refl (whole !))) (stop !))))) (from ! (stop !)) (init ! 16 refl (tt, tt)) $
-        assigns ! (agg ! (and-then ! (load ! (from ! (stop !)) (look ! 16 refl)) (and-then ! (load ! (from ! (fld ! refl (stop !))) (look-in ! 36 (sub ! 1 refl (whole !)))) (no-more !)))) (from ! (stop !)) (init ! 14 refl (tt, (tt, (record { fits = fits₆ }, tt)))) $ parts
+        assigns ! (addr ! (from ! (fld ! refl (hop ! (look-in ! 34 (sub ! 0 refl (whole !))) (stop !))))) (from ! (stop !)) (init ! 14 refl (tt, tt)) $
+        assigns ! (agg ! (and-then ! (load ! (from ! (stop !)) (look ! 14 refl)) (and-then ! (load ! (from ! (fld ! refl (stop !))) (look-in ! 34 (sub ! 1 refl (whole !)))) (no-more !)))) (from ! (stop !)) (init ! 12 refl (tt, (tt, (record { fits = fits₆ }, tt)))) $ parts
 
     second : Sq W (Room₄ (Room₃ (Room₂ (Held₁ (Room₀ Had))))) (runs C Λ E body.t-5 (atRet E Post))
     second =
-        assigns ! (addr ! (from ! (fld ! refl (hop ! (look-in ! 42 (sub ! 0 refl (whole !))) (stop !))))) (from ! (stop !)) (init ! 24 refl (tt, tt)) $
-        assigns ! (agg ! (and-then ! (load ! (from ! (stop !)) (look ! 24 refl)) (and-then ! (load ! (from ! (fld ! refl (stop !))) (look-in ! 42 (sub ! 1 refl (whole !)))) (no-more !)))) (from ! (stop !)) (init ! 22 refl (tt, (tt, (record { fits = fits₃ }, tt)))) $
-        assigns ! (of-opd ! (load ! (from ! (fld ! refl (stop !))) (look-in ! 40 (sub ! 1 refl (whole !))))) (from ! (stop !)) (init ! 20 refl (tt, record { fits = room .0 })) $
-        assigns ! (of-opd ! (load ! (from ! (fld ! refl (stop !))) (look-in ! 38 (sub ! 1 refl (whole !))))) (from ! (stop !)) (init ! 18 refl (tt, record { fits = fits₅ })) $ third
+        assigns ! (addr ! (from ! (fld ! refl (hop ! (look-in ! 40 (sub ! 0 refl (whole !))) (stop !))))) (from ! (stop !)) (init ! 22 refl (tt, tt)) $
+        assigns ! (agg ! (and-then ! (load ! (from ! (stop !)) (look ! 22 refl)) (and-then ! (load ! (from ! (fld ! refl (stop !))) (look-in ! 40 (sub ! 1 refl (whole !)))) (no-more !)))) (from ! (stop !)) (init ! 20 refl (tt, (tt, (record { fits = fits₃ }, tt)))) $
+        assigns ! (of-opd ! (load ! (from ! (fld ! refl (stop !))) (look-in ! 38 (sub ! 1 refl (whole !))))) (from ! (stop !)) (init ! 18 refl (tt, record { fits = room .0 })) $
+        assigns ! (of-opd ! (load ! (from ! (fld ! refl (stop !))) (look-in ! 36 (sub ! 1 refl (whole !))))) (from ! (stop !)) (init ! 16 refl (tt, record { fits = fits₅ })) $ third
 
     begins : Sq W (Room₄ (Room₃ (Room₂ (Room₁ (Room₀ Had))))) (runs C Λ E body.t-1 (atRet E Post))
     begins =
-        assigns ! (addr ! (from ! (fld ! refl (hop ! (look-in ! 46 (sub ! 0 refl (whole !))) (stop !))))) (from ! (stop !)) (init ! 32 refl (tt, tt)) $
-        assigns ! (agg ! (and-then ! (load ! (from ! (stop !)) (look ! 32 refl)) (and-then ! (load ! (from ! (fld ! refl (stop !))) (look-in ! 46 (sub ! 1 refl (whole !)))) (no-more !)))) (from ! (stop !)) (init ! 30 refl (tt, (tt, (record { fits = room₁ .0 }, tt)))) $
-        assigns ! (addr ! (from ! (fld ! refl (hop ! (look-in ! 44 (sub ! 0 refl (whole !))) (stop !))))) (from ! (stop !)) (init ! 28 refl (tt, tt)) $
-        assigns ! (agg ! (and-then ! (load ! (from ! (stop !)) (look ! 28 refl)) (and-then ! (load ! (from ! (fld ! refl (stop !))) (look-in ! 44 (sub ! 1 refl (whole !)))) (no-more !)))) (from ! (stop !)) (init ! 26 refl (tt, (tt, (record { fits = fits₂ }, tt)))) $ second
+        assigns ! (addr ! (from ! (fld ! refl (hop ! (look-in ! 44 (sub ! 0 refl (whole !))) (stop !))))) (from ! (stop !)) (init ! 30 refl (tt, tt)) $
+        assigns ! (agg ! (and-then ! (load ! (from ! (stop !)) (look ! 30 refl)) (and-then ! (load ! (from ! (fld ! refl (stop !))) (look-in ! 44 (sub ! 1 refl (whole !)))) (no-more !)))) (from ! (stop !)) (init ! 28 refl (tt, (tt, (record { fits = room₁ .0 }, tt)))) $
+        assigns ! (addr ! (from ! (fld ! refl (hop ! (look-in ! 42 (sub ! 0 refl (whole !))) (stop !))))) (from ! (stop !)) (init ! 26 refl (tt, tt)) $
+        assigns ! (agg ! (and-then ! (load ! (from ! (stop !)) (look ! 26 refl)) (and-then ! (load ! (from ! (fld ! refl (stop !))) (look-in ! 42 (sub ! 1 refl (whole !)))) (no-more !)))) (from ! (stop !)) (init ! 24 refl (tt, (tt, (record { fits = fits₂ }, tt)))) $ second
 
   walk : (C : Calls 𝓤 H) (Λ : Loops 𝓤 H) (fm : FmC 𝓤 H (W .laws) C) (known-plan : Triple 𝓤 (C #rowplan·prepare) (Plan 𝓤 H A mem run)) (known-fill : Triple 𝓤 (C #rowstore·store-rows) (Fill 𝓤 H A mem run))
       → ent 𝓤 (onEntry 𝓤 H A f.signature (κ₀, (κ₁, (κ₂, (κ₃, (κ₄, (κ₅, (κ₆, tt))))))) (q₀, (q₁, (q₂, (q₃, (q₄, (q₅, (q₆, tt))))))) a at) (WpFn 𝓤 H C Λ code.function (v₁ ∷ vint w64 n ∷ v₃ ∷ v₄ ∷ v₅ ∷ v₆ ∷ v₇ ∷ v₈ ∷ []) Post)
   walk C Λ fm known-plan known-fill =
       qed W ((‵ (flft κ₀ q₀) ⊛ ‵ (flft κ₁ q₁) ⊛ ‵ (flft κ₂ q₂) ⊛ ‵ (flft κ₃ q₃) ⊛ ‵ (flft κ₄ q₄) ⊛ ‵ (flft κ₅ q₅) ⊛ ‵ (flft κ₆ q₆) ⊛ ‵ ftrue)
       ∷ ‵ (owns (ShrSlice (named 0) κ₀ u8 ∷ usize ∷ MutSlice (named 1) κ₁ u8 ∷ MutSlice (named 2) κ₂ usize ∷ MutSlice (named 3) κ₃ usize ∷ MutSlice (named 4) κ₄ T.the-row ∷ MutSlice (named 5) κ₅ usize ∷ MutSlice (named 6) κ₆ u8 ∷ []) a at) ∷ []) ∵ enter ! C Λ code.function (v₁ ∷ vint w64 n ∷ v₃ ∷ v₄ ∷ v₅ ∷ v₆ ∷ v₇ ∷ v₈ ∷ []) _ $
-      alloc1 ! (λ l₀. alloc1 ! (λ l₁. alloc1 ! (λ l₂. alloc1 ! (λ l₃. alloc1 ! (λ l₄. alloc1 ! (λ l₅. alloc1 ! (λ l₆. alloc1 ! (λ l₇. alloc1 ! (λ l₈. alloc1 ! (λ l₉. alloc1 ! (λ l₁₀. alloc1 ! (λ l₁₁. alloc1 ! (λ l₁₂. alloc1 ! (λ l₁₃. alloc1 ! (λ l₁₄. alloc1 ! (λ l₁₅. alloc1 ! (λ l₁₆. alloc1 ! (λ l₁₇. alloc1 ! (λ l₁₈. alloc1 ! (λ l₁₉. alloc1 ! (λ l₂₀. alloc1 ! (λ l₂₁. alloc1 ! (λ l₂₂. alloc1 ! (λ l₂₃. alloc1 ! (λ l₂₄. alloc1 ! (λ l₂₅. alloc1 ! (λ l₂₆. alloc0 ! $ params1 ! $
-      pass1 ! (init ! 50 refl (tt, (tt, (record { fits = fits₀ }, tt)))) $ pass1 ! (init ! 48 refl (tt, record { fits = gn })) $ pass1 ! (init ! 46 refl (tt, (tt, (record { fits = room₁ .0 }, tt)))) $ pass1 ! (init ! 44 refl (tt, (tt, (record { fits = fits₂ }, tt)))) $ pass1 ! (init ! 42 refl (tt, (tt, (record { fits = fits₃ }, tt)))) $ pass1 ! (init ! 40 refl (tt, (tt, (record { fits = room .0 }, tt)))) $ pass1 ! (init ! 38 refl (tt, (tt, (record { fits = fits₅ }, tt)))) $ pass1 ! (init ! 36 refl (tt, (tt, (record { fits = fits₆ }, tt)))) $ pass0 ! $
-      begins C Λ fm known-plan known-fill l₀ l₁ l₂ l₃ l₄ l₅ l₆ l₇ l₈ l₉ l₁₀ l₁₁ l₁₂ l₁₃ l₁₄ l₁₅ l₁₆ l₁₇ l₁₈ l₁₉ l₂₀ l₂₁ l₂₂ l₂₃ l₂₄ l₂₅ l₂₆)))))))))))))))))))))))))))
+      alloc1 ! (λ l₀. alloc1 ! (λ l₁. alloc1 ! (λ l₂. alloc1 ! (λ l₃. alloc1 ! (λ l₄. alloc1 ! (λ l₅. alloc1 ! (λ l₆. alloc1 ! (λ l₇. alloc1 ! (λ l₈. alloc1 ! (λ l₉. alloc1 ! (λ l₁₀. alloc1 ! (λ l₁₁. alloc1 ! (λ l₁₂. alloc1 ! (λ l₁₃. alloc1 ! (λ l₁₄. alloc1 ! (λ l₁₅. alloc1 ! (λ l₁₆. alloc1 ! (λ l₁₇. alloc1 ! (λ l₁₈. alloc1 ! (λ l₁₉. alloc1 ! (λ l₂₀. alloc1 ! (λ l₂₁. alloc1 ! (λ l₂₂. alloc1 ! (λ l₂₃. alloc1 ! (λ l₂₄. alloc1 ! (λ l₂₅. alloc0 ! $ params1 ! $
+      pass1 ! (init ! 48 refl (tt, (tt, (record { fits = fits₀ }, tt)))) $ pass1 ! (init ! 46 refl (tt, record { fits = gn })) $ pass1 ! (init ! 44 refl (tt, (tt, (record { fits = room₁ .0 }, tt)))) $ pass1 ! (init ! 42 refl (tt, (tt, (record { fits = fits₂ }, tt)))) $ pass1 ! (init ! 40 refl (tt, (tt, (record { fits = fits₃ }, tt)))) $ pass1 ! (init ! 38 refl (tt, (tt, (record { fits = room .0 }, tt)))) $ pass1 ! (init ! 36 refl (tt, (tt, (record { fits = fits₅ }, tt)))) $ pass1 ! (init ! 34 refl (tt, (tt, (record { fits = fits₆ }, tt)))) $ pass0 ! $
+      begins C Λ fm known-plan known-fill l₀ l₁ l₂ l₃ l₄ l₅ l₆ l₇ l₈ l₉ l₁₀ l₁₁ l₁₂ l₁₃ l₁₄ l₁₅ l₁₆ l₁₇ l₁₈ l₁₉ l₂₀ l₂₁ l₂₂ l₂₃ l₂₄ l₂₅))))))))))))))))))))))))))
 
 module _ {M : Type 1} (𝓤 : URA M) (H : Heap 𝓤) (A : Atoms 𝓤) (W : Given 𝓤 H A) (mem : Memory → SProp 𝓤) (run : Routine → Fun 𝓤) (𝓣 : Tables 𝓤 H) (known-plan : Triple 𝓤 (𝓣 .C #rowplan·prepare) (Plan 𝓤 H A mem run)) (known-fill : Triple 𝓤 (𝓣 .C #rowstore·store-rows) (Fill 𝓤 H A mem run)) where
   read-rows-walks : Walks 𝓤 H A f.ended stayed (WpFn 𝓤 H (𝓣 .C) (𝓣 .Λ) code.function) (f.clauses 𝓤 H A mem run)
