@@ -21,12 +21,7 @@ pub struct Made {
 }
 
 // The feature that starts where reading goes on: its texts and its qualifiers' rows are put, and its own row is made.
-pub fn put_row(
-    s: &[u8],
-    texts: &mut [u8],
-    qualifiers: &mut [usize],
-    reached: Reached,
-) -> Made
+pub fn put_row(s: &[u8], texts: &mut [u8], qualifiers: &mut [usize], reached: Reached) -> Made
     requires { ⌜ Ahead (now s) reached ⌝ }
     ensures { λ r. ⌜ RowMade (now (s .entry)) reached (feature (drop (reached .at) (now (s .entry)))) (now (texts .entry)) (now (texts .exit)) (now (qualifiers .entry)) (now (qualifiers .exit)) r ⌝ }
 {

@@ -15,15 +15,15 @@ use Rattle.rowplan.specs.declared.Prepared.{Prepared}
 
 -- of a slice that ends at `end`
 abbrev pub noRows : ℕ → ReadAnswer → Prepared
-noRows end a = record { answer = a; at = end; place = 0; count = 0 }
+noRows end a = record { at = end; place = 0; count = 0; answer = a }
 
 abbrev pub allRows : Plan → ℕ → Prepared
 allRows p place =
     record {
-      answer = answer.Done (headPlan p) (p .rest .place);
       at = p .rest .«features_at»;
       place = place;
       count = p .rest .features .count;
+      answer = answer.Done (headPlan p) (p .rest .place);
     }
 
 -- of a record that a plan stands for: whatever rooms, of so many rows and numbers of qualifiers, have the features put

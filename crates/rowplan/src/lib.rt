@@ -10,12 +10,12 @@ ghost use Rattle.fill.specs.Fills.{Ready};
 ghost use Rattle.sizing.specs.Sizing.{contigPlace};
 ghost use Rattle.rowplan.specs.Prepares.{noRows, allRows, Planned, Prepares};
 
-// The answer, and the features that are still to be put for it: `count` of them, which are read from `at` on, and their texts put from `place` on.
+// The features that are still to be put, and the answer that holds with them: `count` of them, which are read from `at` on, and their texts put from `place` on.
 pub struct Prepared {
-    pub answer: ReadAnswer,
     pub at: usize,
     pub place: usize,
     pub count: usize,
+    pub answer: ReadAnswer,
 }
 
 // No feature is put for an answer that changes nothing: none stands at the slice's end.
@@ -23,10 +23,10 @@ fn no_rows(s: &[u8], answer: ReadAnswer) -> Prepared
     ensures { λ r. ⌜ r ≡ noRows (length (now (s .entry))) answer ⌝ }
 {
     Prepared {
-        answer: answer,
         at: s.len(),
         place: 0,
         count: 0,
+        answer: answer,
     }
 }
 
@@ -42,10 +42,10 @@ fn all_rows(plan: Plan, place: usize) -> Prepared
         place: rest.place,
     };
     Prepared {
-        answer: answer,
         at: rest.features_at,
         place: place,
         count: counts.count,
+        answer: answer,
     }
 }
 

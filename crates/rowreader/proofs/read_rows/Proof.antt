@@ -382,8 +382,8 @@ module _ {M : Type 1} (𝓤 : URA M) (H : Heap 𝓤) (A : Atoms 𝓤) (W : Given
     leaves : (p : Prepared) (z : Lasts) (y : Stored) (u : Val) → Is Y.the-row (p .answer) (said (p .answer) ∷ []) → Leaves z y (p .answer)
         → Sq W (Ended z y (Held₄ (Held₃ (Held₂ u (Held₁ (Held₀ p [])))))) (runs C Λ E body.t-19 (atRet E Post))
     leaves p z y u is e =
-        assigns ! (of-opd ! (load ! (from ! (fld ! refl (stop !))) (look-in ! 41 (sub ! 0 refl (whole !))))) (from ! (stop !)) (init ! 59 refl (EL.lawful Y.the-type Y′.the-laws 𝓤 H A W tt .typed (p .answer) _ is .0)) $
-        returns ! (look ! 59 refl) $ forget ! 9 refl $ forget ! 11 refl $ forget ! 13 refl $ forget ! 15 refl $ forget ! 17 refl $ forget ! 19 refl $ forget ! 21 refl $ forget ! 23 refl $ forget ! 25 refl $ forget ! 27 refl $ forget ! 29 refl $ forget ! 31 refl $ forget ! 33 refl $ forget ! 35 refl $ forget ! 37 refl $ forget ! 39 refl $ forget ! 41 refl $ forget ! 43 refl $ forget ! 45 refl $ forget ! 47 refl $ forget ! 49 refl $ forget ! 51 refl $ forget ! 53 refl $ forget ! 55 refl $ forget ! 57 refl $ forget ! 59 refl $ 
+        assigns ! (of-opd ! (load ! (from ! (fld ! refl (stop !))) (look-in ! 41 (sub ! 3 refl (whole !))))) (from ! (stop !)) (init ! 59 refl (EL.lawful Y.the-type Y′.the-laws 𝓤 H A W tt .typed (p .answer) _ is .0)) $
+        returns ! (look ! 59 refl) $ forget ! 9 refl $ forget ! 11 refl $ forget ! 13 refl $ forget ! 15 refl $ forget ! 17 refl $ forget ! 19 refl $ forget ! 21 refl $ forget ! 23 refl $ forget ! 25 refl $ forget ! 27 refl $ forget ! 29 refl $ forget ! 31 refl $ forget ! 33 refl $ forget ! 35 refl $ forget ! 37 refl $ forget ! 39 refl $ forget ! 41 refl $ forget ! 43 refl $ forget ! 45 refl $ forget ! 47 refl $ forget ! 49 refl $ forget ! 51 refl $ forget ! 53 refl $ forget ! 55 refl $ forget ! 57 refl $ forget ! 59 refl $
         move ! (59 ∷ 60 ∷ []) $ free1 ! $ move ! (57 ∷ 58 ∷ []) $ free1 ! $ move ! (55 ∷ 56 ∷ []) $ free1 ! $ move ! (53 ∷ 54 ∷ []) $ free1 ! $ move ! (51 ∷ 52 ∷ []) $ free1 ! $ move ! (49 ∷ 50 ∷ []) $ free1 ! $ move ! (47 ∷ 48 ∷ []) $ free1 ! $ move ! (45 ∷ 46 ∷ []) $ free1 ! $ move ! (43 ∷ 44 ∷ []) $ free1 ! $ move ! (41 ∷ 42 ∷ []) $ free1 ! $ move ! (39 ∷ 40 ∷ []) $ free1 ! $ move ! (37 ∷ 38 ∷ []) $ free1 ! $ move ! (35 ∷ 36 ∷ []) $ free1 ! $ move ! (33 ∷ 34 ∷ []) $ free1 ! $ move ! (31 ∷ 32 ∷ []) $ free1 ! $ move ! (29 ∷ 30 ∷ []) $ free1 ! $ move ! (27 ∷ 28 ∷ []) $ free1 ! $ move ! (25 ∷ 26 ∷ []) $ free1 ! $ move ! (23 ∷ 24 ∷ []) $ free1 ! $ move ! (21 ∷ 22 ∷ []) $ free1 ! $ move ! (19 ∷ 20 ∷ []) $ free1 ! $ move ! (17 ∷ 18 ∷ []) $ free1 ! $ move ! (15 ∷ 16 ∷ []) $ free1 ! $ move ! (13 ∷ 14 ∷ []) $ free1 ! $ move ! (11 ∷ 12 ∷ []) $ free1 ! $ move ! (9 ∷ 10 ∷ []) $ free1 ! $ free0 ! $ by ! (exits (p .answer) z y is e)
 
     -- what is prepared is known: texts, rows and qualifiers are lent, and the features put
@@ -396,9 +396,9 @@ module _ {M : Type 1} (𝓤 : URA M) (H : Heap 𝓤) (A : Atoms 𝓤) (W : Given
         assigns ! (agg ! (and-then ! (load ! (from ! (stop !)) (look ! 18 refl)) (and-then ! (load ! (from ! (fld ! refl (stop !))) (look-in ! 50 (sub ! 1 refl (whole !)))) (no-more !)))) (from ! (stop !)) (init ! 16 refl (tt, (tt, (record { fits = room .0 }, tt)))) $
         assigns ! (addr ! (from ! (fld ! refl (hop ! (look-in ! 48 (sub ! 0 refl (whole !))) (stop !))))) (from ! (stop !)) (init ! 14 refl (tt, tt)) $
         assigns ! (agg ! (and-then ! (load ! (from ! (stop !)) (look ! 14 refl)) (and-then ! (load ! (from ! (fld ! refl (stop !))) (look-in ! 48 (sub ! 1 refl (whole !)))) (no-more !)))) (from ! (stop !)) (init ! 12 refl (tt, (tt, (record { fits = fits₅ }, tt)))) $
-        move ! (9 ∷ []) $ use1 W (‵ Bytes ⊛ ‵ Bytes) (shr-slice-copy 𝓤 H A W (named 0) κ₀ u8 .twice s (v₁ ∷ [])) $ split ! $ nothing ! $ move ! (8 ∷ 7 ∷ 10 ∷ 11 ∷ 0 ∷ []) $ group ! 5 $ move ! (0 ∷ 1 ∷ 6 ∷ 8 ∷ 9 ∷ []) $ group ! 5 $ use1 W (raw (Fill 𝓤 H A mem run .pre (to-fill (z .t) p))) (goes-fill (z .t) p (fields .1 .0 .1) (fields .1 .1 .0 .1) (fields .1 .1 .1 .0 .1) (e .fits)) $
+        move ! (9 ∷ []) $ use1 W (‵ Bytes ⊛ ‵ Bytes) (shr-slice-copy 𝓤 H A W (named 0) κ₀ u8 .twice s (v₁ ∷ [])) $ split ! $ nothing ! $ move ! (8 ∷ 7 ∷ 10 ∷ 11 ∷ 0 ∷ []) $ group ! 5 $ move ! (0 ∷ 1 ∷ 6 ∷ 8 ∷ 9 ∷ []) $ group ! 5 $ use1 W (raw (Fill 𝓤 H A mem run .pre (to-fill (z .t) p))) (goes-fill (z .t) p (fields .0 .1) (fields .1 .0 .1) (fields .1 .1 .0 .1) (e .fits)) $
         -- [pre; bytes; l; c; r; Others; _25; d25; …]
-        calls-at ! fm (Fill 𝓤 H A mem run) known-fill (to-fill (z .t) p) (and-then ! (load ! (from ! (stop !)) (look ! 54 refl)) (and-then ! (load ! (from ! (fld ! refl (stop !))) (look-in ! 38 (sub ! 1 refl (whole !)))) (and-then ! (load ! (from ! (fld ! refl (stop !))) (look-in ! 38 (sub ! 3 refl (whole !)))) (and-then ! (load ! (from ! (stop !)) (look ! 14 refl)) (and-then ! (load ! (from ! (fld ! refl (stop !))) (look-in ! 38 (sub ! 2 refl (whole !)))) (and-then ! (load ! (from ! (stop !)) (look ! 10 refl)) (and-then ! (load ! (from ! (stop !)) (look ! 6 refl)) (no-more !)))))))) (λ u.
+        calls-at ! fm (Fill 𝓤 H A mem run) known-fill (to-fill (z .t) p) (and-then ! (load ! (from ! (stop !)) (look ! 54 refl)) (and-then ! (load ! (from ! (fld ! refl (stop !))) (look-in ! 38 (sub ! 0 refl (whole !)))) (and-then ! (load ! (from ! (fld ! refl (stop !))) (look-in ! 38 (sub ! 2 refl (whole !)))) (and-then ! (load ! (from ! (stop !)) (look ! 14 refl)) (and-then ! (load ! (from ! (fld ! refl (stop !))) (look-in ! 38 (sub ! 1 refl (whole !)))) (and-then ! (load ! (from ! (stop !)) (look ! 10 refl)) (and-then ! (load ! (from ! (stop !)) (look ! 6 refl)) (no-more !)))))))) (λ u.
         use1 W (later (some (λ (r : ℕ). (Four ⊛ ‵ (usize .own r (u ∷ []))) ⊛ raw (ensured 𝓤 H A fill.ended (fill.clauses 𝓤 H A mem run) fill-lfts (fill-args (z .t) p) tt r)))) (id⊢ 𝓤 _) $ await ! tt $ pick ! (λ r.
         split ! $ move ! (1 ∷ []) $ use1 W (some (λ (ws : Unit {0} × (Unit {0} × (Unit {0} × (List ℕ × (Unit {0} × (List Feature × (List ℕ × Unit {0}))))))). ‵ (lasts fill.ended fill-lfts (fill-args (z .t) p) ws) ⊛ raw (fact 𝓤 (FeaturesPut (p .place) (Left p) (z .t) (ws .1 .1 .1 .0) (flat (rw .now)) (flat (ws .1 .1 .1 .1 .1 .0)) (ql .now) (ws .1 .1 .1 .1 .1 .1 .0) r)))) (id⊢ 𝓤 _) $ pick ! (λ ws.
         split ! $ move ! (1 ∷ []) $ heard ! (FeaturesPut (p .place) (Left p) (z .t) (ws .1 .1 .1 .0) (flat (rw .now)) (flat (ws .1 .1 .1 .1 .1 .0)) (ql .now) (ws .1 .1 .1 .1 .1 .1 .0) r) (λ e′.
@@ -408,7 +408,7 @@ module _ {M : Type 1} (𝓤 : URA M) (H : Heap 𝓤) (A : Atoms 𝓤) (W : Given
         -- [res; Four; q; lasts; f; t; bytes; l; c; r; Others; _25; d25; _24; …]
         land ! (from ! (stop !)) (store ! 29 refl (uint-lawful 𝓤 H A W w64 .typed r _ is .0)) $
         drop ! $ move ! (2 ∷ []) $ drop ! $ move ! (0 ∷ 3 ∷ 2 ∷ 1 ∷ 8 ∷ 4 ∷ 5 ∷ 6 ∷ 7 ∷ []) $
-        leaves p z (record { t = ws .1 .1 .1 .0; f = ws .1 .1 .1 .1 .1 .0; q = ws .1 .1 .1 .1 .1 .1 .0; lt₁ = y₁ ∙ z .lt₁; lt₄ = y₄; lt₅ = y₅ }) u (fields .0)
+        leaves p z (record { t = ws .1 .1 .1 .0; f = ws .1 .1 .1 .1 .1 .0; q = ws .1 .1 .1 .1 .1 .1 .0; lt₁ = y₁ ∙ z .lt₁; lt₄ = y₄; lt₅ = y₅ }) u (fields .1 .1 .1 .0)
         (e .answers (ws .1 .1 .1 .0) (flat (rw .now)) (flat (ws .1 .1 .1 .1 .1 .0)) (ql .now) (ws .1 .1 .1 .1 .1 .1 .0) r (flat-length (rw .now)) refl e′)))))))))
 
     -- the other rooms are lent to `prepare`, and texts for the lifetime ν, after which they come back
