@@ -397,7 +397,7 @@ module _ {M : Type 1} (𝓤 : URA M) (H : Heap 𝓤) (A : Atoms 𝓤) (W : Given
         assigns ! (addr ! (from ! (fld ! refl (hop ! (look-in ! 48 (sub ! 0 refl (whole !))) (stop !))))) (from ! (stop !)) (init ! 14 refl (tt, tt)) $
         assigns ! (agg ! (and-then ! (load ! (from ! (stop !)) (look ! 14 refl)) (and-then ! (load ! (from ! (fld ! refl (stop !))) (look-in ! 48 (sub ! 1 refl (whole !)))) (no-more !)))) (from ! (stop !)) (init ! 12 refl (tt, (tt, (record { fits = fits₅ }, tt)))) $
         move ! (9 ∷ []) $ use1 W (‵ Bytes ⊛ ‵ Bytes) (shr-slice-copy 𝓤 H A W (named 0) κ₀ u8 .twice s (v₁ ∷ [])) $ split ! $ nothing ! $ move ! (8 ∷ 7 ∷ 10 ∷ 11 ∷ 0 ∷ []) $ group ! 5 $ move ! (0 ∷ 1 ∷ 6 ∷ 8 ∷ 9 ∷ []) $ group ! 5 $ use1 W (raw (Fill 𝓤 H A mem run .pre (to-fill (z .t) p))) (goes-fill (z .t) p (fields .0 .1) (fields .1 .0 .1) (fields .1 .1 .0 .1) (e .fits)) $
-        -- [pre; bytes; l; c; r; Others; _25; d25; …]
+        -- [pre; bytes; the letters' last list; the comments'; the references'; the others' tokens; _25 at 6; …; _16 at 24; …; _9 at 38; …; _1 at 54; _0 at 56]
         calls-at ! fm (Fill 𝓤 H A mem run) known-fill (to-fill (z .t) p) (and-then ! (load ! (from ! (stop !)) (look ! 54 refl)) (and-then ! (load ! (from ! (fld ! refl (stop !))) (look-in ! 38 (sub ! 0 refl (whole !)))) (and-then ! (load ! (from ! (fld ! refl (stop !))) (look-in ! 38 (sub ! 2 refl (whole !)))) (and-then ! (load ! (from ! (stop !)) (look ! 14 refl)) (and-then ! (load ! (from ! (fld ! refl (stop !))) (look-in ! 38 (sub ! 1 refl (whole !)))) (and-then ! (load ! (from ! (stop !)) (look ! 10 refl)) (and-then ! (load ! (from ! (stop !)) (look ! 6 refl)) (no-more !)))))))) (λ u.
         use1 W (later (some (λ (r : ℕ). (Four ⊛ ‵ (usize .own r (u ∷ []))) ⊛ raw (ensured 𝓤 H A fill.ended (fill.clauses 𝓤 H A mem run) fill-lfts (fill-args (z .t) p) tt r)))) (id⊢ 𝓤 _) $ await ! tt $ pick ! (λ r.
         split ! $ move ! (1 ∷ []) $ use1 W (some (λ (ws : Unit {0} × (Unit {0} × (Unit {0} × (List ℕ × (Unit {0} × (List Feature × (List ℕ × Unit {0}))))))). ‵ (lasts fill.ended fill-lfts (fill-args (z .t) p) ws) ⊛ raw (fact 𝓤 (FeaturesPut (p .place) (Left p) (z .t) (ws .1 .1 .1 .0) (flat (rw .now)) (flat (ws .1 .1 .1 .1 .1 .0)) (ql .now) (ws .1 .1 .1 .1 .1 .1 .0) r)))) (id⊢ 𝓤 _) $ pick ! (λ ws.
@@ -405,7 +405,7 @@ module _ {M : Type 1} (𝓤 : URA M) (H : Heap 𝓤) (A : Atoms 𝓤) (W : Given
         -- the last lists, one by one, and that each is as long as before
         fsplit ! $ drop ! $ fsplit ! $ drop ! $ fsplit ! $ drop ! $ fsplit ! $ fsplit ! $ move ! (1 ∷ []) $ feqL ! (λ y₁. move ! (1 ∷ []) $ fsplit ! $ drop ! $ fsplit ! $ fsplit ! $ move ! (1 ∷ []) $ feqL ! (λ y₄. move ! (1 ∷ []) $ fsplit ! $ fsplit ! $ move ! (1 ∷ []) $ feqL ! (λ y₅.
         move ! (4 ∷ []) $ split ! $ move ! (1 ∷ []) $ peeks ! usize (Is usize) (shows 𝓤 H A usize) r (u ∷ []) (λ is.
-        -- [res; Four; q; lasts; f; t; bytes; l; c; r; Others; _25; d25; _24; …]
+        -- [the result; the four tokens; the qualifiers' last list; true; the rows'; the texts'; bytes; the letters'; the comments'; the references'; the others' tokens; _25 at 11; …; _16 at 29; …]
         land ! (from ! (stop !)) (store ! 29 refl (uint-lawful 𝓤 H A W w64 .typed r _ is .0)) $
         drop ! $ move ! (2 ∷ []) $ drop ! $ move ! (0 ∷ 3 ∷ 2 ∷ 1 ∷ 8 ∷ 4 ∷ 5 ∷ 6 ∷ 7 ∷ []) $
         leaves p z (record { t = ws .1 .1 .1 .0; f = ws .1 .1 .1 .1 .1 .0; q = ws .1 .1 .1 .1 .1 .1 .0; lt₁ = y₁ ∙ z .lt₁; lt₄ = y₄; lt₅ = y₅ }) u (fields .1 .1 .1 .0)
@@ -415,7 +415,7 @@ module _ {M : Type 1} (𝓤 : URA M) (H : Heap 𝓤) (A : Atoms 𝓤) (W : Given
     plans : (ν : ℕ) (δ : GName) → Sq W (Lent ν ∷ ‵ Bytes ∷ ‵ (LentTexts ν δ) ∷ ‵ References ∷ ‵ Comments ∷ ‵ Letters ∷ ‵ (KeptTexts ν δ) ∷ ‵ (flft κ₄ q₄) ∷ ‵ (flft κ₅ q₅) ∷ ‵ Bytes ∷ ‵ Rows ∷ ‵ Qualifiers ∷ Room₄ (Held₃ (Held₂ (vint w64 (length (rw .now))) (Held₁ (Room₀ []))))) (runs C Λ E body.t-11 (atRet E Post))
     plans ν δ =
         group ! 6 $ use1 W (raw (Plan 𝓤 H A mem run .pre (to-plan ν δ))) (goes-plan ν δ) $
-        -- [pre; Kept; κ₄; κ₅; bytes; Rows; Quals; _25; …]
+        -- [pre; what is kept of texts; κ₄'s token; κ₅'s; bytes; rows; qualifiers; _25 at 7; …; _9 at 39; …; _1 at 55; _0 at 57]
         calls-at ! fm (Plan 𝓤 H A mem run) known-plan (to-plan ν δ) (and-then ! (load ! (from ! (stop !)) (look ! 55 refl)) (and-then ! (load ! (from ! (stop !)) (look ! 53 refl)) (and-then ! (load ! (from ! (stop !)) (look ! 35 refl)) (and-then ! (load ! (from ! (stop !)) (look ! 31 refl)) (and-then ! (load ! (from ! (stop !)) (look ! 27 refl)) (and-then ! (load ! (from ! (stop !)) (look ! 25 refl)) (and-then ! (load ! (from ! (stop !)) (look ! 23 refl)) (and-then ! (load ! (from ! (stop !)) (look ! 19 refl)) (no-more !))))))))) (λ u.
         use1 W (later (some (λ (p : Prepared). (Lent ν ⊛ ‵ (P.the-row .own p (u ∷ []))) ⊛ raw (ensured 𝓤 H A plan.ended (plan.clauses 𝓤 H A mem run) (plan-lfts ν) (plan-args δ) tt p)))) (id⊢ 𝓤 _) $ await ! tt $ pick ! (λ p.
         split ! $ move ! (1 ∷ []) $ use1 W (some (λ (ws : Unit {0} × (Unit {0} × (List ℕ × (List ℕ × (List ℕ × (Unit {0} × (Unit {0} × (List ℕ × Unit {0})))))))). ‵ (lasts plan.ended (plan-lfts ν) (plan-args δ) ws)
@@ -424,11 +424,13 @@ module _ {M : Type 1} (𝓤 : URA M) (H : Heap 𝓤) (A : Atoms 𝓤) (W : Given
         -- the last lists, one by one, and that each is as long as before
         fsplit ! $ drop ! $ fsplit ! $ drop ! $ fsplit ! $ fsplit ! $ move ! (1 ∷ []) $ feqL ! (λ x₁. move ! (1 ∷ []) $ fsplit ! $ fsplit ! $ move ! (1 ∷ []) $ feqL ! (λ x₂. move ! (1 ∷ []) $ fsplit ! $ fsplit ! $ move ! (1 ∷ []) $ feqL ! (λ x₃. move ! (1 ∷ []) $ fsplit ! $ drop ! $ fsplit ! $ drop ! $ fsplit ! $ fsplit ! $ move ! (1 ∷ []) $ feqL ! (λ x₆.
         move ! (5 ∷ []) $ split ! $ move ! (1 ∷ []) $ peeks ! P.the-row (Is P.the-row) (shows 𝓤 H A P.the-row) p (u ∷ []) (λ is. let told = LL.tells P.the-type P′.the-laws p _ is in
-        -- [res; Lent; l; lasts; c; r; t; Kept; κ₄; κ₅; bytes; Rows; …]
+        -- [what is prepared; the tokens; the letters' last list; true; the comments'; the references'; the texts'; what is kept of texts; κ₄'s token; κ₅'s; bytes; rows; qualifiers; _25 at 13; …; _9 at 45; …]
         land ! (from ! (stop !)) (init ! 45 refl (LL.lawful P.the-type P′.the-laws 𝓤 H A W .typed p _ is .0)) $ rewrite ! 45 (λ (y : Val). ‵ (fat fullShare P′.mir l₉ 0 y)) (ap only told) refl $
+        -- the lifetime is ended, and texts come back at their list
         drop ! $ move ! (2 ∷ []) $ drop ! $ split ! $ move ! (1 ∷ []) $ split ! $ lft-end ! tt $ move ! (0 ∷ 7 ∷ 6 ∷ []) $
         use3 W (later (‵ (Texts (ws .1 .1 .0)) ⊛ ‵ (flft κ₁ q₁))) (comes-back u8 κ₁ (ν ∷ []) q₁ (tx .name) (tx .ptr .0) (tx .ptr .1) 𝓤 H A W (named 1) (named 1) (tx .now) (length (tx .now)) refl δ (ws .1 .1 .0) room₁ x₁) $ await ! tt $ split ! $
-        move ! (4 ∷ 5 ∷ 6 ∷ 0 ∷ 1 ∷ 3 ∷ 2 ∷ 7 ∷ 8 ∷ 9 ∷ 10 ∷ 11 ∷ []) $
+        -- [texts; κ₁'s token; the others' tokens; κ₀'s; the letters' last list; the comments'; the references'; κ₄'s token; κ₅'s; bytes; rows; qualifiers; _25 at 12; …]
+        move ! (4 ∷ 5 ∷ 6 ∷ 0 ∷ 1 ∷ 3 ∷ 2 ∷ []) $
         fills p (record { t = ws .1 .1 .0; r = ws .1 .1 .1 .0; c = ws .1 .1 .1 .1 .0; l = ws .1 .1 .1 .1 .1 .1 .1 .0; lt₁ = x₁; lt₂ = x₂; lt₃ = x₃; lt₆ = x₆ }) e (subst (λ (vs : List Val). Is P.the-row p vs) told is))))))))))
 
     -- what is had at entry
@@ -440,9 +442,12 @@ module _ {M : Type 1} (𝓤 : URA M) (H : Heap 𝓤) (A : Atoms 𝓤) (W : Given
     parts : Sq W (Room₄ (Held₃ (Held₂ (vint w64 (length (rw .now))) (Held₁ (Room₀ Had))))) (runs C Λ E body.t-11 (atRet E Post))
     parts =
         move ! (53 ∷ []) $ fsplit ! $ move ! (1 ∷ []) $ fsplit ! $ drop ! $ fsplit ! $ move ! (1 ∷ []) $ fsplit ! $ move ! (1 ∷ []) $ fsplit ! $ move ! (1 ∷ []) $ fsplit ! $ move ! (1 ∷ []) $ fsplit ! $ move ! (1 ∷ []) $ fsplit ! $ move ! (1 ∷ []) $ drop ! $ move ! (6 ∷ []) $ use1 W (‵ Bytes ⊛ ‵ Bytes) (shr-slice-copy 𝓤 H A W (named 0) κ₀ u8 .twice s (v₁ ∷ [])) $ split ! $
+        -- [bytes; bytes; letters; qualifiers; rows; comments; references; texts; _25 at 8; …; the tokens at 60]
         move ! (60 ∷ []) $ split ! $ move ! (1 ∷ []) $ split ! $ move ! (1 ∷ []) $ split ! $ move ! (1 ∷ []) $ split ! $ move ! (1 ∷ []) $ split ! $ move ! (1 ∷ []) $ split ! $
+        -- [κ₅'s token; κ₆'s; κ₄'s; κ₃'s; κ₂'s; κ₁'s; κ₀'s; bytes; bytes; letters; qualifiers; rows; comments; references; texts; …]
         move ! (4 ∷ 3 ∷ 1 ∷ []) $ group ! 3 $ lft-new ! tt (λ ν. move ! (13 ∷ 4 ∷ []) $
         use2 W (later (some (λ (δ : GName). ‵ (LentTexts ν δ) ⊛ ‵ (KeptTexts ν δ)))) (lends-again u8 κ₁ (ν ∷ []) q₁ (tx .name) (tx .ptr .0) (tx .ptr .1) 𝓤 H A W (named 1) (named 1) (tx .now) (length (tx .now)) refl) $ await ! tt $ pick ! (λ δ. split ! $
+        -- [texts lent; what is kept of them; ν's token; the others' tokens; κ₅'s; κ₄'s; κ₀'s; bytes; bytes; letters; qualifiers; rows; comments; references; …]
         move ! (6 ∷ 2 ∷ 3 ∷ []) $ group ! 3 $ move ! (0 ∷ 5 ∷ 1 ∷ 11 ∷ 10 ∷ 7 ∷ 2 ∷ 4 ∷ 3 ∷ 6 ∷ 9 ∷ 8 ∷ []) $ plans ν δ))
 
     third : Sq W (Room₄ (Room₃ (Held₂ (vint w64 (length (rw .now))) (Held₁ (Room₀ Had))))) (runs C Λ E body.t-9 (atRet E Post))
