@@ -1,16 +1,17 @@
 -- The laws of the puts: what each asks for, and that together they leave the table's layout.
-use Prim.Native.Nat.{ℕ, _+_, _≤_, _<_, _^_}
+use Prim.Native.Nat.{ℕ, suc, _+_, _≤_, _<_, _^_}
+use native.Mathlib.Nat.{add-zero, add-suc, suc-add}
 use native.Mathlib.Omega.{arith}
 use mathlib.Core.Bool.{false}
-use mathlib.Core.Path.{_≡_, sym, ap, subst, _∙_}
-use mathlib.Core.List.{List, _++_, append-assoc}
-use lib.ListN.{length, drop, length-append}
-use lib.Seq.{sets}
+use mathlib.Core.Path.{_≡_, refl, sym, ap, subst, _∙_}
+use mathlib.Core.List.{List, [], _∷_, _++_, append-assoc}
+use lib.ListN.{length, drop, set, length-append}
+use lib.Seq.{sets, set-comm}
 use Rattle.format.specs.Bytes.{is, bytes, each}
 use Rattle.format.specs.Table.{Table}
 use Rattle.format.specs.Header.{fieldText, every, textIn, referenceIn}
 use Rattle.format.specs.Record.{most}
-use Rattle.format.specs.Rooms.{perhaps, pieceText, piecesText, headPieces, referencePieces, commentPieces, textsOf, rowsOf, featureText, referencesAt, commentsAt, featuresAt, layout, sizes}
+use Rattle.format.specs.Rooms.{perhaps, pieceText, piecesText, headPieces, referencePieces, commentPieces, textsOf, rowsOf, featureText, referencesAt, commentsAt, featuresAt, contigAt, layout, sizes}
 use Rattle.rooms.specs.LayoutLengths.{Lengths, layout-lengths}
 use Rattle.pen.specs.Pen.{Wrote, Writes, writes-nil, sets-append, wrote-append}
 use Rattle.filling.specs.Filling.{wrote-as}
@@ -31,7 +32,7 @@ use Rattle.plan.specs.declared.Plan.{Plan}
 use Rattle.plan.specs.Plans.{planTable}
 use Rattle.plan.specs.Parts.{TableParts, table-parts, SmallParts, small-parts}
 use Rattle.fill.specs.Heads.{plan-head}
-use Rattle.fill.specs.Fills.{roomsIn, ContigStands, Ready, headerText, HeaderFilled, restText, FeaturesFilled, Filled}
+use Rattle.fill.specs.Fills.{roomsIn, ContigStands, Ready, headerText, HeaderFilled, AroundFilled, Filled}
 
 -- ---- CONTIG
 
@@ -55,7 +56,19 @@ module _ (s : List ℕ) (contig : MayEntry) (h : ContigStands s contig) where
 
 pub ruleset joining = (contig-absent, contig-within, contig-gets, contig-put)
 
--- ---- the store's texts, in two parts
+-- ---- the store's texts, where a gap is filled last
+
+set-before : (y l : List ℕ) (i j a : ℕ) → i < j → set (sets l j y) i a ≡ sets (set l i a) j y
+set-before [] l i j a h = refl
+set-before (b ∷ y) l i j a h =
+    set-before y (set l j b) i (suc j) a (omega arith) ∙ ap (λ (m : List ℕ). sets m (suc j) y) (set-comm l j i b a (λ e. omega arith))
+
+-- x before a y that is there already
+sets-before : (x y l : List ℕ) (i : ℕ) → sets (sets l (i + length x) y) i x ≡ sets l i (x ++ y)
+sets-before [] y l i = rw (add-zero i)
+sets-before (a ∷ x) y l i =
+    ap (λ (m : List ℕ). sets m (suc i) x) (set-before y l i (i + suc (length x)) a (omega arith)) ∙
+    rw (add-suc i (length x), ← (suc-add i (length x))) (sets-before x y (set l i a) (suc i))
 
 header-long : (t : Table) → 0 + length (headerText t) ≡ featuresAt t
 header-long t =
@@ -64,11 +77,14 @@ header-long t =
     let C : List ℕ = textsOf commentPieces (t .comments) in
     omega (arith, length-append H R, length-append (H ++ R) C)
 
-text-joined : (t : Table) (t₀ t₁ t₂ : List ℕ) → t₁ ≡ sets t₀ 0 (headerText t) → t₂ ≡ sets t₁ (featuresAt t) (restText t) → t₂ ≡ sets t₀ 0 (layout t .texts)
+gap-filled : (t : Table) (t₀ t₁ t₂ : List ℕ) → t₁ ≡ sets (sets t₀ 0 (headerText t)) (contigAt t) (pieceText (perhaps (t .contig))) →
+    t₂ ≡ sets t₁ (featuresAt t) (each featureText (t .features)) → t₂ ≡ sets t₀ 0 (layout t .texts)
 unfolding layout
-text-joined t t₀ t₁ t₂ e f =
-    f ∙ rw (e, ← header-long t, sets-append (headerText t) (restText t) t₀ 0)
-    (ap (sets t₀ 0) (sym (append-assoc (headerText t) (each featureText (t .features)) (pieceText (perhaps (t .contig))))))
+gap-filled t t₀ t₁ t₂ e f =
+    let F : List ℕ = each featureText (t .features) in
+    let C : List ℕ = pieceText (perhaps (t .contig)) in
+    f ∙ ap (λ (l : List ℕ). sets l (featuresAt t) F) e ∙ sets-before F C (sets t₀ 0 (headerText t)) (featuresAt t) ∙
+    rw (← header-long t, sets-append (headerText t) (F ++ C) t₀ 0) (ap (sets t₀ 0) (sym (append-assoc (headerText t) F C)))
 
 -- ---- LOCUS and the header
 
@@ -158,39 +174,53 @@ module _ (s : List ℕ) (p : Plan) (h : Ready s p) where
   pub contig-ready : ContigStands s (p .rest .contig)
   contig-ready = record { stands = h .stands .rest .middle .contig }
 
-  pub features-filled : (place : ℕ) → place ≡ featuresAt (planTable s p) → (t₀ t₁ t₂ f₀ f₁ q₀ q₁ : List ℕ) (a z : ℕ) →
-      FeaturesPut place (featuresIn (drop (p .rest .«features_at») s)) t₀ t₁ f₀ f₁ q₀ q₁ a →
-      Writes t₁ a (pieceText (perhaps (contigIn s (p .rest .contig)))) t₂ z → FeaturesFilled (planTable s p) t₀ t₂ f₀ f₁ q₀ q₁
-  features-filled place e t₀ t₁ t₂ f₀ f₁ q₀ q₁ a z u v =
-      let k : FeaturesPut (featuresAt (planTable s p)) (planTable s p .features) t₀ t₁ f₀ f₁ q₀ q₁ a = rw (parts .features, ← e) u in
-      let c : Writes t₁ a (pieceText (perhaps (planTable s p .contig))) t₂ z = rw (parts .contig) v in
-      let w : Wrote t₁ a (pieceText (perhaps (planTable s p .contig))) t₂ z =
-      c .fit (omega (arith, k .texts .to, small .head, small .reference-texts, small .comment-texts, small .feature-texts, small .contig, h .most)) in
-      record { texts = wrote-append (k .texts) w .is; features = k .features; qualifiers = k .qualifiers }
+  -- ---- all but the features
+
+  module _ (t₀ t₁ r₀ r₁ c₀ c₁ : List ℕ) (a : ℕ) (x : HeaderFilled (planTable s p) t₀ t₁ r₀ r₁ c₀ c₁ a) where
+    third-place : a ≡ featuresAt (planTable s p)
+    third-place = x .texts .to ∙ header-long (planTable s p)
+
+    fourth-place : a + p .rest .features .bytes ≡ contigAt (planTable s p)
+    fourth-place = rw (parts .features, ← h .stands .rest .middle .read .bytes) (ap (λ (n : ℕ). n + p .rest .features .bytes) third-place)
+
+    pub gap-bound : a + p .rest .features .bytes < 2 ^ 64
+    gap-bound = rw fourth-place (omega (arith, small .head, small .reference-texts, small .comment-texts, small .feature-texts, h .most))
+
+    pub around-filled : (t₂ l₀ l₁ : List ℕ) (y z : ℕ) → Writes t₁ (a + p .rest .features .bytes) (pieceText (perhaps (contigIn s (p .rest .contig)))) t₂ y →
+        Writes l₀ 0 (sifted (drop (p .rest .«letters_at») s)) l₁ z → AroundFilled (planTable s p) t₀ t₂ r₀ r₁ c₀ c₁ l₀ l₁ a
+    around-filled t₂ l₀ l₁ y z u v =
+        let c : Writes t₁ (contigAt (planTable s p)) (pieceText (perhaps (planTable s p .contig))) t₂ y = rw (parts .contig, ← fourth-place) u in
+        let k : Writes l₀ 0 (planTable s p .letters) l₁ z = rw (parts .letters) v in
+        let w : Wrote t₁ (contigAt (planTable s p)) (pieceText (perhaps (planTable s p .contig))) t₂ y =
+        c .fit (omega (arith, small .head, small .reference-texts, small .comment-texts, small .feature-texts, small .contig, h .most)) in
+        let m : Wrote l₀ 0 (planTable s p .letters) l₁ z = k .fit (omega (arith, small .letters, h .most)) in
+        record {
+          gap = third-place;
+          texts = w .is ∙ ap (λ (l : List ℕ). sets l (contigAt (planTable s p)) (pieceText (perhaps (planTable s p .contig)))) (x .texts .is);
+          references = x .references;
+          comments = x .comments;
+          letters = m .is;
+        }
 
   -- ---- all of it
 
-  pub all-filled : (t₀ t₁ t₂ r₀ r₁ c₀ c₁ f₀ f₁ q₀ q₁ l₀ l₁ : List ℕ) (a z : ℕ) → HeaderFilled (planTable s p) t₀ t₁ r₀ r₁ c₀ c₁ a →
-      FeaturesFilled (planTable s p) t₁ t₂ f₀ f₁ q₀ q₁ → Writes l₀ 0 (sifted (drop (p .rest .«letters_at») s)) l₁ z →
+  pub all-filled : (t₀ t₁ t₂ r₀ r₁ c₀ c₁ f₀ f₁ q₀ q₁ l₀ l₁ : List ℕ) (a z : ℕ) → AroundFilled (planTable s p) t₀ t₁ r₀ r₁ c₀ c₁ l₀ l₁ a →
+      FeaturesPut a (featuresIn (drop (p .rest .«features_at») s)) t₁ t₂ f₀ f₁ q₀ q₁ z →
       Filled (planTable s p) (roomsIn t₀ r₀ c₀ f₀ q₀ l₀) (roomsIn t₂ r₁ c₁ f₁ q₁ l₁)
   unfolding layout
-  all-filled t₀ t₁ t₂ r₀ r₁ c₀ c₁ f₀ f₁ q₀ q₁ l₀ l₁ a z x y w =
-      let k : Writes l₀ 0 (planTable s p .letters) l₁ z = rw (parts .letters) w in
-      let m : Wrote l₀ 0 (planTable s p .letters) l₁ z = k .fit (omega (arith, small .letters, h .most)) in
+  all-filled t₀ t₁ t₂ r₀ r₁ c₀ c₁ f₀ f₁ q₀ q₁ l₀ l₁ a z x y =
+      let k : FeaturesPut (featuresAt (planTable s p)) (planTable s p .features) t₁ t₂ f₀ f₁ q₀ q₁ z = rw (parts .features, ← x .gap) y in
       record {
-        texts = text-joined (planTable s p) t₀ t₁ t₂ (x .texts .is) (y .texts);
+        texts = gap-filled (planTable s p) t₀ t₁ t₂ (x .texts) (k .texts .is);
         references = x .references;
         comments = x .comments;
-        features = y .features;
-        qualifiers = y .qualifiers;
-        letters = m .is;
+        features = k .features;
+        qualifiers = k .qualifiers;
+        letters = x .letters;
       }
-
-  pub third-place : (t₀ t₁ r₀ r₁ c₀ c₁ : List ℕ) (a : ℕ) → HeaderFilled (planTable s p) t₀ t₁ r₀ r₁ c₀ c₁ a → a ≡ featuresAt (planTable s p)
-  third-place t₀ t₁ r₀ r₁ c₀ c₁ a x = x .texts .to ∙ header-long (planTable s p)
 
 pub ruleset heading = (header-within, head-there, head-bound, references-texts, references-rows, comments-texts, comments-rows, header-filled)
 
-pub ruleset listing = (features-fit, contig-ready, features-filled)
+pub ruleset around = (contig-ready, letters-within, gap-bound, around-filled)
 
-pub ruleset filling = (letters-within, third-place, all-filled)
+pub ruleset filling = (features-fit, all-filled)

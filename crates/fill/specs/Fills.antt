@@ -1,14 +1,13 @@
 -- What the rooms hold once the parts of a record are put.
-use Prim.Native.Nat.{ℕ, _+_, _≤_}
+use Prim.Native.Nat.{ℕ, _≤_}
 use mathlib.Core.Path.{_≡_}
 use mathlib.Core.Bool.{false}
 use mathlib.Core.List.{List, _++_}
 use lib.ListN.{length}
 use lib.Seq.{sets}
-use Rattle.format.specs.Bytes.{each}
 use Rattle.format.specs.Table.{Table}
 use Rattle.format.specs.Record.{most}
-use Rattle.format.specs.Rooms.{Rooms, perhaps, pieceText, piecesText, headPieces, referencePieces, commentPieces, textsOf, rowsOf, featureText, featureRows, qualifierRows, referencesAt, commentsAt, featuresAt, layout}
+use Rattle.format.specs.Rooms.{Rooms, perhaps, pieceText, piecesText, headPieces, referencePieces, commentPieces, textsOf, rowsOf, referencesAt, commentsAt, featuresAt, contigAt, layout}
 use Rattle.pen.specs.Pen.{Wrote}
 use Rattle.header.specs.declared.MayEntry.{MayEntry}
 use Rattle.header.specs.Fields.{MayStand}
@@ -38,13 +37,13 @@ pub record HeaderFilled (t : Table) (t₀ t₁ r₀ r₁ c₀ c₁ : List ℕ) (
   pub references : r₁ ≡ sets r₀ 0 (rowsOf referencePieces (referencesAt t) (t .references))
   pub comments : c₁ ≡ sets c₀ 0 (rowsOf commentPieces (commentsAt t) (t .comments))
 
-abbrev pub restText : Table → List ℕ
-restText t = each featureText (t .features) ++ pieceText (perhaps (t .contig))
-
-pub record FeaturesFilled (t : Table) (t₀ t₁ f₀ f₁ q₀ q₁ : List ℕ) : Type 0 where
-  pub texts : t₁ ≡ sets t₀ (featuresAt t) (restText t)
-  pub features : f₁ ≡ sets f₀ 0 (featureRows (featuresAt t) 0 (t .features))
-  pub qualifiers : q₁ ≡ sets q₀ 0 (qualifierRows (featuresAt t) (t .features))
+-- all but the features: between the header's texts and CONTIG's there is a gap for theirs, which starts at `place`
+pub record AroundFilled (t : Table) (t₀ t₁ r₀ r₁ c₀ c₁ l₀ l₁ : List ℕ) (place : ℕ) : Type 0 where
+  pub gap : place ≡ featuresAt t
+  pub texts : t₁ ≡ sets (sets t₀ 0 (headerText t)) (contigAt t) (pieceText (perhaps (t .contig)))
+  pub references : r₁ ≡ sets r₀ 0 (rowsOf referencePieces (referencesAt t) (t .references))
+  pub comments : c₁ ≡ sets c₀ 0 (rowsOf commentPieces (commentsAt t) (t .comments))
+  pub letters : l₁ ≡ sets l₀ 0 (t .letters)
 
 -- each room has the table's layout from its start on
 pub record Filled (t : Table) (old new : Rooms) : Type 0 where

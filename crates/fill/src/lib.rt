@@ -1,12 +1,11 @@
 // A record whose places and counts are known, put into the lent rooms: texts, rows and letters, each in the table's own order.
 use header::MayEntry;
 use plan::Plan;
-ghost use mathlib.Core.Path.{_≡_};
-ghost use Rattle.format.specs.Rooms.{perhaps, pieceText, featuresAt};
+ghost use Rattle.format.specs.Rooms.{perhaps, pieceText};
 ghost use Rattle.pen.specs.Pen.{Writes};
 ghost use Rattle.middle.specs.Middles.{contigIn};
 ghost use Rattle.plan.specs.Plans.{planTable};
-ghost use Rattle.fill.specs.Fills.{roomsIn, ContigStands, Ready, HeaderFilled, FeaturesFilled, Filled};
+ghost use Rattle.fill.specs.Fills.{roomsIn, ContigStands, Ready, HeaderFilled, AroundFilled, Filled};
 
 // CONTIG's text, where there is one.
 fn put_contig(s: &[u8], contig: MayEntry, texts: &mut [u8], place: usize) -> usize
@@ -42,25 +41,26 @@ fn fill_header(
     headerputs::put_comments(s, at, texts, second, comments)
 }
 
-// What stands after the header, but for the letters.
-fn fill_features(
+// All but the features: CONTIG's text goes behind the gap that their texts are to fill. The place where the gap starts.
+pub fn fill_around(
     s: &[u8],
     plan: Plan,
     texts: &mut [u8],
-    place: usize,
-    features: &mut [usize],
-    qualifiers: &mut [usize],
-)
-    requires { ⌜ Ready (now s) plan × (place ≡ featuresAt (planTable (now s) plan)) ⌝ }
-    ensures { λ r. ⌜ FeaturesFilled (planTable (now (s .entry)) plan) (now (texts .entry)) (now (texts .exit)) (now (features .entry)) (now (features .exit)) (now (qualifiers .entry)) (now (qualifiers .exit)) ⌝ }
+    references: &mut [usize],
+    comments: &mut [usize],
+    letters: &mut [u8],
+) -> usize
+    requires { ⌜ Ready (now s) plan ⌝ }
+    ensures { λ r. ⌜ AroundFilled (planTable (now (s .entry)) plan) (now (texts .entry)) (now (texts .exit)) (now (references .entry)) (now (references .exit)) (now (comments .entry)) (now (comments .exit)) (now (letters .entry)) (now (letters .exit)) r ⌝ }
 {
     let rest = plan.rest;
-    let at = rest.features_at;
+    let at = rest.letters_at;
     let counts = rest.features;
-    let n = counts.count;
     let contig = rest.contig;
-    let next = featureputs::put_features(s, at, n, texts, place, features, qualifiers);
-    put_contig(s, contig, texts, next);
+    let place = fill_header(s, plan, texts, references, comments);
+    put_contig(s, contig, texts, place + counts.bytes);
+    letters::put_letters(s, at, letters, 0);
+    place
 }
 
 // The whole record.
@@ -78,8 +78,9 @@ pub fn fill(
     ensures { λ r. ⌜ Filled (planTable (now (s .entry)) plan) (roomsIn (now (texts .entry)) (now (references .entry)) (now (comments .entry)) (now (features .entry)) (now (qualifiers .entry)) (now (letters .entry))) (roomsIn (now (texts .exit)) (now (references .exit)) (now (comments .exit)) (now (features .exit)) (now (qualifiers .exit)) (now (letters .exit))) ⌝ }
 {
     let rest = plan.rest;
-    let at = rest.letters_at;
-    let place = fill_header(s, plan, texts, references, comments);
-    fill_features(s, plan, texts, place, features, qualifiers);
-    letters::put_letters(s, at, letters, 0);
+    let at = rest.features_at;
+    let counts = rest.features;
+    let n = counts.count;
+    let place = fill_around(s, plan, texts, references, comments, letters);
+    featureputs::put_features(s, at, n, texts, place, features, qualifiers);
 }

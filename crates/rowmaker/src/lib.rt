@@ -1,4 +1,4 @@
-// One feature's row made as a struct, by value, so that whoever stores it needs no flat numbers.
+// One feature put into lent rooms, but for its row, which is made as a struct, by value: whoever stores it needs no flat numbers.
 use featureputs::Pens;
 use format::Span;
 use rows::Feature;
@@ -6,11 +6,12 @@ ghost use Rattle.format.specs.Features.{feature};
 ghost use lib.ListN.{drop};
 ghost use Rattle.rowmaker.specs.Makes.{Ahead, RowMade};
 
-// Where reading goes on, where the next text goes in the store, which row is the next, and how many qualifiers there were.
+// Where reading goes on; where the next text goes; which row is the next; where the next qualifier's row goes; and how many qualifiers were put.
 pub struct Reached {
     pub at: usize,
     pub text: usize,
     pub row: usize,
+    pub qualifier: usize,
     pub count: usize,
 }
 
@@ -19,22 +20,20 @@ pub struct Made {
     pub reached: Reached,
 }
 
-// The row of the feature that starts where reading goes on. Its texts and its qualifiers' rows go nowhere: they were put before.
-pub fn row_at(s: &[u8], reached: Reached) -> Made
+// The feature that starts where reading goes on: its texts and its qualifiers' rows are put, and its own row is made.
+pub fn put_row(s: &[u8], texts: &mut [u8], qualifiers: &mut [usize], reached: Reached) -> Made
     requires { ⌜ Ahead (now s) reached ⌝ }
-    ensures { λ r. ⌜ RowMade (now (s .entry)) reached (feature (drop (reached .at) (now (s .entry)))) r ⌝ }
+    ensures { λ r. ⌜ RowMade (now (s .entry)) reached (feature (drop (reached .at) (now (s .entry)))) (now (texts .entry)) (now (texts .exit)) (now (qualifiers .entry)) (now (qualifiers .exit)) r ⌝ }
 {
-    let mut texts = [0u8; 0];
     let mut six = [0usize; 6];
-    let mut qualifiers = [0usize; 0];
     let pens = Pens {
         at: reached.at,
         text: reached.text,
         feature: 0,
-        qualifier: 0,
+        qualifier: reached.qualifier,
         count: reached.count,
     };
-    let after = featureputs::put_feature(s, &mut texts, &mut six, &mut qualifiers, pens);
+    let after = featureputs::put_feature(s, texts, &mut six, qualifiers, pens);
     let kind = Span {
         start: six[0],
         length: six[1],
@@ -53,6 +52,7 @@ pub fn row_at(s: &[u8], reached: Reached) -> Made
         at: after.at,
         text: after.text,
         row: reached.row + 1,
+        qualifier: after.qualifier,
         count: after.count,
     };
     Made {

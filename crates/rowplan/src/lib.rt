@@ -1,67 +1,55 @@
-// All of reading a record into rooms but the features' rows: the answer, the other rooms, and from where on how many rows are to be stored.
+// All of reading a record into rooms but its features: the answer, what else the rooms hold, and from where on how many features are still to be put.
 use format::ReadAnswer;
 use format::Unread;
 use plan::Plan;
 use plan::PlanAt;
-use rowmaker::Reached;
 ghost use mathlib.Core.Path.{_≡_};
 ghost use Prim.Native.Nat.{_*_, _<_, _^_};
+ghost use lib.ListN.{length};
 ghost use Rattle.fill.specs.Fills.{Ready};
 ghost use Rattle.sizing.specs.Sizing.{contigPlace};
 ghost use Rattle.rowplan.specs.Prepares.{noRows, allRows, Planned, Prepares};
 
-// The answer, and the rows that are still to be stored for it: `count` of them, from `start` on.
+// The features that are still to be put, and the answer that holds with them: `count` of them, which are read from `at` on, and their texts put from `place` on.
 pub struct Prepared {
-    pub answer: ReadAnswer,
-    pub start: Reached,
+    pub at: usize,
+    pub place: usize,
     pub count: usize,
+    pub answer: ReadAnswer,
 }
 
-// No row is stored for an answer that changes nothing.
-fn no_rows(answer: ReadAnswer) -> Prepared
-    ensures { λ r. ⌜ r ≡ noRows answer ⌝ }
+// No feature is put for an answer that changes nothing: none stands at the slice's end.
+fn no_rows(s: &[u8], answer: ReadAnswer) -> Prepared
+    ensures { λ r. ⌜ r ≡ noRows (length (now (s .entry))) answer ⌝ }
 {
-    let start = Reached {
-        at: 0,
-        text: 0,
-        row: 0,
-        count: 0,
-    };
     Prepared {
-        answer: answer,
-        start: start,
+        at: s.len(),
+        place: 0,
         count: 0,
+        answer: answer,
     }
 }
 
-// All rows of a record whose other rooms are filled; the features' texts follow those of the header.
-fn all_rows(plan: Plan) -> Prepared
+// All features of a record whose other parts are put; their texts go from a place on.
+fn all_rows(plan: Plan, place: usize) -> Prepared
     requires { ⌜ contigPlace plan < 2 ^ 64 ⌝ }
-    ensures { λ r. ⌜ r ≡ allRows plan ⌝ }
+    ensures { λ r. ⌜ r ≡ allRows plan place ⌝ }
 {
-    let locus = plan.locus;
-    let fields = plan.header;
     let rest = plan.rest;
     let counts = rest.features;
-    let head = headputs::head_bytes(locus, fields);
-    let start = Reached {
-        at: rest.features_at,
-        text: head + fields.reference_bytes + fields.comment_bytes,
-        row: 0,
-        count: 0,
-    };
     let answer = ReadAnswer::Done {
         head: sizing::head_in(plan),
         place: rest.place,
     };
     Prepared {
-        answer: answer,
-        start: start,
+        at: rest.features_at,
+        place: place,
         count: counts.count,
+        answer: answer,
     }
 }
 
-// A record that was planned, where there is room for so many rows of features.
+// A record that was planned, where there is room for so many rows of features and so many numbers of qualifiers.
 fn planned(
     s: &[u8],
     plan: Plan,
@@ -69,11 +57,11 @@ fn planned(
     references: &mut [usize],
     comments: &mut [usize],
     rows: usize,
-    qualifiers: &mut [usize],
+    qualifiers: usize,
     letters: &mut [u8],
 ) -> Prepared
     requires { ⌜ Ready (now s) plan × (6 * rows < 2 ^ 64) ⌝ }
-    ensures { λ r. ⌜ Planned (now (s .entry)) plan (now (texts .entry)) (now (texts .exit)) (now (references .entry)) (now (references .exit)) (now (comments .entry)) (now (comments .exit)) rows (now (qualifiers .entry)) (now (qualifiers .exit)) (now (letters .entry)) (now (letters .exit)) r ⌝ }
+    ensures { λ r. ⌜ Planned (now (s .entry)) plan (now (texts .entry)) (now (texts .exit)) (now (references .entry)) (now (references .exit)) (now (comments .entry)) (now (comments .exit)) rows qualifiers (now (letters .entry)) (now (letters .exit)) r ⌝ }
 {
     let n = sizing::sizes_of(plan);
     if !sizing::enough(
@@ -82,23 +70,13 @@ fn planned(
         references.len(),
         comments.len(),
         6 * rows,
-        qualifiers.len(),
+        qualifiers,
         letters.len(),
     ) {
-        return no_rows(ReadAnswer::Room(n));
+        return no_rows(s, ReadAnswer::Room(n));
     }
-    let mut features = [0usize; 0];
-    fill::fill(
-        s,
-        plan,
-        texts,
-        references,
-        comments,
-        &mut features,
-        qualifiers,
-        letters,
-    );
-    all_rows(plan)
+    let place = fill::fill_around(s, plan, texts, references, comments, letters);
+    all_rows(plan, place)
 }
 
 // The record at a place of a slice.
@@ -109,23 +87,23 @@ pub fn prepare(
     references: &mut [usize],
     comments: &mut [usize],
     rows: usize,
-    qualifiers: &mut [usize],
+    qualifiers: usize,
     letters: &mut [u8],
 ) -> Prepared
     requires { ⌜ 6 * rows < 2 ^ 64 ⌝ }
-    ensures { λ r. ⌜ Prepares (now (s .entry)) at (now (texts .entry)) (now (texts .exit)) (now (references .entry)) (now (references .exit)) (now (comments .entry)) (now (comments .exit)) rows (now (qualifiers .entry)) (now (qualifiers .exit)) (now (letters .entry)) (now (letters .exit)) r ⌝ }
+    ensures { λ r. ⌜ Prepares (now (s .entry)) at (now (texts .entry)) (now (texts .exit)) (now (references .entry)) (now (references .exit)) (now (comments .entry)) (now (comments .exit)) rows qualifiers (now (letters .entry)) (now (letters .exit)) r ⌝ }
 {
     if 16777216 < s.len() {
-        return no_rows(ReadAnswer::Refused(Unread::BadPlace));
+        return no_rows(s, ReadAnswer::Refused(Unread::BadPlace));
     }
     if s.len() < at {
-        return no_rows(ReadAnswer::Refused(Unread::BadPlace));
+        return no_rows(s, ReadAnswer::Refused(Unread::BadPlace));
     }
     if s.len() <= at {
-        return no_rows(ReadAnswer::Refused(Unread::AtEnd));
+        return no_rows(s, ReadAnswer::Refused(Unread::AtEnd));
     }
     match plan::plan_at(s, at) {
-        PlanAt::Refused(why) => no_rows(ReadAnswer::Refused(why)),
+        PlanAt::Refused(why) => no_rows(s, ReadAnswer::Refused(why)),
         PlanAt::Ready(plan) => planned(
             s,
             plan,

@@ -1,11 +1,11 @@
-// The reader's entry point with the features' rows as structs: all but these rows is prepared, and then they are stored one by one.
+// The reader's entry point with the features' rows as structs: all but the features is prepared, and then they are put in one pass, row by row.
 use format::ReadAnswer;
 use rows::Feature;
 ghost use Rattle.fill.specs.Fills.{roomsIn};
 ghost use Rattle.reader.specs.Reads.{Answered};
 ghost use Rattle.rows.specs.Rows.{flat};
 
-// Reads the record at a place of a slice into the rooms. It has no branch: where the answer refuses, no row is left to be stored.
+// Reads the record at a place of a slice into the rooms. It has no branch: where the answer refuses, no feature is left to be put.
 pub fn read_rows(
     s: &[u8],
     at: usize,
@@ -25,9 +25,9 @@ pub fn read_rows(
         references,
         comments,
         rows.len(),
-        qualifiers,
+        qualifiers.len(),
         letters,
     );
-    rowstore::store_rows(rows, s, p.start, p.count);
+    rowstore::store_rows(s, p.at, p.count, texts, p.place, rows, qualifiers);
     p.answer
 }

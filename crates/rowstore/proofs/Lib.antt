@@ -1,3 +1,2 @@
--- The laws that the proofs cite.
+-- The laws that the proof cites.
 mod Laws
-mod Again

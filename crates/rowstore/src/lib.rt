@@ -1,20 +1,35 @@
-// Features' rows as structs, made and stored one by one.
+// Features put into lent rooms as `featureputs::put_features` does, but with their own rows as structs.
 use rowmaker::Reached;
 use rows::Feature;
-ghost use mathlib.Core.Path.{_≡_};
-ghost use lib.Seq.{sets};
+ghost use lib.ListN.{drop};
+ghost use Rattle.features.specs.Reads.{featuresIn};
+ghost use Rattle.featureputs.specs.Puts.{Fits, FeaturesPut};
 ghost use Rattle.rows.specs.Rows.{flat};
-ghost use Rattle.rowmaker.specs.Stores.{rowsTo, Storable};
 
-// The rows of the first n features from a place on.
-pub fn store_rows(rows: &mut [Feature], s: &[u8], from: Reached, n: usize)
-    requires { ⌜ Storable (now s) from n ⌝ }
-    ensures { λ _. ⌜ flat (now (rows .exit)) ≡ sets (flat (now (rows .entry))) 0 (rowsTo (now (s .entry)) from n) ⌝ }
+// The n features that stand from `at` on: texts from `place` on, rows from the start of their rooms on. The place after the texts.
+pub fn store_rows(
+    s: &[u8],
+    at: usize,
+    n: usize,
+    texts: &mut [u8],
+    place: usize,
+    rows: &mut [Feature],
+    qualifiers: &mut [usize],
+) -> usize
+    requires { ⌜ Fits (now s) at n place (featuresIn (drop at (now s))) ⌝ }
+    ensures { λ r. ⌜ FeaturesPut place (featuresIn (drop at (now (s .entry)))) (now (texts .entry)) (now (texts .exit)) (flat (now (rows .entry))) (flat (now (rows .exit))) (now (qualifiers .entry)) (now (qualifiers .exit)) r ⌝ }
 {
-    let mut reached = from;
+    let mut reached = Reached {
+        at: at,
+        text: place,
+        row: 0,
+        qualifier: 0,
+        count: 0,
+    };
     while reached.row < n {
-        let made = rowmaker::row_at(s, reached);
+        let made = rowmaker::put_row(s, texts, qualifiers, reached);
         rows::store_row(rows, reached.row, made.row);
         reached = made.reached;
     }
+    reached.text
 }

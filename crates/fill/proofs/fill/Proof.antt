@@ -1,17 +1,14 @@
 -- `fill::fill` meets its contract. Assumes nothing.
 use borrow.Author.Needs.{needs}
-use Rattle.fill.proofs.Laws.{filling, third-place}
+use Rattle.fill.proofs.Laws.{filling}
 use Rattle.fill.proofs.fill.Statement.{statement}
 use Rattle.fill.proofs.fill.Tie as tie
 
-fill-header-requires : tie.Need-fill-header-requires
-fill-header-requires c κs = search needs
+fill-around-requires : tie.Need-fill-around-requires
+fill-around-requires c κs = search needs
 
-fill-features-requires : tie.Need-fill-features-requires
-fill-features-requires c κs = (c .before .before .before .before .before .before .before .before .before .before .before .before .before .before .before .before .before .before .before .before .before .pre, third-place _ _ (c .before .before .before .before .before .before .before .before .before .before .before .before .before .before .before .before .before .before .before .before .before .pre) _ _ _ _ _ _ _ (c .before .before .before .before .before .before .before .before .before .fill-header .ensures))
-
-put-letters-requires : tie.Need-put-letters-requires
-put-letters-requires c κs = search needs
+put-features-requires : tie.Need-put-features-requires
+put-features-requires c κs = search (filling, needs)
 
 same-length : tie.Need-same-length
 same-length c = search needs
@@ -38,9 +35,8 @@ pub fill-spec : {M : Type 1} → statement M
 fill-spec =
     tie.close
     (tie.spec
-    fill-header-requires
-    fill-features-requires
-    put-letters-requires
+    fill-around-requires
+    put-features-requires
     same-length
     same-length-2
     same-length-3

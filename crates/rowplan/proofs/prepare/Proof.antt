@@ -1,4 +1,4 @@
--- `prepare`: a refusal stores no row; else the plan says.
+-- `prepare`: a refusal leaves no feature to be put; else the plan says.
 use borrow.Author.Needs.{needs}
 use Rattle.reader.proofs.Laws.{plan-ready}
 use Rattle.rowplan.proofs.Laws.{preparing}
@@ -53,9 +53,6 @@ same-length-3 c = search needs
 same-length-4 : tie.Need-same-length-4
 same-length-4 c = search needs
 
-same-length-5 : tie.Need-same-length-5
-same-length-5 c = search needs
-
 returns-5 : tie.Need-returns-5
 returns-5 c = search (preparing, needs)
 
@@ -79,5 +76,4 @@ prepare-spec =
     same-length-2
     same-length-3
     same-length-4
-    same-length-5
     returns-5)

@@ -78,7 +78,7 @@ use Rattle.rowturns.proofs.step as turn
 use Rattle.rowturns.proofs.step.Symbol as turn-def
 use Rattle.rowturns.proofs.step.Symbol.{name as #rowturns·step}
 use Rattle.rowturns.proofs.step.Met as turn-thm
-use Rattle.rowwriter.proofs.Again.{LentAgain, lends-again, comes-back}
+use Rattle.rows.proofs.Again.{LentAgain, lends-again, comes-back}
 use Rattle.rowwriter.proofs.write_rows.Key.{name as #rowwriter·write-rows}
 use Rattle.rowwriter.proofs.write_rows as f
 use Rattle.rowwriter.proofs.write_rows.Statement as stated
@@ -360,9 +360,8 @@ module _ {M : Type 1} (𝓤 : URA M) (H : Heap 𝓤) (A : Atoms 𝓤) (W : Given
         assigns ! (addr ! (from ! (fld ! refl (hop ! (look-in ! 36 (sub ! 0 refl (whole !))) (stop !))))) (from ! (stop !)) (init ! 8 refl (tt, tt)) $
         assigns ! (agg ! (and-then ! (load ! (from ! (stop !)) (look ! 8 refl)) (and-then ! (load ! (from ! (fld ! refl (stop !))) (look-in ! 36 (sub ! 1 refl (whole !)))) (no-more !)))) (from ! (stop !)) (init ! 6 refl (tt, (tt, (record { fits = room .0 }, tt)))) $
         -- the slice is lent again, for a lifetime ν of the call
-        lft-new ! tt (λ ν. rewrite ! 2 (λ (m : ℕ). ‵ (MutSlice (named 0) κ₀ u8 .own (x γ l) (sliceVal (b, o) m ∷ []))) (sym (i .same)) refl $ move ! (2 ∷ 1 ∷ []) $
-        use2 W (later (some (λ (δ : GName). ‵ (MutSlice (named 0) (ν ∷ []) u8 .own (x δ l) (sliceVal (b, o) (length l) ∷ [])) ⊛ ‵ (LentAgain u8 κ₀ (ν ∷ []) q₀ γ b o δ l)))) (lends-again u8 κ₀ (ν ∷ []) q₀ γ b o 𝓤 H A W (named 0) (named 0) l) $ await ! tt $ pick ! (λ δ. split ! $
-        rewrite ! 0 (λ (m : ℕ). ‵ (MutSlice (named 0) (ν ∷ []) u8 .own (x δ l) (sliceVal (b, o) m ∷ []))) (i .same) refl $
+        lft-new ! tt (λ ν. move ! (2 ∷ 1 ∷ []) $
+        use2 W (later (some (λ (δ : GName). ‵ (Lent ν δ l) ⊛ ‵ (LentAgain u8 κ₀ (ν ∷ []) q₀ γ b o δ l)))) (lends-again u8 κ₀ (ν ∷ []) q₀ γ b o 𝓤 H A W (named 0) (named 0) l (length old) (i .same)) $ await ! tt $ pick ! (λ δ. split ! $
         -- [the slice lent; what is kept; ν's token; κ₄'s; the rows; the five tokens; the slices; _16 at 7; …]
         move ! (6 ∷ []) $ use1 W (‵ Common ⊛ ‵ Slices) common $ split ! $ move ! (4 ∷ 7 ∷ []) $ join ! $ move ! (0 ∷ 3 ∷ 1 ∷ []) $
         use3 W (raw (Turn 𝓤 H A mem run .pre (to-turn ν δ l s r))) (goes-turn ν δ l s r (i .is) ir (steady call-of rows old s l r y (i .held) er)) $
@@ -376,8 +375,7 @@ module _ {M : Type 1} (𝓤 : URA M) (H : Heap 𝓤) (A : Atoms 𝓤) (W : Given
         land ! (from ! (stop !)) (init ! 16 refl (LL.lawful K.the-type K′.the-laws 𝓤 H A W .typed t _ is .0)) $ rewrite ! 16 (λ (z : Val). ‵ (fat fullShare K′.mir l₁₂ 0 z)) (ap only told) refl $
         -- the lifetime is ended, and the slice comes back at that list
         drop ! $ split ! $ lft-end ! tt $ move ! (0 ∷ 5 ∷ 2 ∷ []) $
-        use3 W (later (‵ (MutSlice (named 0) κ₀ u8 .own (x γ (ws .0)) (sliceVal (b, o) (length l) ∷ [])) ⊛ ‵ (flft κ₀ q₀))) (comes-back u8 κ₀ (ν ∷ []) q₀ γ b o 𝓤 H A W (named 0) (named 0) l δ (ws .0) (subst (Room u8) (sym (i .same)) room) k) $ await ! tt $ split ! $
-        rewrite ! 0 (λ (m : ℕ). ‵ (MutSlice (named 0) κ₀ u8 .own (x γ (ws .0)) (sliceVal (b, o) m ∷ []))) (i .same) refl $
+        use3 W (later (‵ (Output (ws .0)) ⊛ ‵ (flft κ₀ q₀))) (comes-back u8 κ₀ (ν ∷ []) q₀ γ b o 𝓤 H A W (named 0) (named 0) l (length old) (i .same) δ (ws .0) room k) $ await ! tt $ split ! $
         -- [the slice; κ₀'s token; the five; true; the slices; κ₄'s; the rows; _16 at 7; …]
         move ! (3 ∷ []) $ drop ! $ move ! (1 ∷ 0 ∷ 4 ∷ 5 ∷ 2 ∷ 3 ∷ []) $
         assigns-last ! (of-opd ! (load ! (from ! (stop !)) (look ! 14 refl))) (from ! (stop !)) (store ! 18 refl (LL.lawful K.the-type K′.the-laws 𝓤 H A W .typed t _ it .0)) $

@@ -1,17 +1,11 @@
--- `row_at`: six numbers are put, and made a row.
+-- `put_row`: six numbers are put, and made a row.
 use borrow.Author.Needs.{needs}
 use Rattle.rowmaker.proofs.Laws.{row-made}
-use Rattle.rowmaker.proofs.row_at.Statement.{statement}
-use Rattle.rowmaker.proofs.row_at.Tie as tie
+use Rattle.rowmaker.proofs.put_row.Statement.{statement}
+use Rattle.rowmaker.proofs.put_row.Tie as tie
 
 slice-aggregate-put-feature : tie.Need-slice-aggregate-put-feature
 slice-aggregate-put-feature c = search needs
-
-slice-aggregate-put-feature-2 : tie.Need-slice-aggregate-put-feature-2
-slice-aggregate-put-feature-2 c = search needs
-
-slice-aggregate-put-feature-3 : tie.Need-slice-aggregate-put-feature-3
-slice-aggregate-put-feature-3 c = search needs
 
 put-feature-requires : tie.Need-put-feature-requires
 put-feature-requires c κs = search needs
@@ -37,16 +31,20 @@ array-read-t23-3 c = search needs
 add-t20 : tie.Need-add-t20
 add-t20 c = search needs
 
-returns : tie.Need-returns
-returns c = row-made _ _ _ _ _ _ (c .before .before .before .before .put-feature .ensures)
+same-length : tie.Need-same-length
+same-length c = search needs
 
-pub row-at-spec : {M : Type 1} → statement M
-row-at-spec =
+same-length-2 : tie.Need-same-length-2
+same-length-2 c = search needs
+
+returns : tie.Need-returns
+returns c = row-made _ _ _ _ _ _ _ _ (c .before .before .before .before .before .before .put-feature .ensures)
+
+pub put-row-spec : {M : Type 1} → statement M
+put-row-spec =
     tie.close
     (tie.spec
     slice-aggregate-put-feature
-    slice-aggregate-put-feature-2
-    slice-aggregate-put-feature-3
     put-feature-requires
     array-read-t20
     array-read-t23
@@ -55,4 +53,6 @@ row-at-spec =
     array-read-t20-3
     array-read-t23-3
     add-t20
+    same-length
+    same-length-2
     returns)
