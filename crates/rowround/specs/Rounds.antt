@@ -80,11 +80,11 @@ head-refused a why h e k = rw e k
 pub head-room : (a : ReadAnswer) (sizes : Sizes) (h : Head) → a ≡ read.Room sizes → h ≡ emptyHead → h ≡ headOf a
 head-room a sizes h e k = rw e k
 
-pub how-refused : (a : ReadAnswer) (why : Unread) (how k : How) → a ≡ read.Refused why → k ≡ notAtAll how → k ≡ howAfter a how
-how-refused a why how k e i = rw e i
+pub how-refused : (a : ReadAnswer) (why : Unread) (how : How) → a ≡ read.Refused why → notAtAll how ≡ howAfter a how
+how-refused a why how e = rw e
 
-pub how-room : (a : ReadAnswer) (sizes : Sizes) (how k : How) → a ≡ read.Room sizes → k ≡ notAtAll how → k ≡ howAfter a how
-how-room a sizes how k e i = rw e i
+pub how-room : (a : ReadAnswer) (sizes : Sizes) (how : How) → a ≡ read.Room sizes → notAtAll how ≡ howAfter a how
+how-room a sizes how e = rw e
 
 -- THE ANSWERS AND THE ROOMS AFTERWARDS, of a record at a place of s, read into the rooms `old` and written to the slice `before`
 pub record Rounds (s : List ℕ) (at : ℕ) (old : Rooms) (how : How) (texts references comments qualifiers letters before after : List ℕ) (r : ReadAnswer) (w : WriteAnswer) : Type 0 where

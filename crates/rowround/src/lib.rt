@@ -12,7 +12,7 @@ use rows::Feature;
 ghost use mathlib.Core.Path.{_≡_};
 ghost use Rattle.fill.specs.Fills.{roomsIn};
 ghost use Rattle.rows.specs.Rows.{flat};
-ghost use Rattle.rowround.specs.Rounds.{emptyHead, emptyRows, headOf, notAtAll, howAfter, Rounds};
+ghost use Rattle.rowround.specs.Rounds.{emptyHead, emptyRows, headOf, howAfter, Rounds};
 
 // What the reader answered, and then the writer.
 pub struct Round {
@@ -73,26 +73,20 @@ fn head_of(answer: ReadAnswer) -> Head
     }
 }
 
-// As asked, but at a width of 0, which no writer takes.
-fn not_at_all(how: How) -> How
-    ensures { λ r. ⌜ r ≡ notAtAll how ⌝ }
+// How to write what was read: as asked, or, where nothing was, at a width of 0, which no writer takes.
+fn how_after(answer: ReadAnswer, how: How) -> How
+    ensures { λ r. ⌜ r ≡ howAfter answer how ⌝ }
 {
-    How {
+    let not_at_all = How {
         keeping: how.keeping,
         width: 0,
         truncate: how.truncate,
         escape: how.escape,
-    }
-}
-
-// How to write what was read: as asked, or, where nothing was, not at all.
-fn how_after(answer: ReadAnswer, how: How) -> How
-    ensures { λ r. ⌜ r ≡ howAfter answer how ⌝ }
-{
+    };
     match answer {
         ReadAnswer::Done { head: _, place: _ } => how,
-        ReadAnswer::Refused(_) => not_at_all(how),
-        ReadAnswer::Room(_) => not_at_all(how),
+        ReadAnswer::Refused(_) => not_at_all,
+        ReadAnswer::Room(_) => not_at_all,
     }
 }
 

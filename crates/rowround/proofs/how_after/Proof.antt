@@ -10,14 +10,8 @@ enum-told c = search needs
 enum-told-2 : tie.Need-enum-told-2
 enum-told-2 c = search needs
 
-not-at-all-requires : tie.Need-not-at-all-requires
-not-at-all-requires c κs = search needs
-
 enum-told-3 : tie.Need-enum-told-3
 enum-told-3 c = search needs
-
-not-at-all-requires-2 : tie.Need-not-at-all-requires-2
-not-at-all-requires-2 c κs = search needs
 
 returns : tie.Need-returns
 returns c = search needs
@@ -29,14 +23,4 @@ returns-3 : tie.Need-returns-3
 returns-3 c = search (how-room, needs)
 
 pub how-after-spec : {M : Type 1} → statement M
-how-after-spec =
-    tie.close
-    (tie.spec
-    enum-told
-    enum-told-2
-    not-at-all-requires
-    enum-told-3
-    not-at-all-requires-2
-    returns
-    returns-2
-    returns-3)
+how-after-spec = tie.close (tie.spec enum-told enum-told-2 enum-told-3 returns returns-2 returns-3)

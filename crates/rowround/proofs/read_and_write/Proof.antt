@@ -542,6 +542,7 @@ module _ {M : Type 1} (𝓤 : URA M) (H : Heap 𝓤) (A : Atoms 𝓤) (W : Given
           → Sq W (WriteTokens k ∷ ‵ (finally u8 (ot .name) zo) ∷ Resting k z (Held₇ (Held₆ (Held₅ (Held₄ (Held₃ (Held₂ (Held₁ (Named u (‵ (fat fullShare L′.mir l₁₄ 0 (told-by x))) (‵ (fat fullShare B′.mir l₁₃ 0 (how-val j))) (‵ (fat fullShare D′.mir l₁₂ 0 (head-val h))) (‵ (fat fullShare Y′.mir l₁₁ 0 (said t))) (‵ (fdies many l₁₀) ∷ Params [])))))))))) (runs C Λ E body.t-33 (atRet E Post))
       frees t h j x u k z zo it ix len e =
           split ! $ move ! (1 ∷ []) $ split ! $ move ! (1 ∷ []) $ split ! $ move ! (1 ∷ []) $ split ! $ move ! (1 ∷ []) $ split ! $ move ! (1 ∷ []) $ split ! $ move ! (1 ∷ []) $ split ! $
+          -- [κ₅'s token; true; κ₄'s; the loan's; κ₃'s; κ₂'s; κ₁'s; κ₆'s; the slice's last list; κ₀'s; bytes; the lender's part; five last lists; _41 at 17; …]
           move ! (3 ∷ 11 ∷ []) $ use2 W (later (‵ (cells (in-memory T.the-row) (z .f) l₁₀ 0))) (cells-back T.the-row 𝓤 H A W (named 4) l₁₀ 8192 many-room (k .f) (z .f)) $ await ! tt $
           use1 W (‵ (fat fullShare many l₁₀ 0 (many-val (z .f))) ⊛ ‵ (Many .own (z .f) (array-vals vals (z .f)))) (together 𝓤 H A W l₁₀ (z .f) (z .rows)) $ split ! $ move ! (1 ∷ []) $ drop ! $
           move ! (9 ∷ 6 ∷ 5 ∷ 4 ∷ 3 ∷ 1 ∷ 7 ∷ 2 ∷ []) $ group ! 8 $
@@ -557,6 +558,7 @@ module _ {M : Type 1} (𝓤 : URA M) (H : Heap 𝓤) (A : Atoms 𝓤) (W : Given
           split ! $ move ! (1 ∷ []) $ use1 W (some (λ (ws : List ℕ × (Unit {0} × (Unit {0} × (Unit {0} × (Unit {0} × (Unit {0} × (Unit {0} × (Unit {0} × (Unit {0} × Unit {0}))))))))). ‵ (lasts writes.ended (write-lfts k) (write-args k z h j) ws)
           ⊛ raw (fact 𝓤 (Writes z h j (ws .0) x)))) (id⊢ 𝓤 _) $ pick ! (λ ws.
           split ! $ move ! (1 ∷ []) $ heard ! (Writes z h j (ws .0) x) (λ e₃. fsplit ! $ fsplit ! $ move ! (1 ∷ []) $ feqL ! (λ len.
+          -- [the slice's last list; true; the tokens and the answer; κ₀'s token; bytes; the lender's part; five last lists; _41 at 11; …]
           move ! (2 ∷ []) $ split ! $ move ! (1 ∷ []) $ peeks ! L.the-row (Is L.the-row) (shows 𝓤 H A L.the-row) x (u′ ∷ []) (λ is. let told = EL.tells L.the-type L′.the-laws x _ is in
           land ! (from ! (stop !)) (init ! 66 refl (EL.lawful L.the-type L′.the-laws 𝓤 H A W tt .typed x _ is .0)) $ rewrite ! 66 (λ (y : Val). ‵ (fat fullShare L′.mir l₁₄ 0 y)) (ap only told) refl $
           drop ! $ move ! (2 ∷ []) $ drop ! $
@@ -617,10 +619,11 @@ module _ {M : Type 1} (𝓤 : URA M) (H : Heap 𝓤) (A : Atoms 𝓤) (W : Given
           drop ! $ hows-asked t h u k z it (subst (λ (vs : List Val). Is D.the-row h vs) told is) e e₁))))
 
       -- `read_rows` has answered: its loans are over, the rooms are shared for the time that they have left, and the array for a second loan
-      backs : (r : List Feature) (u : Val) (m : Firsts) (t : ReadAnswer) (z : Lasts) → Is Y.the-row t (said t ∷ []) → Reads z emptyRows t
+      backs : (u : Val) (m : Firsts) (t : ReadAnswer) (z : Lasts) → Is Y.the-row t (said t ∷ []) → Reads z emptyRows t
           → Sq W (ReadTokens m ∷ ‵ (finally u8 (m .l .name) (z .l)) ∷ ‵ (finally usize (m .q .name) (z .q)) ∷ ‵ (finally T.the-row (m .f .name) (z .f)) ∷ ‵ (finally usize (m .c .name) (z .c)) ∷ ‵ (finally usize (m .r .name) (z .r)) ∷ ‵ (finally u8 (m .t .name) (z .t)) ∷ Keeping m (Room₇ (Room₆ (Room₅ (Room₄ (Held₃ (Held₂ (Held₁ (Named u (‵ (froom L′.mir l₁₄ 0)) (‵ (froom B′.mir l₁₃ 0)) (‵ (froom D′.mir l₁₂ 0)) (‵ (fat fullShare Y′.mir l₁₁ 0 (said t))) (‵ (fdies many l₁₀) ∷ Params [])))))))))) (runs C Λ E body.t-16 (atRet E Post))
-      backs r u m t z it e =
+      backs u m t z it e =
           split ! $ move ! (1 ∷ []) $ split ! $ move ! (1 ∷ []) $ split ! $ move ! (1 ∷ []) $ split ! $ move ! (1 ∷ []) $ split ! $ move ! (1 ∷ []) $ split ! $ move ! (1 ∷ []) $ split ! $
+          -- [the tokens of the loans and κ₀'s; six last lists; bytes; the slice; κ₆'s token; the lender's part of the array; what is kept of the rooms; _41 at 23; …]
           move ! (6 ∷ 18 ∷ 13 ∷ []) $ use3 W (later (some (λ (γ : GName). ‵ (Shared u8 (named 1) κ₁ tx (z .t) γ) ⊛ ‵ (finally u8 (tx .name) (z .t)) ⊛ ‵ (flft κ₁ q₁)))) (shares u8 𝓤 H A W (named 1) (named 1) κ₁ q₁ tx (m .t) (z .t)) $ await ! tt $ pick ! (λ γ₁. split3 ! $
           move ! (8 ∷ 19 ∷ 14 ∷ []) $ use3 W (later (some (λ (γ : GName). ‵ (Shared usize (named 2) κ₂ rf (z .r) γ) ⊛ ‵ (finally usize (rf .name) (z .r)) ⊛ ‵ (flft κ₂ q₂)))) (shares usize 𝓤 H A W (named 2) (named 2) κ₂ q₂ rf (m .r) (z .r)) $ await ! tt $ pick ! (λ γ₂. split3 ! $
           move ! (10 ∷ 20 ∷ 15 ∷ []) $ use3 W (later (some (λ (γ : GName). ‵ (Shared usize (named 3) κ₃ cm (z .c) γ) ⊛ ‵ (finally usize (cm .name) (z .c)) ⊛ ‵ (flft κ₃ q₃)))) (shares usize 𝓤 H A W (named 3) (named 3) κ₃ q₃ cm (m .c) (z .c)) $ await ! tt $ pick ! (λ γ₃. split3 ! $
@@ -643,10 +646,11 @@ module _ {M : Type 1} (𝓤 : URA M) (H : Heap 𝓤) (A : Atoms 𝓤) (W : Given
           -- the last lists, one by one, and that each is as long as before
           fsplit ! $ drop ! $ fsplit ! $ drop ! $ fsplit ! $ fsplit ! $ move ! (1 ∷ []) $ feqL ! (λ x₁. move ! (1 ∷ []) $ fsplit ! $ fsplit ! $ move ! (1 ∷ []) $ feqL ! (λ x₂. move ! (1 ∷ []) $ fsplit ! $ fsplit ! $ move ! (1 ∷ []) $ feqL ! (λ x₃. move ! (1 ∷ []) $
           fsplit ! $ fsplit ! $ move ! (1 ∷ []) $ feqL ! (λ x₆. move ! (1 ∷ []) $ fsplit ! $ fsplit ! $ move ! (1 ∷ []) $ feqL ! (λ x₄. move ! (1 ∷ []) $ fsplit ! $ fsplit ! $ move ! (1 ∷ []) $ feqL ! (λ x₅.
+          -- [the letters'; true; the qualifiers'; the rows'; the comments'; the references'; the texts'; the tokens and the answer; bytes; …; _41 at 17; …]
           move ! (7 ∷ []) $ split ! $ move ! (1 ∷ []) $ peeks ! Y.the-row (Is Y.the-row) (shows 𝓤 H A Y.the-row) t (u′ ∷ []) (λ is. let told = EL.tells Y.the-type Y′.the-laws t _ is in
           land ! (from ! (stop !)) (init ! 78 refl (EL.lawful Y.the-type Y′.the-laws 𝓤 H A W tt .typed t _ is .0)) $ rewrite ! 78 (λ (y : Val). ‵ (fat fullShare Y′.mir l₁₁ 0 y)) (ap only told) refl $
           drop ! $ move ! (2 ∷ []) $ drop ! $
-          backs r u m t (record { t = ws .1 .1 .0; r = ws .1 .1 .1 .0; c = ws .1 .1 .1 .1 .0; f = ws .1 .1 .1 .1 .1 .0; q = ws .1 .1 .1 .1 .1 .1 .0; l = ws .1 .1 .1 .1 .1 .1 .1 .0; lt₁ = x₁; lt₂ = x₂; lt₃ = x₃; rows = x₆ ∙ lr; lt₄ = x₄; lt₅ = x₅ })
+          backs u m t (record { t = ws .1 .1 .0; r = ws .1 .1 .1 .0; c = ws .1 .1 .1 .1 .0; f = ws .1 .1 .1 .1 .1 .0; q = ws .1 .1 .1 .1 .1 .1 .0; l = ws .1 .1 .1 .1 .1 .1 .1 .0; lt₁ = x₁; lt₂ = x₂; lt₃ = x₃; rows = x₆ ∙ lr; lt₄ = x₄; lt₅ = x₅ })
           (subst (λ (vs : List Val). Is Y.the-row t vs) told is)
           (subst (λ (i : List Feature). Answered (s .now) n (old i) (roomsIn (ws .1 .1 .0) (ws .1 .1 .1 .0) (ws .1 .1 .1 .1 .0) (flat (ws .1 .1 .1 .1 .1 .0)) (ws .1 .1 .1 .1 .1 .1 .0) (ws .1 .1 .1 .1 .1 .1 .1 .0)) t) e₀ e))))))))))))
 
@@ -658,6 +662,7 @@ module _ {M : Type 1} (𝓤 : URA M) (H : Heap 𝓤) (A : Atoms 𝓤) (W : Given
           move ! (87 ∷ []) $ fsplit ! $ move ! (1 ∷ []) $ fsplit ! $ drop ! $ fsplit ! $ move ! (1 ∷ []) $ fsplit ! $ move ! (1 ∷ []) $ fsplit ! $ move ! (1 ∷ []) $ fsplit ! $ move ! (1 ∷ []) $ fsplit ! $ move ! (1 ∷ []) $ fsplit ! $ move ! (1 ∷ []) $ drop ! $
           move ! (6 ∷ []) $ use1 W (‵ Bytes ⊛ ‵ Bytes) (shr-slice-copy 𝓤 H A W (named 0) κ₀ u8 .twice s (v₁ ∷ [])) $ split ! $
           move ! (94 ∷ []) $ split ! $ move ! (1 ∷ []) $ split ! $ move ! (1 ∷ []) $ split ! $ move ! (1 ∷ []) $ split ! $ move ! (1 ∷ []) $ split ! $ move ! (1 ∷ []) $ split ! $ move ! (1 ∷ []) $ split ! $
+          -- [the tokens; bytes, twice; the slice; letters; qualifiers; comments; references; texts; the loan's token, the array lent and the lender's part; _41 at 19; …]
           move ! (15 ∷ 6 ∷ []) $ use2 W (later (some (λ (k : Loan). ‵ (flft (k .life ∷ []) fullShare) ⊛ ‵ (Lent u8 (named 1) tx k) ⊛ ‵ (Kept u8 κ₁ q₁ tx k)))) (lends u8 𝓤 H A W (named 1) (named 1) κ₁ q₁ tx) $ await ! tt $ pick ! (λ k₁. split3 ! $
           move ! (16 ∷ 8 ∷ []) $ use2 W (later (some (λ (k : Loan). ‵ (flft (k .life ∷ []) fullShare) ⊛ ‵ (Lent usize (named 2) rf k) ⊛ ‵ (Kept usize κ₂ q₂ rf k)))) (lends usize 𝓤 H A W (named 2) (named 2) κ₂ q₂ rf) $ await ! tt $ pick ! (λ k₂. split3 ! $
           move ! (17 ∷ 10 ∷ []) $ use2 W (later (some (λ (k : Loan). ‵ (flft (k .life ∷ []) fullShare) ⊛ ‵ (Lent usize (named 3) cm k) ⊛ ‵ (Kept usize κ₃ q₃ cm k)))) (lends usize 𝓤 H A W (named 3) (named 3) κ₃ q₃ cm) $ await ! tt $ pick ! (λ k₃. split3 ! $
