@@ -16,7 +16,6 @@ fn rewrite_input(options: Options) {
     let mut texts = smallrooms::text_room();
     let mut references = smallrooms::reference_room();
     let mut comments = smallrooms::comment_room();
-    let mut features = smallrooms::feature_room();
     let mut qualifiers = smallrooms::qualifier_room();
     let mut letters = smallrooms::text_room();
     let mut out = smallrooms::out_room();
@@ -30,7 +29,6 @@ fn rewrite_input(options: Options) {
         &mut texts,
         &mut references,
         &mut comments,
-        &mut features,
         &mut qualifiers,
         &mut letters,
         &mut out,

@@ -1,9 +1,10 @@
 // Record after record out of an input: each is read, written again and put out. A refusal ends it with one line on standard error: which record, which
 // number, and why. The rooms are lent.
-use format::Head;
 use format::ReadAnswer;
 use format::WriteAnswer;
 use options::Options;
+use rowparts::How;
+use rowround::Round;
 
 // How a record went.
 enum Rewritten {
@@ -32,71 +33,8 @@ fn put_out(out: &[u8], n: usize) {
     }
 }
 
-// Writes a table by the writer that is asked for.
-fn write_as_asked(
-    out: &mut [u8],
-    texts: &[u8],
-    references: &[usize],
-    comments: &[usize],
-    features: &[usize],
-    qualifiers: &[usize],
-    letters: &[u8],
-    head: Head,
-    options: Options,
-) -> WriteAnswer {
-    if options.keep {
-        return writer::keep(
-            out,
-            texts,
-            references,
-            comments,
-            features,
-            qualifiers,
-            letters,
-            head,
-            options.width,
-            options.truncate,
-            options.escape,
-        );
-    }
-    writer::write(
-        out,
-        texts,
-        references,
-        comments,
-        features,
-        qualifiers,
-        letters,
-        head,
-        options.width,
-        options.truncate,
-        options.escape,
-    )
-}
-
-// Writes a table and puts it out; 0, or the number of the refusal.
-fn write_out(
-    out: &mut [u8],
-    texts: &[u8],
-    references: &[usize],
-    comments: &[usize],
-    features: &[usize],
-    qualifiers: &[usize],
-    letters: &[u8],
-    head: Head,
-    options: Options,
-) -> usize {
-    let answer = write_as_asked(
-        out,
-        texts,
-        references,
-        comments,
-        features,
-        qualifiers,
-        letters,
-        head,
-        options,
-    );
+// Puts out what was written; 0, or the number of the refusal.
+fn put_written(answer: WriteAnswer, out: &[u8]) -> usize {
     match answer {
         WriteAnswer::Done(n) => put_out(out, n),
         WriteAnswer::Refused(_) => {}
@@ -121,35 +59,24 @@ fn put_again(number: usize, place: usize) -> Rewritten {
     Rewritten::Refused(number)
 }
 
-// What becomes of a record that was read, or not.
-fn after_reading(
-    answer: ReadAnswer,
-    texts: &[u8],
-    references: &[usize],
-    comments: &[usize],
-    features: &[usize],
-    qualifiers: &[usize],
-    letters: &[u8],
-    out: &mut [u8],
-    options: Options,
-) -> Rewritten {
-    match answer {
+// What becomes of a record that was read and written, or not.
+fn after_round(round: Round, out: &[u8]) -> Rewritten {
+    let read = round.read;
+    let wrote = round.wrote;
+    match read {
         ReadAnswer::Room(_) => Rewritten::Refused(6),
         ReadAnswer::Refused(why) => unread(numbers::unread_number(why)),
-        ReadAnswer::Done { head, place } => put_again(
-            write_out(
-                out,
-                texts,
-                references,
-                comments,
-                features,
-                qualifiers,
-                letters,
-                head,
-                options,
-            ),
-            place,
-        ),
+        ReadAnswer::Done { head: _, place } => put_again(put_written(wrote, out), place),
+    }
+}
+
+// How a record is to be written.
+fn how_asked(options: Options) -> How {
+    How {
+        keeping: options.keep,
+        width: options.width,
+        truncate: options.truncate,
+        escape: options.escape,
     }
 }
 
@@ -160,33 +87,23 @@ fn rewrite_at(
     texts: &mut [u8],
     references: &mut [usize],
     comments: &mut [usize],
-    features: &mut [usize],
     qualifiers: &mut [usize],
     letters: &mut [u8],
     out: &mut [u8],
     options: Options,
 ) -> Rewritten {
-    let answer = reader::read(
+    let round = rowround::read_and_write(
         input,
         at,
         texts,
         references,
         comments,
-        features,
-        qualifiers,
-        letters,
-    );
-    after_reading(
-        answer,
-        texts,
-        references,
-        comments,
-        features,
         qualifiers,
         letters,
         out,
-        options,
-    )
+        how_asked(options),
+    );
+    after_round(round, out)
 }
 
 // All records of the input. A record takes a byte at least, so there are no more records than bytes.
@@ -195,7 +112,6 @@ pub fn rewrite_all(
     texts: &mut [u8],
     references: &mut [usize],
     comments: &mut [usize],
-    features: &mut [usize],
     qualifiers: &mut [usize],
     letters: &mut [u8],
     out: &mut [u8],
@@ -210,7 +126,6 @@ pub fn rewrite_all(
             texts,
             references,
             comments,
-            features,
             qualifiers,
             letters,
             out,

@@ -1,4 +1,4 @@
-// Rooms that a stack of 8 MiB holds: an input and a record of up to 524,288 bytes, 1,024 references and comments, 8,192 features, 32,768 qualifiers. Their
+// Rooms that a stack of 8 MiB holds: an input and a record of up to 524,288 bytes, 1,024 references and comments, 32,768 qualifiers. Their
 // contracts say their lengths alone, so that a proof about a program does not write them out.
 ghost use lib.ListN.{length};
 ghost use mathlib.Core.Path.{_≡_};
@@ -29,13 +29,6 @@ pub fn comment_room() -> [usize; 2048]
     ensures { λ r. ⌜ 2048 ≡ length r ⌝ }
 {
     [0usize; 2048]
-}
-
-// 6 numbers a row.
-pub fn feature_room() -> [usize; 49152]
-    ensures { λ r. ⌜ 49152 ≡ length r ⌝ }
-{
-    [0usize; 49152]
 }
 
 // 4 numbers a row.

@@ -4,6 +4,8 @@ use format::Head;
 use format::ReadAnswer;
 use format::Text;
 use format::WriteAnswer;
+use rowparts::How;
+use rowround::Round;
 
 // How a record went.
 enum Judged {
@@ -60,46 +62,17 @@ fn show_judged(answer: WriteAnswer) {
     io::write_all(1, b": kept\n");
 }
 
-fn judge(
-    texts: &[u8],
-    references: &[usize],
-    comments: &[usize],
-    features: &[usize],
-    qualifiers: &[usize],
-    letters: &[u8],
-    head: Head,
-    width: usize,
-) {
-    let mut none = [0u8; 0];
+fn judge(texts: &[u8], head: Head, answer: WriteAnswer) {
     let name = head.name;
     show_name(texts, name);
-    show_judged(writer::keep(
-        &mut none,
-        texts,
-        references,
-        comments,
-        features,
-        qualifiers,
-        letters,
-        head,
-        width,
-        false,
-        false,
-    ));
+    show_judged(answer);
 }
 
 // What is said of a record that was read, or not.
-fn judge_answer(
-    answer: ReadAnswer,
-    texts: &[u8],
-    references: &[usize],
-    comments: &[usize],
-    features: &[usize],
-    qualifiers: &[usize],
-    letters: &[u8],
-    width: usize,
-) -> Judged {
-    match answer {
+fn judge_round(round: Round, texts: &[u8]) -> Judged {
+    let read = round.read;
+    let wrote = round.wrote;
+    match read {
         ReadAnswer::Room(_) => {
             show_number(6);
             Judged::Stop
@@ -109,16 +82,7 @@ fn judge_answer(
             Judged::Stop
         }
         ReadAnswer::Done { head, place } => {
-            judge(
-                texts,
-                references,
-                comments,
-                features,
-                qualifiers,
-                letters,
-                head,
-                width,
-            );
+            judge(texts, head, wrote);
             Judged::On(place)
         }
     }
@@ -130,31 +94,29 @@ fn judge_at(
     texts: &mut [u8],
     references: &mut [usize],
     comments: &mut [usize],
-    features: &mut [usize],
     qualifiers: &mut [usize],
     letters: &mut [u8],
     width: usize,
 ) -> Judged {
-    let answer = reader::read(
+    let mut none = [0u8; 0];
+    let how = How {
+        keeping: true,
+        width: width,
+        truncate: false,
+        escape: false,
+    };
+    let round = rowround::read_and_write(
         input,
         at,
         texts,
         references,
         comments,
-        features,
         qualifiers,
         letters,
+        &mut none,
+        how,
     );
-    judge_answer(
-        answer,
-        texts,
-        references,
-        comments,
-        features,
-        qualifiers,
-        letters,
-        width,
-    )
+    judge_round(round, texts)
 }
 
 // All records of the input. A record takes a byte at least, so there are no more records than bytes.
@@ -163,7 +125,6 @@ pub fn judge_all(
     texts: &mut [u8],
     references: &mut [usize],
     comments: &mut [usize],
-    features: &mut [usize],
     qualifiers: &mut [usize],
     letters: &mut [u8],
     width: usize,
@@ -181,7 +142,6 @@ pub fn judge_all(
             texts,
             references,
             comments,
-            features,
             qualifiers,
             letters,
             width,

@@ -13,7 +13,6 @@ fn judge_input(width: usize) {
     let mut texts = smallrooms::text_room();
     let mut references = smallrooms::reference_room();
     let mut comments = smallrooms::comment_room();
-    let mut features = smallrooms::feature_room();
     let mut qualifiers = smallrooms::qualifier_room();
     let mut letters = smallrooms::text_room();
     let n = io::read_full(0, &mut input);
@@ -26,7 +25,6 @@ fn judge_input(width: usize) {
         &mut texts,
         &mut references,
         &mut comments,
-        &mut features,
         &mut qualifiers,
         &mut letters,
         width,

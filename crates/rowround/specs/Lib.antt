@@ -1,0 +1,2 @@
+-- What a record read and written again ends in.
+pub mod Rounds
