@@ -7,6 +7,7 @@ use rows::Feature;
 use table::Next;
 use table::feature_next;
 ghost use mathlib.Core.Path.{_≡_};
+ghost use mathlib.Core.Bool.{_||_, not};
 ghost use Prim.Native.Nat.{_≤_};
 ghost use Rattle.entries.specs.Rules.{widthOf, featureOf, FeatureKnown};
 ghost use Rattle.format.specs.Rooms.{featureIn};
@@ -44,6 +45,23 @@ pub fn row_passes(rule: Rule, row: Feature, texts: &[u8], qualifiers: &[usize]) 
 {
     let six = row_numbers(row);
     feature_passes(rule, texts, &six, qualifiers, 0)
+}
+
+// Number 13 of a row, of which the plain writer asks nothing.
+pub fn row_kept(
+    keeping: bool,
+    width: usize,
+    row: Feature,
+    texts: &[u8],
+    qualifiers: &[usize],
+) -> bool
+    requires { ⌜ (60 ≤ width) × FeatureKnown (now texts) (numbers row) (now qualifiers) 0 ⌝ }
+    ensures { λ r. ⌜ r ≡ (not keeping || featureOf (Rule.Kept width) (featureIn (featureRooms (now (texts .entry)) (numbers row) (now (qualifiers .entry))) 0)) ⌝ }
+{
+    if keeping {
+        return row_passes(Rule::Kept(width), row, texts, qualifiers);
+    }
+    true
 }
 
 pub fn put_row(

@@ -1,7 +1,7 @@
 -- What each turn of the writers on rows of structs does: rows are judged and measured, the answer is decided, rows are put, the record is ended.
 use Prim.Native.Nat.{ℕ, suc, _+_, _-_, _*_, _^_, _≤_, _<_}
 use mathlib.Core.Path.{_≡_, refl, sym, ap, subst, _∙_}
-use mathlib.Core.Bool.{Bool, true, false, _&&_, not}
+use mathlib.Core.Bool.{Bool, true, false, _&&_, _||_, not}
 use mathlib.Core.List.{List, [], _++_, append-assoc}
 use native.Mathlib.Nat.{sub-zero}
 use native.Mathlib.Omega.{arith}
@@ -11,7 +11,7 @@ use borrow.Author.Tests.{le-leb, not-false, leb-true}
 use Rattle.entries.specs.Rules.{featureOf, FeatureKnown}
 use Rattle.featurerows.specs.Flat.{next-of-row, feature-of-row, row-known}
 use Rattle.format.specs.Answers.{room}
-use Rattle.format.specs.Bytes.{all, each}
+use Rattle.format.specs.Bytes.{all, each, pick}
 use Rattle.format.specs.Keeping.{keeps}
 use Rattle.format.specs.Rooms.{rowsFrom, featureIn, tableOf, featuresFine, roomsFine}
 use Rattle.format.specs.Table.{Feature as Described}
@@ -22,7 +22,6 @@ use Rattle.format.specs.declared.Unwritten.{Unwritten}
 use Rattle.format.specs.declared.Unwritten.the-variants as unwritten
 use Rattle.format.specs.declared.WriteAnswer.{WriteAnswer}
 use Rattle.format.specs.declared.WriteAnswer.the-variants as answer
-use Rattle.headers.specs.declared.Rule.{Rule}
 use Rattle.headers.specs.declared.Rule.the-variants as rule
 use Rattle.pen.specs.Pen.{Writes, Left, left-start, left-step, left-as, sets-past}
 use Rattle.rows.specs.Flat.{fetched-outside}
@@ -55,9 +54,13 @@ abbrev pub stagedState : Bool → ℕ → ℕ → ℕ → Bool → Bool → Stat
 stagedState putting row at from fine kept =
     record { going = true; putting = putting; row = row; at = at; from = from; fine = fine; kept = kept; answer = answer.Done 0 }
 
--- the features from row i on pass a rule
-abbrev pass : Asking → List Feature → Rule → ℕ → Bool
-pass a rows u i = all (featureOf u) (rowsFrom (featureAt (a .texts) (a .qualifiers) rows) 6 i (a .head .features - i))
+-- the keeping rules of a feature, of which the plain writer asks nothing
+abbrev keptBy : How → Described → Bool
+keptBy how f = not (how .keeping) || featureOf (rule.Kept (how .width)) f
+
+-- the features from row i on pass a test
+abbrev pass : Asking → List Feature → (Described → Bool) → ℕ → Bool
+pass a rows p i = all p (rowsFrom (featureAt (a .texts) (a .qualifiers) rows) 6 i (a .head .features - i))
 
 -- the rows up to the next one are judged, and measured on no room
 pub record Judged (a : Asking) (rows : List Feature) (old : List ℕ) (s : State) (out : List ℕ) : Type 0 where
@@ -65,8 +68,8 @@ pub record Judged (a : Asking) (rows : List Feature) (old : List ℕ) (s : State
   pub same : out ≡ old
   pub order : s .row ≤ a .head .features
   pub rooms : featuresFine (rowsOf a rows) 0 0 (a .head .features) ≡ featuresFine (rowsOf a rows) (s .row) (s .from) (a .head .features - s .row)
-  pub fine : pass a rows (rule.Fine (a .how .width)) 0 ≡ (s .fine && pass a rows (rule.Fine (a .how .width)) (s .row))
-  pub kept : pass a rows (rule.Kept (a .how .width)) 0 ≡ (s .kept && pass a rows (rule.Kept (a .how .width)) (s .row))
+  pub fine : pass a rows (featureOf (rule.Fine (a .how .width))) 0 ≡ (s .fine && pass a rows (featureOf (rule.Fine (a .how .width))) (s .row))
+  pub kept : pass a rows (keptBy (a .how)) 0 ≡ (s .kept && pass a rows (keptBy (a .how)) (s .row))
   pub left : Left [] 0 (textOf a rows) [] (s .at) (textFrom a rows (s .row))
 
 -- the record is due, and put up to the next row
@@ -149,15 +152,15 @@ module _ (a : Asking) (rows : List Feature) (i : ℕ) where
   unfolding textFrom rowsFrom
   text-last h = let k : a .head .features - i ≡ 0 = omega arith in rw k
 
-  pass-more : (u : Rule) → i < a .head .features → pass a rows u i ≡ (featureOf u feature && pass a rows u (i + 1))
+  pass-more : (p : Described → Bool) → i < a .head .features → pass a rows p i ≡ (p feature && pass a rows p (i + 1))
   unfolding rowsFrom
-  pass-more u h =
+  pass-more p h =
       let k : a .head .features - i ≡ suc (a .head .features - (i + 1)) = omega arith in
       rw k
 
-  pass-last : (u : Rule) → a .head .features ≤ i → pass a rows u i ≡ true
+  pass-last : (p : Described → Bool) → a .head .features ≤ i → pass a rows p i ≡ true
   unfolding rowsFrom
-  pass-last u h = let k : a .head .features - i ≡ 0 = omega arith in rw k
+  pass-last p h = let k : a .head .features - i ≡ 0 = omega arith in rw k
 
 and-assoc : (x y z : Bool) → (x && (y && z)) ≡ ((x && y) && z)
 and-assoc true y z = refl
@@ -243,7 +246,7 @@ module _ (t q : List ℕ) (how : How) (s : State) where
 
     pub judge-goes : {x : List ℕ} {m w : ℕ} (fine kept c d : Bool) → o ≡ next.From m
         → fine ≡ (s .fine && c) → c ≡ featureOf (rule.Fine (how .width)) (featureIn (featureRooms t (numbers f) q) 0)
-        → kept ≡ (s .kept && d) → d ≡ featureOf (rule.Kept (how .width)) (featureIn (featureRooms t (numbers f) q) 0)
+        → kept ≡ (s .kept && d) → d ≡ keptBy how (featureIn (featureRooms t (numbers f) q) 0)
         → Writes [] (s .at) (featureLines (how .width) (featureIn (featureRooms t (numbers f) q) 0)) x w
         → Judges t q how s (fetched.Row f) (stagedState false (s .row + 1) w m fine kept)
     judge-goes {x} {m} {w} fine kept c d j ef ec ek ed wr =
@@ -260,10 +263,10 @@ module _ (t q : List ℕ) (how : How) (s : State) where
                       same = k .same;
                       order = omega arith;
                       rooms = features-go (rowsOf a rows) (s .row) (h .features) (s .from) _ o m (k .rooms) less n j;
-                      fine = k .fine ∙ (ap (λ (y : Bool). s .fine && y) (pass-more a rows (s .row) (rule.Fine (how .width)) less) ∙
-                          (and-assoc (s .fine) (featureOf (rule.Fine (how .width)) (featureAt t q rows (6 * s .row))) (pass a rows (rule.Fine (how .width)) (s .row + 1)) ∙ rw (ef, ec, v)));
-                      kept = k .kept ∙ (ap (λ (y : Bool). s .kept && y) (pass-more a rows (s .row) (rule.Kept (how .width)) less) ∙
-                          (and-assoc (s .kept) (featureOf (rule.Kept (how .width)) (featureAt t q rows (6 * s .row))) (pass a rows (rule.Kept (how .width)) (s .row + 1)) ∙ rw (ek, ed, v)));
+                      fine = k .fine ∙ (ap (λ (y : Bool). s .fine && y) (pass-more a rows (s .row) (featureOf (rule.Fine (how .width))) less) ∙
+                          (and-assoc (s .fine) (featureOf (rule.Fine (how .width)) (featureAt t q rows (6 * s .row))) (pass a rows (featureOf (rule.Fine (how .width))) (s .row + 1)) ∙ rw (ef, ec, v)));
+                      kept = k .kept ∙ (ap (λ (y : Bool). s .kept && y) (pass-more a rows (s .row) (keptBy how) less) ∙
+                          (and-assoc (s .kept) (keptBy how (featureAt t q rows (6 * s .row))) (pass a rows (keptBy how) (s .row + 1)) ∙ rw (ek, ed, v)));
                       left = left-step (left-as (text-more a rows (s .row) less) (k .left)) (nowhere (rw v at wr));
                     };
                 nearer = rw (g, p) (omega arith);
@@ -279,18 +282,37 @@ module _ (a : Asking) (s : State) (out : List ℕ) (v : Verdict)
     all-fine : featuresFine (rowsOf a rows) 0 0 (a .head .features) ≡ true
     all-fine = sym (features-end (rowsOf a rows) (s .row) (a .head .features) (s .from) _ (k .rooms) last)
 
+    formed : Bool
+    formed = wellFormed (a .how .width) (a .how .truncate) (a .how .escape) (tableOf (restOf a) (noRows (a .head)))
+
+    rest : Bool
+    rest = keeps (a .how .width) (a .how .truncate) (a .how .escape) (tableOf (restOf a) (noRows (a .head)))
+
+    -- with a keeping writer the rules hold of the table where they hold of the rows and of the rest
+    all-kept : a .how .keeping ≡ true → keeps (a .how .width) (a .how .truncate) (a .how .escape) (tableOf (rowsOf a rows) (a .head)) ≡ (rest && s .kept)
+    unfolding rest
+    all-kept q =
+        let z : a .head .features - 0 ≡ a .head .features = sub-zero (a .head .features) in
+        let judged : pass a rows (keptBy (a .how)) 0 ≡ s .kept = k .kept ∙ (rw (pass-last a rows (s .row) (keptBy (a .how)) last) (and-true (s .kept))) in
+        keeps-split (a .texts) (a .references) (a .comments) (a .qualifiers) (a .letters) rows (a .head) (a .how .width) (a .how .truncate) (a .how .escape) ∙
+        ap (λ (y : Bool). rest && y) (rw (z, q) at judged)
+
     is-due : due a rows (length old) ≡ answered v (room (length old) (length (textOf a rows)))
-    unfolding restVerdict
+    unfolding restVerdict formed rest
     is-due =
         let z : a .head .features - 0 ≡ a .head .features = sub-zero (a .head .features) in
         due-verdict a rows (k .asked) (length old) _ _ all-fine
         (fine-split (a .texts) (a .references) (a .comments) (a .qualifiers) (a .letters) rows (a .head) (a .how .width) (a .how .truncate) (a .how .escape) ∙
-        ap (λ (y : Bool). wellFormed (a .how .width) (a .how .truncate) (a .how .escape) (tableOf (restOf a) (noRows (a .head))) && y)
-        ((rw z at (k .fine)) ∙ (rw (pass-last a rows (s .row) (rule.Fine (a .how .width)) last) (and-true (s .fine)))))
-        (keeps-split (a .texts) (a .references) (a .comments) (a .qualifiers) (a .letters) rows (a .head) (a .how .width) (a .how .truncate) (a .how .escape) ∙
-        ap (λ (y : Bool). keeps (a .how .width) (a .how .truncate) (a .how .escape) (tableOf (restOf a) (noRows (a .head))) && y)
-        ((rw z at (k .kept)) ∙ (rw (pass-last a rows (s .row) (rule.Kept (a .how .width)) last) (and-true (s .kept))))) ∙
-        ap (λ (y : Verdict). answered y (room (length old) (length (textOf a rows)))) (sym e)
+        ap (λ (y : Bool). formed && y) ((rw z at (k .fine)) ∙ (rw (pass-last a rows (s .row) (featureOf (rule.Fine (a .how .width))) last) (and-true (s .fine)))))
+        refl ∙
+        ap (λ (y : Verdict). answered y (room (length old) (length (textOf a rows)))) (by-writer (a .how .keeping) refl ∙ sym e)
+      where
+        by-writer : (keeping : Bool) → keeping ≡ a .how .keeping →
+            pick (formed && s .fine) (pick keeping
+            (pick (keeps (a .how .width) (a .how .truncate) (a .how .escape) (tableOf (rowsOf a rows) (a .head))) verdict.Fine (verdict.Not unwritten.NotKept)) verdict.Fine)
+            (verdict.Not unwritten.NoLayout) ≡ restVerdict keeping (s .fine) formed (s .kept) rest
+        by-writer false q = refl
+        by-writer true q = rw (all-kept (sym q))
 
     small : length (textOf a rows) < 2 ^ 64
     small = written-small (a .how .width) (a .how .truncate) (a .how .escape) (rowsOf a rows) (a .head) (asked-rooms a rows (k .asked) all-fine)

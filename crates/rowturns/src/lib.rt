@@ -2,6 +2,7 @@
 // where the record is to be written, each is put. What a turn does is decided by a state that is passed by value, so the loop itself only fetches rows.
 use basics::both;
 use featurerows::put_row;
+use featurerows::row_kept;
 use featurerows::row_next;
 use featurerows::row_passes;
 use format::Head;
@@ -135,10 +136,7 @@ fn judge_row(s: State, row: Feature, texts: &[u8], qualifiers: &[usize], how: Ho
         s.fine,
         row_passes(Rule::Fine(width), row, texts, qualifiers),
     );
-    let kept = both(
-        s.kept,
-        row_passes(Rule::Kept(width), row, texts, qualifiers),
-    );
+    let kept = both(s.kept, row_kept(how.keeping, width, row, texts, qualifiers));
     let at = put_row(&mut [], s.at, row, texts, qualifiers, width);
     staged(false, s.row + 1, at, next, fine, kept)
 }

@@ -27,8 +27,8 @@ row-passes-requires c κs = (c .before .before .before .before .before .before .
 both-requires : tie.Need-both-requires
 both-requires c κs = search needs
 
-row-passes-requires-2 : tie.Need-row-passes-requires-2
-row-passes-requires-2 c κs = (c .before .before .before .before .before .before .before .before .pre .1, (row-fit (now (c .before .before .before .before .before .before .before .before .args .texts)) (now (c .before .before .before .before .before .before .before .before .args .qualifiers)) (c .before .before .before .before .before .before .before .before .args .row) (c .before .before .before .before .before .before .before .before .args .s .from) _ _ (c .before .before .before .before .before .before .before .before .pre .0) (c .before .before .before .before .before .row-next .ensures) (c .before .before .before .next .given .1)))
+row-kept-requires : tie.Need-row-kept-requires
+row-kept-requires c κs = (c .before .before .before .before .before .before .before .before .pre .1, (row-fit (now (c .before .before .before .before .before .before .before .before .args .texts)) (now (c .before .before .before .before .before .before .before .before .args .qualifiers)) (c .before .before .before .before .before .before .before .before .args .row) (c .before .before .before .before .before .before .before .before .args .s .from) _ _ (c .before .before .before .before .before .before .before .before .pre .0) (c .before .before .before .before .before .row-next .ensures) (c .before .before .before .next .given .1)))
 
 both-requires-2 : tie.Need-both-requires-2
 both-requires-2 c κs = search needs
@@ -46,7 +46,7 @@ staged-requires : tie.Need-staged-requires
 staged-requires c κs = search needs
 
 returns-2 : tie.Need-returns-2
-returns-2 c = rw (c .staged .ensures) (judge-goes (now (c .before .before .before .before .before .before .before .before .before .before .before .before .before .before .before .args .texts)) (now (c .before .before .before .before .before .before .before .before .before .before .before .before .before .before .before .args .qualifiers)) (c .before .before .before .before .before .before .before .before .before .before .before .before .before .before .before .args .how) (c .before .before .before .before .before .before .before .before .before .before .before .before .before .before .before .args .s) (c .before .before .before .before .before .before .before .before .before .before .before .before .before .before .before .args .row) _ (c .before .before .before .before .before .before .before .before .before .before .before .before .row-next .ensures) _ _ _ _ (c .before .before .before .before .before .before .before .before .before .before .next .given .1) (c .before .before .before .before .before .before .before .both .ensures) (c .before .before .before .before .before .before .before .before .row-passes .ensures) (c .before .before .before .before .before .both2 .ensures) (c .before .before .before .before .before .before .row-passes2 .ensures) (c .before .before .before .put-row .ensures))
+returns-2 c = rw (c .staged .ensures) (judge-goes (now (c .before .before .before .before .before .before .before .before .before .before .before .before .before .before .before .args .texts)) (now (c .before .before .before .before .before .before .before .before .before .before .before .before .before .before .before .args .qualifiers)) (c .before .before .before .before .before .before .before .before .before .before .before .before .before .before .before .args .how) (c .before .before .before .before .before .before .before .before .before .before .before .before .before .before .before .args .s) (c .before .before .before .before .before .before .before .before .before .before .before .before .before .before .before .args .row) _ (c .before .before .before .before .before .before .before .before .before .before .before .before .row-next .ensures) _ _ _ _ (c .before .before .before .before .before .before .before .before .before .before .next .given .1) (c .before .before .before .before .before .before .before .both .ensures) (c .before .before .before .before .before .before .before .before .row-passes .ensures) (c .before .before .before .before .before .both2 .ensures) (c .before .before .before .before .before .before .row-kept .ensures) (c .before .before .before .put-row .ensures))
 
 pub judge-row-spec : {M : Type 1} → statement M
 judge-row-spec =
@@ -59,7 +59,7 @@ judge-row-spec =
     returns
     row-passes-requires
     both-requires
-    row-passes-requires-2
+    row-kept-requires
     both-requires-2
     slice-aggregate-put-row
     put-row-requires
