@@ -69,6 +69,19 @@ block-turn t at j ok b r go e f h p =
     let y : (ok && b) ≡ true = sym f ∙ h in
     rw z (plain-more t (at + j) (go (and-left ok b y) p) (sym e ∙ and-right ok b y))
 
+-- fewer bytes of a plain start are plain
+plain-less : (n m : ℕ) (t : List ℕ) → m ≤ n → plainTo n t ≡ true → plainTo m t ≡ true
+plain-less zero m t h p = let e : m ≡ 0 = omega arith in rw e
+plain-less (suc n) m t h p =
+    cases (eqb m (suc n)) (λ e. rw (eqb-true m (suc n) e) p)
+    (λ e. plain-less n m t (omega (arith, eqb-false m (suc n) e)) (and-left (plainTo n t) (plain (getD t n 0)) p))
+
+-- the last block of n bytes, of which all but some of its own are plain
+pub last-block : (t : List ℕ) (i n : ℕ) → 16 ≤ n → n - i < 16 → plainTo i t ≡ true → (plainTo (n - 16) t ≡ true → plainTo (n - 16 + 16) t ≡ true) → PlainRun n t n
+last-block t i n h l p go =
+    let e : n - 16 + 16 ≡ n = omega arith in
+    record { is = rw e at (go (plain-less i (n - 16) t (omega arith) p)); most = omega arith }
+
 pub last-found : (t : List ℕ) (n i : ℕ) → lastTo n t ≡ lastTo i t → 0 < i → getD t (i - 1) 0 ≡ 32 → i ≤ n → LastTo n t i
 last-found t n zero e p b h = absurd (omega arith)
 last-found t n (suc i) e p b h =
@@ -138,13 +151,6 @@ stops-there q W w b h c l = rw (lt-ltb W (w + columns q b) (omega arith), le-ltb
 some-columns : (q : Bool) (b : ℕ) → 1 ≤ columns q b
 some-columns false b = omega arith
 some-columns true b = cases (eqb b 34) (λ e. rw e (omega arith)) (λ e. rw e (omega arith))
-
--- fewer bytes of a plain start are plain
-plain-less : (n m : ℕ) (t : List ℕ) → m ≤ n → plainTo n t ≡ true → plainTo m t ≡ true
-plain-less zero m t h p = let e : m ≡ 0 = omega arith in rw e
-plain-less (suc n) m t h p =
-    cases (eqb m (suc n)) (λ e. rw (eqb-true m (suc n) e) p)
-    (λ e. plain-less n m t (omega (arith, eqb-false m (suc n) e)) (and-left (plainTo n t) (plain (getD t n 0)) p))
 
 full-end : (b n space : ℕ) → space ≤ n → full b n space .end ≤ n
 full-end b n space h =

@@ -159,7 +159,7 @@ fn plain_from(text: &[u8], at: usize, n: usize) -> usize
     i
 }
 
-// Where the plain bytes end among the first n.
+// Where the plain bytes end among the first n. The last block may hold bytes that were in one before.
 fn plain_run(text: &[u8], n: usize) -> usize
     requires { ⌜ n ≤ length (now text) ⌝ }
     ensures { λ r. ⌜ PlainRun n (now (text .entry)) r ⌝ }
@@ -170,6 +170,12 @@ fn plain_run(text: &[u8], n: usize) -> usize
             return plain_from(text, i, n);
         }
         i += 16;
+    }
+    if n < 16 {
+        return plain_from(text, i, n);
+    }
+    if plain_block(text, n - 16) {
+        return n;
     }
     plain_from(text, i, n)
 }
