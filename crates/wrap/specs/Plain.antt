@@ -9,7 +9,7 @@ use mathlib.Core.List.{List, [], _∷_}
 use lib.Dec.{eqb}
 use lib.ListN.{length, getD, take, drop}
 use lib.Seq.{getD-take, length-take-le}
-use borrow.Author.Tests.{lt-ltb, le-ltb, eq-eqb, ne-eqb, eqb-true, eqb-false}
+use borrow.Author.Tests.{lt-ltb, le-ltb, eq-eqb, ne-eqb, eqb-true, eqb-false, not-true}
 use Rattle.format.specs.Bytes.{pick}
 use Rattle.wrap.specs.declared.Break.{Break}
 use Rattle.wrap.specs.declared.Found.{Found}
@@ -95,6 +95,31 @@ last-turn t n (suc i) e p b = let z : suc i - 1 ≡ i = omega arith in rw z (e �
 pub last-none : (t : List ℕ) (n i : ℕ) → lastTo n t ≡ lastTo i t → i ≤ 0 → LastTo n t 0
 last-none t n zero e h = record { is = sym e; most = omega arith }
 last-none t n (suc i) e h = absurd (omega arith)
+
+-- a block without spaces, tested byte by byte
+pub spaceless-turn : (t : List ℕ) (at j : ℕ) (ok r : Bool) → (ok ≡ true → lastTo (at + j) t ≡ lastTo at t) → r ≡ (ok && not (eqb (getD t (at + j) 0) 32))
+    → r ≡ true → lastTo (at + (j + 1)) t ≡ lastTo at t
+spaceless-turn t at j ok r go f h =
+    let z : at + (j + 1) ≡ suc (at + j) = omega arith in
+    let y : (ok && not (eqb (getD t (at + j) 0) 32)) ≡ true = sym f ∙ h in
+    let e : eqb (getD t (at + j) 0) 32 ≡ false = not-true (eqb (getD t (at + j) 0) 32) (and-right ok _ y) in
+    rw (z, e) (go (and-left ok _ y))
+
+pub last-passed : (t : List ℕ) (n i : ℕ) → lastTo n t ≡ lastTo i t → 16 ≤ i → lastTo (i - 16 + 16) t ≡ lastTo (i - 16) t → lastTo n t ≡ lastTo (i - 16) t
+last-passed t n i e h p = let z : i - 16 + 16 ≡ i = omega arith in e ∙ rw z at p
+
+pub last-known : (t : List ℕ) (n i r : ℕ) → i ≤ n → lastTo n t ≡ lastTo i t → LastTo i t r → LastTo n t r
+last-known t n i r h e l = record { is = l .is ∙ sym e; most = omega (arith, l .most) }
+
+-- where there is no space, there is none among fewer bytes
+none-less : (n m : ℕ) (t : List ℕ) → m ≤ n → lastTo n t ≡ 0 → lastTo m t ≡ 0
+none-less zero m t h e = let z : m ≡ 0 = omega arith in rw z
+none-less (suc n) m t h e =
+    cases (eqb (getD t n 0) 32) (λ s. absurd (let z : n + 1 ≡ 0 = rw s at e in omega arith))
+    (λ s. cases (eqb m (suc n)) (λ k. rw (eqb-true m (suc n) k) e) (λ k. none-less n m t (omega (arith, eqb-false m (suc n) k)) (rw s at e)))
+
+pub first-block : (t : List ℕ) (n i : ℕ) → lastTo n t ≡ lastTo i t → i < 16 → lastTo (0 + 16) t ≡ lastTo 0 t → LastTo n t 0
+first-block t n i e h p = record { is = sym (e ∙ none-less 16 i t (omega arith) p); most = omega arith }
 
 -- ---- a plain start is passed whole
 record Plain (b : ℕ) : Type 0 where

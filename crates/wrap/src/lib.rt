@@ -12,7 +12,7 @@ ghost use lib.ListN.{length};
 ghost use Rattle.format.specs.Bytes.{spaces};
 ghost use Rattle.format.specs.Wrap.{wrapped};
 ghost use Rattle.pen.specs.Pen.{Writes};
-ghost use Rattle.wrap.specs.Plain.{plain, plainTo, PlainRun, LastTo, FindsLine};
+ghost use Rattle.wrap.specs.Plain.{plain, plainTo, PlainRun, lastTo, LastTo, FindsLine};
 ghost use Rattle.wrap.specs.Line.{Breaks, Columns, LastSpace, stops, full, shown, escape, closed};
 
 // Where a line ends in its text, and where the next one starts.
@@ -180,8 +180,22 @@ fn plain_run(text: &[u8], n: usize) -> usize
     plain_from(text, i, n)
 }
 
-// The place after the last space among the first n bytes, 0 where there is none.
-fn last_to(text: &[u8], n: usize) -> usize
+// Whether none of the 16 bytes from `at` on is a space.
+fn spaceless_block(text: &[u8], at: usize) -> bool
+    requires { ⌜ at + 16 ≤ length (now text) ⌝ }
+    ensures { λ r. ⌜ (r ≡ true → lastTo (at + 16) (now (text .entry)) ≡ lastTo at (now (text .entry))) ⌝ }
+{
+    let mut ok = true;
+    let mut j = 0;
+    while j < 16 {
+        ok = both(ok, text[at + j] != 32);
+        j += 1;
+    }
+    ok
+}
+
+// The place after the last space among the first n bytes, 0 where there is none, byte by byte.
+fn last_each(text: &[u8], n: usize) -> usize
     requires { ⌜ n ≤ length (now text) ⌝ }
     ensures { λ r. ⌜ LastTo n (now (text .entry)) r ⌝ }
 {
@@ -193,6 +207,27 @@ fn last_to(text: &[u8], n: usize) -> usize
         i -= 1;
     }
     0
+}
+
+// The same by blocks, as long as they hold no space: a line of a translation has none. The first block may hold bytes that were in one before.
+fn last_to(text: &[u8], n: usize) -> usize
+    requires { ⌜ n ≤ length (now text) ⌝ }
+    ensures { λ r. ⌜ LastTo n (now (text .entry)) r ⌝ }
+{
+    let mut i = n;
+    while 16 <= i {
+        if !spaceless_block(text, i - 16) {
+            return last_each(text, i);
+        }
+        i -= 16;
+    }
+    if n < 16 {
+        return last_each(text, i);
+    }
+    if spaceless_block(text, 0) {
+        return 0;
+    }
+    last_each(text, i)
 }
 
 // The first line, where the bytes before k are plain and k is not: it ends there if that is LF.
