@@ -75,7 +75,7 @@ after-step (suc f) q W indent used t h p e =
     record { less = f; enough = omega (arith, rest-shorter q W indent t h p); is = after-more f q W indent used t p }
 
 -- the whole rest of a text, as the code lends it
-rest-all : (text : List ℕ) (from : ℕ) → take (length text - from) (drop from text) ≡ drop from text
+pub rest-all : (text : List ℕ) (from : ℕ) → take (length text - from) (drop from text) ≡ drop from text
 rest-all text from = take-all (length text - from) (drop from text) (omega (arith, length-drop from text))
 
 -- a turn, in the code's words

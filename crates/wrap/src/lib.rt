@@ -12,13 +12,19 @@ ghost use lib.ListN.{length};
 ghost use Rattle.format.specs.Bytes.{spaces};
 ghost use Rattle.format.specs.Wrap.{wrapped};
 ghost use Rattle.pen.specs.Pen.{Writes};
-ghost use Rattle.wrap.specs.Plain.{plain, plainTo, PlainRun, LastTo};
+ghost use Rattle.wrap.specs.Plain.{plain, plainTo, PlainRun, lastTo, LastTo, FindsLine};
 ghost use Rattle.wrap.specs.Line.{Breaks, Columns, LastSpace, stops, full, shown, escape, closed};
 
 // Where a line ends in its text, and where the next one starts.
 pub struct Break {
     pub end: usize,
     pub next: usize,
+}
+
+// A line that was found, and whether it is known to hold neither LF nor quote.
+pub struct Found {
+    pub at: Break,
+    pub plain: bool,
 }
 
 // How many columns a byte takes.
@@ -153,7 +159,7 @@ fn plain_from(text: &[u8], at: usize, n: usize) -> usize
     i
 }
 
-// Where the plain bytes end among the first n.
+// Where the plain bytes end among the first n. The last block may hold bytes that were in one before.
 fn plain_run(text: &[u8], n: usize) -> usize
     requires { ⌜ n ≤ length (now text) ⌝ }
     ensures { λ r. ⌜ PlainRun n (now (text .entry)) r ⌝ }
@@ -165,11 +171,31 @@ fn plain_run(text: &[u8], n: usize) -> usize
         }
         i += 16;
     }
+    if n < 16 {
+        return plain_from(text, i, n);
+    }
+    if plain_block(text, n - 16) {
+        return n;
+    }
     plain_from(text, i, n)
 }
 
-// The place after the last space among the first n bytes, 0 where there is none.
-fn last_to(text: &[u8], n: usize) -> usize
+// Whether none of the 16 bytes from `at` on is a space.
+fn spaceless_block(text: &[u8], at: usize) -> bool
+    requires { ⌜ at + 16 ≤ length (now text) ⌝ }
+    ensures { λ r. ⌜ (r ≡ true → lastTo (at + 16) (now (text .entry)) ≡ lastTo at (now (text .entry))) ⌝ }
+{
+    let mut ok = true;
+    let mut j = 0;
+    while j < 16 {
+        ok = both(ok, text[at + j] != 32);
+        j += 1;
+    }
+    ok
+}
+
+// The place after the last space among the first n bytes, 0 where there is none, byte by byte.
+fn last_each(text: &[u8], n: usize) -> usize
     requires { ⌜ n ≤ length (now text) ⌝ }
     ensures { λ r. ⌜ LastTo n (now (text .entry)) r ⌝ }
 {
@@ -183,27 +209,58 @@ fn last_to(text: &[u8], n: usize) -> usize
     0
 }
 
+// The same by blocks, as long as they hold no space: a line of a translation has none. The first block may hold bytes that were in one before.
+fn last_to(text: &[u8], n: usize) -> usize
+    requires { ⌜ n ≤ length (now text) ⌝ }
+    ensures { λ r. ⌜ LastTo n (now (text .entry)) r ⌝ }
+{
+    let mut i = n;
+    while 16 <= i {
+        if !spaceless_block(text, i - 16) {
+            return last_each(text, i);
+        }
+        i -= 16;
+    }
+    if n < 16 {
+        return last_each(text, i);
+    }
+    if spaceless_block(text, 0) {
+        return 0;
+    }
+    last_each(text, i)
+}
+
 // The first line, where the bytes before k are plain and k is not: it ends there if that is LF.
-fn fed_break(text: &[u8], k: usize, taken: usize, width: usize, quote: bool) -> Break
+fn fed_break(text: &[u8], k: usize, taken: usize, width: usize, quote: bool) -> Found
     requires { ⌜ (length (now text) ≤ 16777216) × (taken + k < width) × (k < length (now text)) × (width ≤ 33554432) × (plainTo k (now text) ≡ true) ⌝ }
-    ensures { λ r. ⌜ Breaks quote width taken (now (text .entry)) r ⌝ }
+    ensures { λ r. ⌜ FindsLine quote width taken (now (text .entry)) r ⌝ }
 {
     if text[k] == 10 {
-        return Break {
+        let fed = Break {
             end: k,
             next: k + 1,
         };
+        return Found {
+            at: fed,
+            plain: true,
+        };
     }
-    line_scan(text, taken, width, quote)
+    Found {
+        at: line_scan(text, taken, width, quote),
+        plain: false,
+    }
 }
 
 // The first line of the text, where `taken` columns are taken. Most lines are plain up to their end and need no scan.
-fn line_break(text: &[u8], taken: usize, width: usize, quote: bool) -> Break
+fn line_break(text: &[u8], taken: usize, width: usize, quote: bool) -> Found
     requires { ⌜ (length (now text) ≤ 16777216) × (taken ≤ 33554432) × (width ≤ 132) ⌝ }
-    ensures { λ r. ⌜ Breaks quote width taken (now (text .entry)) r ⌝ }
+    ensures { λ r. ⌜ FindsLine quote width taken (now (text .entry)) r ⌝ }
 {
     if width < taken {
-        return line_scan(text, taken, width, quote);
+        return Found {
+            at: line_scan(text, taken, width, quote),
+            plain: false,
+        };
     }
     let room = width - taken;
     let n = text.len();
@@ -212,16 +269,26 @@ fn line_break(text: &[u8], taken: usize, width: usize, quote: bool) -> Break
         if k < n {
             return fed_break(text, k, taken, width, quote);
         }
-        return Break { end: n, next: n };
+        let whole = Break { end: n, next: n };
+        return Found {
+            at: whole,
+            plain: true,
+        };
     }
     let k = plain_run(text, room);
     if k < room {
         return fed_break(text, k, taken, width, quote);
     }
     if text[room] < 128 {
-        return full(text[room], room, last_to(text, room));
+        return Found {
+            at: full(text[room], room, last_to(text, room)),
+            plain: true,
+        };
     }
-    line_scan(text, taken, width, quote)
+    Found {
+        at: line_scan(text, taken, width, quote),
+        plain: false,
+    }
 }
 
 // A byte, a quote twice where quotes are doubled.
@@ -249,15 +316,16 @@ fn put_each_shown(out: &mut [u8], at: usize, line: &[u8], quote: bool) -> usize
     p
 }
 
-// A line as it is written: most hold no quote and go as they are.
-fn put_escaped(out: &mut [u8], at: usize, line: &[u8], quote: bool) -> usize
+// A line as it is written: one that is known to be plain goes as it is.
+fn put_escaped(out: &mut [u8], at: usize, line: &[u8], quote: bool, plain: bool) -> usize
+    requires { ⌜ (plain ≡ true → plainTo (length (now line)) (now line) ≡ true) ⌝ }
     ensures { λ r. ⌜ Writes (now (out .entry)) at (escape quote (now (line .entry))) (now (out .exit)) r ⌝ }
 {
-    if quote {
-        if plain_run(line, line.len()) < line.len() {
-            return put_each_shown(out, at, line, quote);
-        }
+    if plain {
         return put_bytes(out, at, line);
+    }
+    if quote {
+        return put_each_shown(out, at, line, quote);
     }
     put_bytes(out, at, line)
 }
@@ -311,10 +379,10 @@ pub fn put_wrapped(
     let mut used = taken;
     let mut from = 0;
     loop {
-        let b = line_break(&text[from..], used, width, quote);
-        let end = from + b.end;
-        let next = from + b.next;
-        let a = put_escaped(out, p, &text[from..end], quote);
+        let line = line_break(&text[from..], used, width, quote);
+        let end = from + line.at.end;
+        let next = from + line.at.next;
+        let a = put_escaped(out, p, &text[from..end], quote, line.plain);
         if text.len() <= next {
             return put_closing(out, a, quote, leaves_one(used, a - p, width), indent);
         }

@@ -1,8 +1,9 @@
 -- `wrap::last_to` meets its contract.
-use Rattle.wrap.specs.Plain.{lastTo, last-found, last-turn, last-none}
+use Rattle.wrap.specs.Plain.{lastTo, last-passed, last-known, first-block}
 use Prim.Native.Nat.{_-_, _≤_}
 use mathlib.Core.Path.{_≡_, refl}
 use borrow.Author.Needs.{needs}
+use borrow.Author.Tests.{not-false}
 use Rattle.wrap.proofs.last_to.Statement.{statement}
 use Rattle.wrap.proofs.last_to.Tie as tie
 
@@ -15,26 +16,38 @@ abbrev μ-loop : tie.MeasureT-loop
 loop-holds : tie.Need-loop-holds Inv-loop μ-loop
 loop-holds c = (search needs, refl)
 
-sub-if1 : tie.Need-sub-if1 Inv-loop μ-loop
-sub-if1 c = search needs
+spaceless-block-requires : tie.Need-spaceless-block-requires Inv-loop μ-loop
+spaceless-block-requires c κs = search needs
 
-shared-slice-read-if1 : tie.Need-shared-slice-read-if1 Inv-loop μ-loop
-shared-slice-read-if1 c = search needs
+last-each-requires : tie.Need-last-each-requires Inv-loop μ-loop
+last-each-requires c κs = search needs
 
 returns : tie.Need-returns Inv-loop μ-loop
-returns c = last-found _ _ _ (c .before .before .before .loop .inv .1) (c .before .before .loop-test .taken) (c .if1 .taken) (c .before .before .before .loop .inv .0)
-
-sub-i : tie.Need-sub-i Inv-loop μ-loop
-sub-i c = search needs
+returns c = last-known _ _ _ _ (c .before .before .before .before .loop .inv .0) (c .before .before .before .before .loop .inv .1) (c .last-each .ensures)
 
 loop-less : tie.Need-loop-less Inv-loop μ-loop
 loop-less c = search needs
 
 loop-again : tie.Need-loop-again Inv-loop μ-loop
-loop-again c = (search needs, last-turn _ (c .before .before .before .before .args .n) _ (c .before .before .before .loop .inv .1) (c .before .before .loop-test .taken) (c .if1 .left))
+loop-again c = (search needs, last-passed _ (c .before .before .before .before .before .args .n) _ (c .before .before .before .loop .inv .1) (c .before .before .loop-test .taken) (c .before .spaceless-block .ensures (not-false _ (c .if1 .left))))
+
+last-each-requires-2 : tie.Need-last-each-requires-2 Inv-loop μ-loop
+last-each-requires-2 c κs = search needs
 
 returns-2 : tie.Need-returns-2 Inv-loop μ-loop
-returns-2 c = last-none _ _ _ (c .before .loop .inv .1) (c .loop-test .left)
+returns-2 c = last-known _ _ _ _ (c .before .before .before .loop .inv .0) (c .before .before .before .loop .inv .1) (c .last-each2 .ensures)
+
+spaceless-block-requires-2 : tie.Need-spaceless-block-requires-2 Inv-loop μ-loop
+spaceless-block-requires-2 c κs = search needs
+
+returns-3 : tie.Need-returns-3 Inv-loop μ-loop
+returns-3 c = first-block _ _ _ (c .before .before .before .before .loop .inv .1) (c .before .before .before .loop-test .left) (c .before .spaceless-block2 .ensures (c .if3 .taken))
+
+last-each-requires-3 : tie.Need-last-each-requires-3 Inv-loop μ-loop
+last-each-requires-3 c κs = search needs
+
+returns-4 : tie.Need-returns-4 Inv-loop μ-loop
+returns-4 c = last-known _ _ _ _ (c .before .before .before .before .before .loop .inv .0) (c .before .before .before .before .before .loop .inv .1) (c .last-each3 .ensures)
 
 pub last-to-spec : {M : Type 1} → statement M
 last-to-spec =
@@ -43,10 +56,14 @@ last-to-spec =
     Inv-loop
     μ-loop
     loop-holds
-    sub-if1
-    shared-slice-read-if1
+    spaceless-block-requires
+    last-each-requires
     returns
-    sub-i
     loop-less
     loop-again
-    returns-2)
+    last-each-requires-2
+    returns-2
+    spaceless-block-requires-2
+    returns-3
+    last-each-requires-3
+    returns-4)

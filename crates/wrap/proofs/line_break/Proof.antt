@@ -1,5 +1,5 @@
 -- `wrap::line_break` meets its contract.
-use Rattle.wrap.specs.Plain.{plain-whole, plain-full}
+use Rattle.wrap.specs.Plain.{plain-whole, plain-full, scanned}
 use Prim.Native.Nat.{_-_}
 use mathlib.Core.Path.{_≡_}
 use lib.ListN.{length}
@@ -13,7 +13,7 @@ line-scan-requires : tie.Need-line-scan-requires
 line-scan-requires c κs = search needs
 
 returns : tie.Need-returns
-returns c = search needs
+returns c = scanned (c .line-scan .ensures)
 
 plain-run-requires : tie.Need-plain-run-requires
 plain-run-requires c κs = search needs
@@ -54,13 +54,13 @@ returns-5 : tie.Need-returns-5
 returns-5 c =
     let room = c .before .before .before .before .before .before .before .before .before .before .args .width - c .before .before .before .before .before .before .before .before .before .before .args .taken in
     let e : c .before .before .before .before .before .before .plain-run2 .result ≡ room = omega (arith, c .before .before .before .before .before .before .plain-run2 .ensures .most) in
-    plain-full _ _ _ room _ _ _ (omega arith) (omega arith) (rw e at (c .before .before .before .before .before .before .plain-run2 .ensures .is)) (omega arith) (c .before .last-to .ensures .is) (c .full .ensures)
+    plain-full _ _ _ room _ _ _ (omega arith) (omega arith) (rw e at (c .before .before .before .before .before .before .plain-run2 .ensures .is)) (omega arith) (c .before .last-to .ensures) (c .full .ensures)
 
 line-scan-requires-2 : tie.Need-line-scan-requires-2
 line-scan-requires-2 c κs = search needs
 
 returns-6 : tie.Need-returns-6
-returns-6 c = search needs
+returns-6 c = scanned (c .line-scan2 .ensures)
 
 pub line-break-spec : {M : Type 1} → statement M
 line-break-spec =

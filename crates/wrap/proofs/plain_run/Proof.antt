@@ -1,7 +1,7 @@
 -- `wrap::plain_run` meets its contract.
 use mathlib.Core.Bool.{true}
 use borrow.Author.Tests.{not-false}
-use Rattle.wrap.specs.Plain.{plainTo}
+use Rattle.wrap.specs.Plain.{plainTo, last-block}
 use Prim.Native.Nat.{_-_, _≤_}
 use mathlib.Core.Path.{_≡_, refl}
 use native.Mathlib.Omega.{arith}
@@ -45,6 +45,18 @@ plain-from-requires-2 c κs = search needs
 returns-2 : tie.Need-returns-2 Inv-loop μ-loop
 returns-2 c = search needs
 
+plain-block-requires-2 : tie.Need-plain-block-requires-2 Inv-loop μ-loop
+plain-block-requires-2 c κs = search needs
+
+returns-3 : tie.Need-returns-3 Inv-loop μ-loop
+returns-3 c = last-block _ (c .before .before .before .before .loop .i) _ (c .before .before .if2 .left) (c .before .before .before .loop-test .left) (c .before .before .before .before .loop .inv .1) (c .before .plain-block2 .ensures (c .if3 .taken))
+
+plain-from-requires-3 : tie.Need-plain-from-requires-3 Inv-loop μ-loop
+plain-from-requires-3 c κs = search needs
+
+returns-4 : tie.Need-returns-4 Inv-loop μ-loop
+returns-4 c = search needs
+
 pub plain-run-spec : {M : Type 1} → statement M
 plain-run-spec =
     tie.close
@@ -60,4 +72,8 @@ plain-run-spec =
     loop-less
     loop-again
     plain-from-requires-2
-    returns-2)
+    returns-2
+    plain-block-requires-2
+    returns-3
+    plain-from-requires-3
+    returns-4)

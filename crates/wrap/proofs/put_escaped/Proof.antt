@@ -6,26 +6,23 @@ use borrow.Author.Needs.{needs}
 use Rattle.wrap.proofs.put_escaped.Statement.{statement}
 use Rattle.wrap.proofs.put_escaped.Tie as tie
 
-plain-run-requires : tie.Need-plain-run-requires
-plain-run-requires c κs = search needs
-
-put-each-shown-requires : tie.Need-put-each-shown-requires
-put-each-shown-requires c κs = search needs
+put-bytes-requires : tie.Need-put-bytes-requires
+put-bytes-requires c κs = search needs
 
 same-length : tie.Need-same-length
 same-length c = search needs
 
 returns : tie.Need-returns
-returns c = search needs
+returns c = writes-as (escape-plain _ _ (c .before .before .before .before .before .before .before .pre (c .before .before .before .before .if1 .taken))) (c .before .before .put-bytes .ensures)
 
-put-bytes-requires : tie.Need-put-bytes-requires
-put-bytes-requires c κs = search needs
+put-each-shown-requires : tie.Need-put-each-shown-requires
+put-each-shown-requires c κs = search needs
 
 same-length-2 : tie.Need-same-length-2
 same-length-2 c = search needs
 
 returns-2 : tie.Need-returns-2
-returns-2 c = simp (c .before .before .before .before .before .before .if1 .taken) (writes-as (escape-plain _ _ (c .before .before .before .before .before .plain-run .ensures) (c .before .before .before .before .if2 .left)) (c .before .before .put-bytes .ensures))
+returns-2 c = search needs
 
 put-bytes-requires-2 : tie.Need-put-bytes-requires-2
 put-bytes-requires-2 c κs = search needs
@@ -34,17 +31,16 @@ same-length-3 : tie.Need-same-length-3
 same-length-3 c = search needs
 
 returns-3 : tie.Need-returns-3
-returns-3 c = simp (c .before .before .before .before .if1 .left) (writes-as (escape-bare _) (c .before .before .put-bytes2 .ensures))
+returns-3 c = simp (c .before .before .before .before .if2 .left) (writes-as (escape-bare _) (c .before .before .put-bytes2 .ensures))
 
 pub put-escaped-spec : {M : Type 1} → statement M
 put-escaped-spec =
     tie.close
     (tie.spec
-    plain-run-requires
-    put-each-shown-requires
+    put-bytes-requires
     same-length
     returns
-    put-bytes-requires
+    put-each-shown-requires
     same-length-2
     returns-2
     put-bytes-requires-2

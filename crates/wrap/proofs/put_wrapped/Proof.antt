@@ -7,6 +7,7 @@ use lib.Dec.{eqb}
 use Rattle.format.specs.Bytes.{pick}
 use Rattle.format.specs.Wrap.{wrapped}
 use Rattle.wrap.specs.Loop.{TextLeft, text-start, text-turn, text-done, text-falls}
+use Rattle.wrap.specs.Plain.{line-plain}
 use borrow.Author.Needs.{needs}
 use Rattle.wrap.proofs.put_wrapped.Statement.{statement}
 use Rattle.wrap.proofs.put_wrapped.Tie as tie
@@ -50,7 +51,7 @@ part-put-escaped-end : tie.Need-part-put-escaped-end Inv-loop μ-loop
 part-put-escaped-end c = search needs
 
 put-escaped-requires : tie.Need-put-escaped-requires Inv-loop μ-loop
-put-escaped-requires c κs = search needs
+put-escaped-requires c κs = line-plain (now (c .before .before .before .before .before .before .before .before .before .args .text)) (c .before .before .before .before .before .before .loop .from) (c .before .before .before .before .before .before .loop .inv .0) (c .before .before .before .before .line-break .ensures)
 
 sub-leaves-one : tie.Need-sub-leaves-one Inv-loop μ-loop
 sub-leaves-one c = search needs
@@ -65,20 +66,20 @@ same-length : tie.Need-same-length Inv-loop μ-loop
 same-length c = search needs
 
 returns : tie.Need-returns Inv-loop μ-loop
-returns c = text-done (now (c .before .before .before .before .before .before .before .before .before .before .before .before .before .before .before .before .before .before .args .text)) (c .before .before .before .before .before .before .before .before .before .before .before .before .before .before .before .loop .from) (c .before .before .before .before .before .before .before .before .before .before .before .before .before .before .before .loop .inv .3) (c .before .before .before .before .before .before .before .before .before .before .before .before .before .before .before .loop .inv .0) (c .before .before .before .before .before .before .before .before .before .before .before .before .before .line-break .ensures) (c .before .before .before .before .before .if1 .taken) (c .before .before .before .before .before .before .before .before .put-escaped .ensures) (c .before .before .before .leaves-one .ensures) (c .before .before .put-closing .ensures)
+returns c = text-done (now (c .before .before .before .before .before .before .before .before .before .before .before .before .before .before .before .before .before .before .args .text)) (c .before .before .before .before .before .before .before .before .before .before .before .before .before .before .before .loop .from) (c .before .before .before .before .before .before .before .before .before .before .before .before .before .before .before .loop .inv .3) (c .before .before .before .before .before .before .before .before .before .before .before .before .before .before .before .loop .inv .0) (c .before .before .before .before .before .before .before .before .before .before .before .before .before .line-break .ensures .line) (c .before .before .before .before .before .if1 .taken) (c .before .before .before .before .before .before .before .before .put-escaped .ensures) (c .before .before .before .leaves-one .ensures) (c .before .before .put-closing .ensures)
 
 put-break-requires : tie.Need-put-break-requires Inv-loop μ-loop
 put-break-requires c κs = search needs
 
 loop-less : tie.Need-loop-less Inv-loop μ-loop
-loop-less c = text-falls (c .before .before .before .before .before .before .before .before .before .before .before .before .before .before .before .before .before .args .indent) (now (c .before .before .before .before .before .before .before .before .before .before .before .before .before .before .before .before .before .args .text)) (c .before .before .before .before .before .before .before .before .before .before .before .before .before .before .loop .from) (search needs) (c .before .before .before .before .before .before .before .before .before .before .before .before .before .before .loop .inv .0) (c .before .before .before .before .before .before .before .before .before .before .before .before .line-break .ensures) (c .before .before .before .before .if1 .left)
+loop-less c = text-falls (c .before .before .before .before .before .before .before .before .before .before .before .before .before .before .before .before .before .args .indent) (now (c .before .before .before .before .before .before .before .before .before .before .before .before .before .before .before .before .before .args .text)) (c .before .before .before .before .before .before .before .before .before .before .before .before .before .before .loop .from) (search needs) (c .before .before .before .before .before .before .before .before .before .before .before .before .before .before .loop .inv .0) (c .before .before .before .before .before .before .before .before .before .before .before .before .line-break .ensures .line) (c .before .before .before .before .if1 .left)
 
 loop-again : tie.Need-loop-again Inv-loop μ-loop
 loop-again c = (
   search needs,
   search needs,
   search needs,
-  text-turn (now (c .before .before .before .before .before .before .before .before .before .before .before .before .before .before .before .before .before .args .text)) (c .before .before .before .before .before .before .before .before .before .before .before .before .before .before .loop .from) (c .before .before .before .before .before .before .before .before .before .before .before .before .before .before .loop .inv .3) (c .before .before .before .before .before .before .before .before .before .before .before .before .before .before .loop .inv .0) (search needs) (c .before .before .before .before .before .before .before .before .before .before .before .before .line-break .ensures) (c .before .before .before .before .if1 .left) (c .before .before .before .before .before .before .before .put-escaped .ensures) (c .before .before .put-break .ensures),
+  text-turn (now (c .before .before .before .before .before .before .before .before .before .before .before .before .before .before .before .before .before .args .text)) (c .before .before .before .before .before .before .before .before .before .before .before .before .before .before .loop .from) (c .before .before .before .before .before .before .before .before .before .before .before .before .before .before .loop .inv .3) (c .before .before .before .before .before .before .before .before .before .before .before .before .before .before .loop .inv .0) (search needs) (c .before .before .before .before .before .before .before .before .before .before .before .before .line-break .ensures .line) (c .before .before .before .before .if1 .left) (c .before .before .before .before .before .before .before .put-escaped .ensures) (c .before .before .put-break .ensures),
 )
 
 pub put-wrapped-spec : {M : Type 1} → statement M
