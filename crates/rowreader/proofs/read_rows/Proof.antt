@@ -150,6 +150,7 @@ module _ {M : Type 1} (𝓤 : URA M) (H : Heap 𝓤) (A : Atoms 𝓤) (W : Given
   abbrev Bytes : Fml
   Bytes = ShrSlice (named 0) κ₀ u8 .own s (v₁ ∷ [])
 
+  -- the borrow of texts, under the name δ at the list l
   abbrev texts : GName → List ℕ → RefT (List ℕ)
   texts δ l = record { ptr = tx .ptr; name = δ; now = l }
 
