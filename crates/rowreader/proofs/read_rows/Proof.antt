@@ -150,6 +150,7 @@ module _ {M : Type 1} (𝓤 : URA M) (H : Heap 𝓤) (A : Atoms 𝓤) (W : Given
   abbrev Bytes : Fml
   Bytes = ShrSlice (named 0) κ₀ u8 .own s (v₁ ∷ [])
 
+  -- the borrow of texts, under the name δ at the list l
   abbrev texts : GName → List ℕ → RefT (List ℕ)
   texts δ l = record { ptr = tx .ptr; name = δ; now = l }
 
@@ -398,7 +399,7 @@ module _ {M : Type 1} (𝓤 : URA M) (H : Heap 𝓤) (A : Atoms 𝓤) (W : Given
         assigns ! (agg ! (and-then ! (load ! (from ! (stop !)) (look ! 14 refl)) (and-then ! (load ! (from ! (fld ! refl (stop !))) (look-in ! 48 (sub ! 1 refl (whole !)))) (no-more !)))) (from ! (stop !)) (init ! 12 refl (tt, (tt, (record { fits = fits₅ }, tt)))) $
         move ! (9 ∷ []) $ use1 W (‵ Bytes ⊛ ‵ Bytes) (shr-slice-copy 𝓤 H A W (named 0) κ₀ u8 .twice s (v₁ ∷ [])) $ split ! $ nothing ! $ move ! (8 ∷ 7 ∷ 10 ∷ 11 ∷ 0 ∷ []) $ group ! 5 $ move ! (0 ∷ 1 ∷ 6 ∷ 8 ∷ 9 ∷ []) $ group ! 5 $ use1 W (raw (Fill 𝓤 H A mem run .pre (to-fill (z .t) p))) (goes-fill (z .t) p (fields .0 .1) (fields .1 .0 .1) (fields .1 .1 .0 .1) (e .fits)) $
         -- [pre; bytes; the letters' last list; the comments'; the references'; the others' tokens; _25 at 6; …; _16 at 24; …; _9 at 38; …; _1 at 54; _0 at 56]
-        calls-at ! fm (Fill 𝓤 H A mem run) known-fill (to-fill (z .t) p) (and-then ! (load ! (from ! (stop !)) (look ! 54 refl)) (and-then ! (load ! (from ! (fld ! refl (stop !))) (look-in ! 38 (sub ! 0 refl (whole !)))) (and-then ! (load ! (from ! (fld ! refl (stop !))) (look-in ! 38 (sub ! 2 refl (whole !)))) (and-then ! (load ! (from ! (stop !)) (look ! 14 refl)) (and-then ! (load ! (from ! (fld ! refl (stop !))) (look-in ! 38 (sub ! 1 refl (whole !)))) (and-then ! (load ! (from ! (stop !)) (look ! 10 refl)) (and-then ! (load ! (from ! (stop !)) (look ! 6 refl)) (no-more !)))))))) (λ u.
+        calls-at ! fm (Fill 𝓤 H A mem run) known-fill (to-fill (z .t) p) (and-then ! (load ! (from ! (stop !)) (look ! 54 refl)) (and-then ! (load ! (from ! (fld ! {τ = tyInt w64} {d = 0} refl (stop !))) (look-in ! 38 (sub ! 0 {τ = tyInt w64} {d = 0} refl (whole !)))) (and-then ! (load ! (from ! (fld ! {τ = tyInt w64} {d = 16} refl (stop !))) (look-in ! 38 (sub ! 2 {τ = tyInt w64} {d = 16} refl (whole !)))) (and-then ! (load ! (from ! (stop !)) (look ! 14 refl)) (and-then ! (load ! (from ! (fld ! {τ = tyInt w64} {d = 8} refl (stop !))) (look-in ! 38 (sub ! 1 {τ = tyInt w64} {d = 8} refl (whole !)))) (and-then ! (load ! (from ! (stop !)) (look ! 10 refl)) (and-then ! (load ! (from ! (stop !)) (look ! 6 refl)) (no-more !)))))))) (λ u.
         use1 W (later (some (λ (r : ℕ). (Four ⊛ ‵ (usize .own r (u ∷ []))) ⊛ raw (ensured 𝓤 H A fill.ended (fill.clauses 𝓤 H A mem run) fill-lfts (fill-args (z .t) p) tt r)))) (id⊢ 𝓤 _) $ await ! tt $ pick ! (λ r.
         split ! $ move ! (1 ∷ []) $ use1 W (some (λ (ws : Unit {0} × (Unit {0} × (Unit {0} × (List ℕ × (Unit {0} × (List Feature × (List ℕ × Unit {0}))))))). ‵ (lasts fill.ended fill-lfts (fill-args (z .t) p) ws) ⊛ raw (fact 𝓤 (FeaturesPut (p .place) (Left p) (z .t) (ws .1 .1 .1 .0) (flat (rw .now)) (flat (ws .1 .1 .1 .1 .1 .0)) (ql .now) (ws .1 .1 .1 .1 .1 .1 .0) r)))) (id⊢ 𝓤 _) $ pick ! (λ ws.
         split ! $ move ! (1 ∷ []) $ heard ! (FeaturesPut (p .place) (Left p) (z .t) (ws .1 .1 .1 .0) (flat (rw .now)) (flat (ws .1 .1 .1 .1 .1 .0)) (ql .now) (ws .1 .1 .1 .1 .1 .1 .0) r) (λ e′.
