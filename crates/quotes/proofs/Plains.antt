@@ -10,7 +10,6 @@ use borrow.Author.Tests.{eq-eqb, ne-eqb, eqb-true, lt-ltb, le-ltb, ltb-true}
 use lib.Dec.{eqb, ltb}
 use lib.ListN.{length, getD, drop, drop-of-length-le}
 use lib.Seq.{drop-cons}
-use Rattle.format.specs.Bytes.{all}
 use Rattle.format.specs.Readers.{Ans, Got, No, Cut, tag, Turn, more, end}
 use Rattle.format.specs.Features.{special, escape, quotedEnd, quotedTurn}
 use Rattle.laws.specs.Loops.{end-more}
@@ -20,7 +19,7 @@ use Rattle.chars.specs.Parts.{part-none, part-snoc, part-append}
 use Rattle.utf8.specs.States.{ascii}
 use Rattle.utf8.specs.Every.{all-on}
 use Rattle.pieces.specs.Taken.{taken, taken-more}
-use Rattle.quotes.specs.Escapes.{Runs, Known, AsciiRuns, Onward, Plain, PlainRun}
+use Rattle.quotes.specs.Escapes.{Runs, AsciiRuns, Onward, Plain, PlainRun}
 
 pub ruleset tests = (eq-eqb, ne-eqb, lt-ltb, le-ltb)
 

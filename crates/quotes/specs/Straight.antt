@@ -11,7 +11,7 @@ use lib.Dec.{eqb}
 use lib.ListN.{length, take, drop, length-append, length-drop}
 use lib.Seq.{take-append-add, drop-drop}
 use Rattle.format.specs.Bytes.{pick, bytes, spaces}
-use Rattle.format.specs.Readers.{Ans, Got, No, Cut, bind, mapped, orElse, passing, utf8Of, tag, lineFeed, lineEnd, Turn, more, stop, members, end, loop}
+use Rattle.format.specs.Readers.{Ans, Got, No, Cut, bind, mapped, orElse, passing, utf8Of, tag, lineFeed, lineEnd, Turn, more, stop, end}
 use Rattle.format.specs.Utf8.{utf8}
 use Rattle.format.specs.Features.{special, escape, escaped, quotedEnd, quotedTurn, quoted}
 use Rattle.laws.specs.Loops.{end-more, end-stop, end-no, end-cut}
@@ -19,12 +19,21 @@ use Rattle.laws.specs.Shrinks.{past-here, past-byte, past-then, past-drop, Leav
 use Rattle.pieces.specs.Taken.{taken, taken-more, taken-stop}
 use Rattle.quotes.specs.Escapes.{closing, quotedText}
 
+no-got : {A : Type 0} {a : A} {r : List ℕ} → No ≡ Got a r → ⊥
+no-got e = let z : _≡_ {A = ℕ} 0 1 = cc in omega arith
+
+cut-got : {A : Type 0} {a : A} {r : List ℕ} → Cut ≡ Got a r → ⊥
+cut-got e = let z : _≡_ {A = ℕ} 0 1 = cc in omega arith
+
+stop-more : {A : Type 0} {a : A} {r w : List ℕ} → Got stop w ≡ Got (more a) r → ⊥
+stop-more e = let z : _≡_ {A = ℕ} 0 1 = cc in omega arith
+
 -- ---- one turn
 
 -- the text a comes from bytes of z, r is what is left of them, and where a is as long as those bytes it is those bytes
-pub record Longer (z a r : List ℕ) : Type 0 where
-  pub most : length a + length r ≤ length z
-  pub same : length a + length r ≡ length z → z ≡ a ++ r
+record Longer (z a r : List ℕ) : Type 0 where
+  most : length a + length r ≤ length z
+  same : length a + length r ≡ length z → z ≡ a ++ r
 
 record EscapeLonger (z : List ℕ) (o : Ans ℕ) : Type 0 where
   got : (c : ℕ) (r : List ℕ) → o ≡ Got c r → Longer z (c ∷ []) r
@@ -48,7 +57,7 @@ longer-or {z} {x} {y} h g = go x h
     go : (x : Ans ℕ) → EscapeLonger z x → EscapeLonger z (orElse x y)
     go (Got a r) h = h
     go No h = g
-    go Cut h = record { got = λ c r e. let z : _≡_ {A = ℕ} 0 1 = cc in absurd (omega arith) }
+    go Cut h = record { got = λ c r e. absurd (cut-got e) }
 
 line-feed : (b : ℕ) (s : List ℕ) → Leaves 2 (b ∷ s) (lineFeed s)
 line-feed b [] = leaves-cut 2 (b ∷ [])
@@ -57,7 +66,7 @@ line-feed b (c ∷ s) = leaves-pick (eqb c 10) (leaves-got 2 (b ∷ c ∷ s) [] 
 -- a LF with no indent after it stands for itself
 feed-longer : (indent : ℕ) (z : List ℕ) → EscapeLonger z (bind (lineEnd z) λ _ s. mapped (λ _. 10) (tag (spaces indent) s))
 unfolding lineEnd
-feed-longer indent [] = record { got = λ c r e. let z : _≡_ {A = ℕ} 0 1 = cc in absurd (omega arith) }
+feed-longer indent [] = record { got = λ c r e. absurd (cut-got e) }
 feed-longer indent (b ∷ s) = go (eqb b 10) refl (eqb b 13) refl
   where
     here : b ≡ 10 → (o : Ans Unit) → Leaves 0 s o → EscapeLonger (b ∷ s) (mapped (λ _. 10) o)
@@ -76,16 +85,15 @@ feed-longer indent (b ∷ s) = go (eqb b 10) refl (eqb b 13) refl
                     let v : w ≡ s = past-drop 0 s w p ∙ rw d in cc;
               };
         }
-    here q No h = record { got = λ c r e. let z : _≡_ {A = ℕ} 0 1 = cc in absurd (omega arith) }
-    here q Cut h = record { got = λ c r e. let z : _≡_ {A = ℕ} 0 1 = cc in absurd (omega arith) }
+    here q No h = record { got = λ c r e. absurd (no-got e) }
+    here q Cut h = record { got = λ c r e. absurd (cut-got e) }
 
     go : (x : Bool) → eqb b 10 ≡ x → (y : Bool) → eqb b 13 ≡ y → EscapeLonger (b ∷ s) (bind (lineEnd (b ∷ s)) λ _ s. mapped (λ _. 10) (tag (spaces indent) s))
     go true e y f = rw (lineEnd, e) (here (eqb-true b 10 e) (tag (spaces indent) s) (tag-loose (spaces indent) s))
     go false e true f =
         rw (lineEnd, e, f)
-        (longer-two
-        (leaves-first (line-feed b s) (λ _ s. leaves-mapped (λ _. 10) (tag-loose (spaces indent) s))))
-    go false e false f = rw (lineEnd, e, f) (record { got = λ c r e. let z : _≡_ {A = ℕ} 0 1 = cc in absurd (omega arith) })
+        (longer-two (leaves-first (line-feed b s) (λ _ s. leaves-mapped (λ _. 10) (tag-loose (spaces indent) s))))
+    go false e false f = rw (lineEnd, e, f) (record { got = λ c r e. absurd (no-got e) })
 
 escape-longer : (indent : ℕ) (z : List ℕ) → EscapeLonger z (escape indent z)
 unfolding escape
@@ -115,27 +123,23 @@ unfolding closing
 closing-off z = leaves-both (tag-leaves (bytes "\"") z) (λ _ r. leaves-mapped (λ _. stop) (end-takes r))
 
 stop-only : (a r : List ℕ) (o : Ans (List ℕ)) → mapped (λ _. stop) o ≡ Got (more a) r → ⊥
-stop-only a r (Got u w) e = let z : _≡_ {A = ℕ} 0 1 = cc in omega arith
-stop-only a r No e = let z : _≡_ {A = ℕ} 0 1 = cc in omega arith
-stop-only a r Cut e = let z : _≡_ {A = ℕ} 0 1 = cc in omega arith
+stop-only a r (Got u w) e = stop-more e
+stop-only a r No e = no-got e
+stop-only a r Cut e = cut-got e
 
 closing-only : (a r : List ℕ) (o : Ans Unit) → bind o (λ _ r. mapped (λ _. stop) (lineEnd r)) ≡ Got (more a) r → ⊥
 closing-only a r (Got u w) e = stop-only a r (lineEnd w) e
-closing-only a r No e = let z : _≡_ {A = ℕ} 0 1 = cc in omega arith
-closing-only a r Cut e = let z : _≡_ {A = ℕ} 0 1 = cc in omega arith
+closing-only a r No e = no-got e
+closing-only a r Cut e = cut-got e
 
 turn-cut : (z : List ℕ) → TurnLonger z Cut
-turn-cut z =
-    record {
-      on = λ a r e. let z : _≡_ {A = ℕ} 0 1 = cc in absurd (omega arith);
-      off = λ r e. let z : _≡_ {A = ℕ} 0 1 = cc in absurd (omega arith);
-    }
+turn-cut z = record { on = λ a r e. absurd (cut-got e); off = λ r e. absurd (cut-got e) }
 
 turn-more : (z b w : List ℕ) → Longer z b w → TurnLonger z (Got (more b) w)
 turn-more z b w h =
     record {
       on = λ a r e. let f : b ≡ a = cc in let g : w ≡ r = cc in rw (f, g) at h;
-      off = λ r e. let z : _≡_ {A = ℕ} 0 1 = cc in absurd (omega arith);
+      off = λ r e. absurd (stop-more (sym e));
     }
 
 turn-longer : (joined : Bool) (indent : ℕ) (z : List ℕ) → TurnLonger z (quotedTurn joined indent z)
@@ -163,20 +167,27 @@ record Tight (z t w : List ℕ) : Type 0 where
   most : 2 + length t + length w ≤ length z
   same : 2 + length t + length w ≡ length z → take (length t) z ≡ t
 
-module _ (joined : Bool) (indent : ℕ) where
-  tight-more : (z a r w t u : List ℕ) → u ≡ a ++ t → Longer z a r → Tight r t w → Tight z u w
-  tight-more z a r w t u e h g =
-      let l : length u ≡ length a + length t = ap length e ∙ length-append a t in
-      let p = h .most in
-      let q = g .most in
-      record {
-        most = omega arith;
-        same = λ f.
-            let x : z ≡ a ++ r = h .same (omega arith) in
-            let y : take (length t) r ≡ t = g .same (omega arith) in
-            rw (l, x, take-append-add a r (length t), y) (sym e);
-      }
+tight-more : (z a r w t u : List ℕ) → u ≡ a ++ t → Longer z a r → Tight r t w → Tight z u w
+tight-more z a r w t u e h g =
+    let l : length u ≡ length a + length t = ap length e ∙ length-append a t in
+    let p = h .most in
+    let q = g .most in
+    record {
+      most = omega arith;
+      same = λ f.
+          let x : z ≡ a ++ r = h .same (omega arith) in
+          let y : take (length t) r ≡ t = g .same (omega arith) in
+          rw (l, x, take-append-add a r (length t), y) (sym e);
+    }
 
+passed : (p : List ℕ → Bool) (t u w r : List ℕ) → passing p (Got u r) ≡ Got t w → r ≡ w
+passed p t u w r e = go (p u) e
+  where
+    go : (x : Bool) → pick x (Got u r) No ≡ Got t w → r ≡ w
+    go true e = cc
+    go false e = absurd (no-got e)
+
+module _ (joined : Bool) (indent : ℕ) where
   tight : (n : ℕ) (z w : List ℕ) → length z < n → end (quotedTurn joined indent) z ≡ Got tt w → Tight z (taken (quotedTurn joined indent) z) w
   tight zero z w h e = absurd (not-suc-le-zero h)
   tight (suc n) z w h e = go (λ r. tight n r w) (quotedTurn joined indent z) refl (turn-longer joined indent z)
@@ -195,22 +206,14 @@ module _ (joined : Bool) (indent : ℕ) where
           let d : length r ≡ length w = ap length m in
           let q = l .off r refl in
           rw (taken-stop (quotedTurn joined indent) z r f) (record { most = omega arith; same = λ x. refl })
-      go ih No f l = let k : No ≡ Got tt w = sym (end-no (quotedTurn joined indent) z f) ∙ e in let z : _≡_ {A = ℕ} 0 1 = cc in absurd (omega arith)
-      go ih Cut f l = let k : Cut ≡ Got tt w = sym (end-cut (quotedTurn joined indent) z f) ∙ e in let z : _≡_ {A = ℕ} 0 1 = cc in absurd (omega arith)
+      go ih No f l = absurd (no-got (sym (end-no (quotedTurn joined indent) z f) ∙ e))
+      go ih Cut f l = absurd (cut-got (sym (end-cut (quotedTurn joined indent) z f) ∙ e))
 
-  -- ---- the whole value
-
-  passed : (p : List ℕ → Bool) (t u w r : List ℕ) → passing p (Got u r) ≡ Got t w → r ≡ w
-  passed p t u w r e = go (p u) e
-    where
-      go : (x : Bool) → pick x (Got u r) No ≡ Got t w → r ≡ w
-      go true e = cc
-      go false e = let z : _≡_ {A = ℕ} 0 1 = cc in absurd (omega arith)
-
+  -- from the opening quote on
   opened : (x t w : List ℕ) → utf8Of (quoted joined indent x) ≡ Got t w → length (quotedText joined indent x) + 3 + length w ≡ length x
       → take (length (quotedText joined indent x)) (drop 1 x) ≡ quotedText joined indent x
   unfolding tag quoted quotedText
-  opened [] t w e l = let z : _≡_ {A = ℕ} 0 1 = cc in absurd (omega arith)
+  opened [] t w e l = absurd (cut-got e)
   opened (b ∷ z) t w e l = go (eqb b 34) refl (end (quotedTurn joined indent) z) refl
     where
       go : (x : Bool) → eqb b 34 ≡ x → (o : Ans Unit) → end (quotedTurn joined indent) z ≡ o
@@ -219,10 +222,11 @@ module _ (joined : Bool) (indent : ℕ) where
           let k : r ≡ w = passed utf8 t _ w r (rw (tag, f, g) at e) in
           let m : length (taken (quotedTurn joined indent) z) + 3 + length w ≡ length (b ∷ z) = rw (tag, f) at l in
           rw (tag, f) (tight (suc (length z)) z w (omega arith) (g ∙ rw k) .same (omega arith))
-      go true f No g = let k : No ≡ Got t w = rw (tag, f, g) at e in let z : _≡_ {A = ℕ} 0 1 = cc in absurd (omega arith)
-      go true f Cut g = let k : Cut ≡ Got t w = rw (tag, f, g) at e in let z : _≡_ {A = ℕ} 0 1 = cc in absurd (omega arith)
-      go false f o g = let k : No ≡ Got t w = rw (tag, f) at e in let z : _≡_ {A = ℕ} 0 1 = cc in absurd (omega arith)
+      go true f No g = absurd (no-got (rw (tag, f, g) at e))
+      go true f Cut g = absurd (cut-got (rw (tag, f, g) at e))
+      go false f o g = absurd (no-got (rw (tag, f) at e))
 
+  -- with places in the slice
   module _ (s : List ℕ) (at n next : ℕ) where
     pub straight : Got (quotedText joined indent (drop at s)) (drop next s) ≡ utf8Of (quoted joined indent (drop at s)) → n ≡ length (quotedText joined indent (drop at s))
         → next ≤ length s → next ≡ at + n + 3 → quotedText joined indent (drop at s) ≡ take n (drop (at + 1) s)
