@@ -15,7 +15,7 @@ use Rattle.chars.specs.Places.{part}
 use Rattle.chars.specs.Parts.{length-part}
 use Rattle.pen.specs.Pen.{Wrote, Writes, wrote-append}
 use Rattle.filling.specs.Filling.{Filling, filling-start, filling-as, filling-step, filling-end, filling-bound}
-use Rattle.values.specs.Reads.{readText}
+use Rattle.values.specs.Reads.{readText, Placed}
 use Rattle.qualifiers.specs.Reads.{qualifierIn, ValueStands, QualifierRead}
 use Rattle.qualifiers.specs.Texts.{absent-text, with-text, texts-more, texts-none}
 use Rattle.qualifiers.specs.Turns.{qualifiersIn, Reached, reached-none, known, one-more, reached-more, reached-less, count-fits, none-stop, none-cut, reached-stop, reached-cut, all-stop, all-cut}
@@ -55,15 +55,15 @@ module _ (k t₀ : List ℕ) (place : ℕ) (t₁ : List ℕ) (start : ℕ) (r₀
             };
       })
 
-module _ (s : List ℕ) (indent first end : ℕ) (joined : Bool) (v : ValueAt) (h : Standing s indent first end joined v) where
-  value-there : (from : ℕ) (quoted : Bool) (n : ℕ) → v ≡ value.With from quoted n → ValueStands s joined indent (value.With from quoted n)
-  value-there from quoted n e = subst (λ (x : ValueAt). ValueStands s joined indent x) e (h .value)
+module _ (s : List ℕ) (indent first end : ℕ) (joined : Bool) (v : ValueAt) (next : ℕ) (h : Standing s indent first end joined v next) where
+  value-there : (from : ℕ) (quoted : Bool) (n : ℕ) → v ≡ value.With from quoted n → ValueStands s joined indent (value.With from quoted n) next
+  value-there from quoted n e = subst (λ (x : ValueAt). ValueStands s joined indent x next) e (h .value)
 
-  pub value-starts : (from : ℕ) (quoted : Bool) (n : ℕ) → v ≡ value.With from quoted n → from ≤ length s
-  value-starts from quoted n e = value-there from quoted n e .0
+  pub value-placed : (from : ℕ) (quoted : Bool) (n : ℕ) → v ≡ value.With from quoted n → Placed s from joined indent quoted n next
+  value-placed from quoted n e = value-there from quoted n e .1
 
   pub value-fits : (from : ℕ) (quoted : Bool) (n : ℕ) → v ≡ value.With from quoted n → n < length s
-  value-fits from quoted n e = value-there from quoted n e .1
+  value-fits from quoted n e = value-there from quoted n e .0
 
   key-long : length (part first end s) ≡ end - first
   key-long = let a = h .key in length-part s first end (omega arith) (h .keyed)
@@ -77,10 +77,10 @@ module _ (s : List ℕ) (indent first end : ℕ) (joined : Bool) (v : ValueAt) (
         → Writes m start (readText quoted joined indent (drop from s)) t₁ stop → Writes r₀ row (place ∷ (end - first) ∷ start ∷ (n + 1) ∷ []) r₁ after
         → PutTwo (piecesText (qualifierPieces (qualifierIn s indent first end joined v))) (piecesRow place (qualifierPieces (qualifierIn s indent first end joined v))) t₀ place t₁ stop r₀ row r₁ after
     put-with from quoted n m stop e w u x =
-        let l : length (readText quoted joined indent (drop from s)) ≡ n = sym (value-there from quoted n e .2) in
+        let l : length (readText quoted joined indent (drop from s)) ≡ n = sym (value-placed from quoted n e .span .long) in
         rw e (with-two (part first end s) t₀ place t₁ start r₀ row r₁ after (readText quoted joined indent (drop from s)) m stop w u (rw (key-long, l) x))
 
-pub ruleset qualifying = (value-starts, put-absent, put-with)
+pub ruleset qualifying = (value-placed, put-absent, put-with)
 
 -- ---- two rooms that are being filled
 
@@ -144,7 +144,7 @@ module _ (s : List ℕ) (at indent : ℕ) (t₀ : List ℕ) (place : ℕ) (r₀ 
   module _ (i : ℕ) (t : List ℕ) (p : ℕ) (r : List ℕ) (q n : ℕ) (o : QualifierAt)
       (g : Putting s at indent t₀ place r₀ row i t p r q n) (h : QualifierRead s i indent (qualifier indent (drop i s)) o) where
     module _ (first stop : ℕ) (joined : Bool) (v : ValueAt) (bytes next : ℕ) (e : o ≡ one.Got first stop joined v bytes next) where
-      pub putting-stands : Standing s indent first stop joined v
+      pub putting-stands : Standing s indent first stop joined v next
       putting-stands = let k = known s at indent i n o h first stop joined v bytes next e in record { value = k .stands; key = k .key; keyed = k .keyed }
 
       pub putting-fits : n + 1 ≤ length s

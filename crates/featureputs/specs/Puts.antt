@@ -20,8 +20,8 @@ use Rattle.featureputs.specs.declared.Pens.{Pens}
 -- ---- qualifiers
 
 -- a scanned qualifier
-pub record Standing (s : List ℕ) (indent first end : ℕ) (joined : Bool) (v : ValueAt) : Type 0 where
-  pub value : ValueStands s joined indent v
+pub record Standing (s : List ℕ) (indent first end : ℕ) (joined : Bool) (v : ValueAt) (next : ℕ) : Type 0 where
+  pub value : ValueStands s joined indent v next
   pub key : first < end
   pub keyed : end ≤ length s
 

@@ -37,7 +37,7 @@ pub struct Pens {
     pub count: usize,
 }
 
-// A scanned qualifier: its texts and its row.
+// A scanned qualifier that ends at `next`: its texts and its row.
 fn put_qualifier(
     s: &[u8],
     indent: usize,
@@ -45,12 +45,13 @@ fn put_qualifier(
     end: usize,
     joined: bool,
     value: ValueAt,
+    next: usize,
     texts: &mut [u8],
     place: usize,
     rows: &mut [usize],
     row: usize,
 ) -> Places
-    requires { ⌜ Standing (now s) indent first end joined value ⌝ }
+    requires { ⌜ Standing (now s) indent first end joined value next ⌝ }
     ensures { λ r. ⌜ PutTwo (piecesText (qualifierPieces (qualifierIn (now (s .entry)) indent first end joined value))) (piecesRow place (qualifierPieces (qualifierIn (now (s .entry)) indent first end joined value))) (now (texts .entry)) place (now (texts .exit)) (r .text) (now (rows .entry)) row (now (rows .exit)) (r .row) ⌝ }
 {
     let start = pen::put_part(texts, place, s, first, end);
@@ -67,7 +68,17 @@ fn put_qualifier(
             quoted,
             length,
         } => {
-            let stop = values::put_value(s, from, indent, joined, quoted, texts, start);
+            let stop = values::put_value(
+                s,
+                from,
+                indent,
+                joined,
+                quoted,
+                length,
+                next,
+                texts,
+                start,
+            );
             let after = pen::put_four(rows, row, place, end - first, start, length + 1);
             Places {
                 text: stop,
@@ -104,7 +115,19 @@ fn put_qualifiers(
                 bytes: _,
                 next,
             } => {
-                let put = put_qualifier(s, indent, first, end, joined, value, texts, p, rows, q);
+                let put = put_qualifier(
+                    s,
+                    indent,
+                    first,
+                    end,
+                    joined,
+                    value,
+                    next,
+                    texts,
+                    p,
+                    rows,
+                    q,
+                );
                 p = put.text;
                 q = put.row;
                 n += 1;

@@ -12,8 +12,7 @@ use Rattle.format.specs.Features.{valueOf, qualifier}
 use Rattle.format.specs.Rooms.{piecesText, qualifierPieces, textsOf}
 use Rattle.chars.specs.Places.{part}
 use Rattle.chars.specs.Parts.{length-part}
-use Rattle.pieces.specs.Views.{Span}
-use Rattle.values.specs.Reads.{readText}
+use Rattle.values.specs.Reads.{readText, Placed}
 use Rattle.tails.specs.Tails.{valueOfWith, value-of-with, tailOf, PastTail, TailIs}
 use Rattle.tails.specs.declared.Tail.{Tail}
 use Rattle.tails.specs.declared.Tail.the-variants as tail
@@ -87,7 +86,7 @@ module _ (s : List ℕ) (at indent first end : ℕ) (joined : Bool) (r : Tail)
   qualifier-with from quoted n next e =
       let q = tail-place (tail.With from quoted n next) e in
       let g : end ≤ from = q .0 in
-      let z : Span s from (readText quoted joined indent (drop from s)) n next = q .1 in
+      let w : Placed s from joined indent quoted n next = q .1 in let z = w .span in
       let a = z .from in let b = z .within in let l = z .long in let m = z .short in
       let f : first ≤ end = omega arith in
       let k : length (part first end s) ≡ end - first = length-part s first end f (p .2) in
@@ -95,7 +94,7 @@ module _ (s : List ℕ) (at indent first end : ℕ) (joined : Bool) (r : Tail)
         is =
             record {
               is = rw (tail-is (tail.With from quoted n next) e);
-              stands = (omega arith, omega arith, l);
+              stands = (omega arith, w);
               sized = omega (arith, with-length (part first end s) (readText quoted joined indent (drop from s)));
               key = p .1;
               keyed = p .2;
@@ -108,7 +107,7 @@ module _ (s : List ℕ) (at indent first end : ℕ) (joined : Bool) (r : Tail)
   value-fits from quoted n next e =
       let q = tail-place (tail.With from quoted n next) e in
       let g : end ≤ from = q .0 in
-      let z : Span s from (readText quoted joined indent (drop from s)) n next = q .1 in
+      let w : Placed s from joined indent quoted n next = q .1 in let z = w .span in
       let a = z .from in let b = z .within in let m = z .short in
       omega arith
 

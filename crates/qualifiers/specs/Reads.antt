@@ -9,7 +9,7 @@ use Rattle.format.specs.Table.{Qualifier}
 use Rattle.format.specs.Readers.{Ans, Got, No, Cut}
 use Rattle.format.specs.Rooms.{piecesText, qualifierPieces, textsOf}
 use Rattle.chars.specs.Places.{part}
-use Rattle.values.specs.Reads.{readText}
+use Rattle.values.specs.Reads.{readText, Placed}
 use Rattle.qualifiers.specs.declared.ValueAt.{ValueAt}
 use Rattle.qualifiers.specs.declared.ValueAt.the-variants as value
 use Rattle.qualifiers.specs.declared.QualifierAt.{QualifierAt}
@@ -22,9 +22,10 @@ abbrev pub valueText : List ℕ → Bool → ℕ → ValueAt → May (List ℕ)
 valueText s joined indent value.Absent = absent
 valueText s joined indent (value.With from quoted n) = is (readText quoted joined indent (drop from s))
 
-abbrev pub ValueStands : List ℕ → Bool → ℕ → ValueAt → Type 0
-ValueStands s joined indent value.Absent = Unit
-ValueStands s joined indent (value.With from quoted n) = (from ≤ length s) × (n < length s) × (n ≡ length (readText quoted joined indent (drop from s)))
+-- and ends at `next`
+abbrev pub ValueStands : List ℕ → Bool → ℕ → ValueAt → ℕ → Type 0
+ValueStands s joined indent value.Absent next = Unit
+ValueStands s joined indent (value.With from quoted n) next = (n < length s) × Placed s from joined indent quoted n next
 
 -- the qualifier that stands in the slice s
 abbrev pub qualifierIn : List ℕ → ℕ → ℕ → ℕ → Bool → ValueAt → Qualifier
@@ -32,7 +33,7 @@ qualifierIn s indent first end joined v = record { key = part first end s; value
 
 pub record QualifierKnown (s : List ℕ) (at indent : ℕ) (o : Ans Qualifier) (first end : ℕ) (joined : Bool) (v : ValueAt) (bytes next : ℕ) : Type 0 where
   pub is : o ≡ Got (qualifierIn s indent first end joined v) (drop next s)
-  pub stands : ValueStands s joined indent v
+  pub stands : ValueStands s joined indent v next
   pub sized : bytes ≡ length (piecesText (qualifierPieces (qualifierIn s indent first end joined v)))
   pub key : first < end
   pub keyed : end ≤ length s

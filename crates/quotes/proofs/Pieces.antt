@@ -13,6 +13,8 @@ use Rattle.chars.specs.Places.{part}
 use Rattle.chars.specs.Parts.{part-snoc}
 use Rattle.chars.specs.Views.{Emptied}
 use Rattle.chars.specs.Sequence.{empty-places}
+use Rattle.utf8.specs.States.{ascii}
+use Rattle.utf8.specs.Every.{all-on}
 use Rattle.chars.specs.declared.Step.{Step}
 use Rattle.chars.specs.declared.Step.the-variants as step
 use Rattle.pieces.specs.Taken.{taken, taken-more, taken-stop, taken-no, taken-cut}
@@ -21,7 +23,7 @@ use Rattle.quotes.specs.declared.Escape.the-variants as escape′
 use Rattle.quotes.specs.declared.Turn.{Turn}
 use Rattle.quotes.specs.declared.Turn.the-variants as turn
 use Rattle.quotes.specs.declared.Piece.the-variants as piece
-use Rattle.quotes.specs.Escapes.{QuoteSpan, QuoteStep, Escaped, PastEscape, Plain, closing, Closed, PastTurn, turnOf, Turned, feedText, GoesOn, GoesOff, Pieced}
+use Rattle.quotes.specs.Escapes.{QuoteSpan, QuoteStep, Escaped, PastEscape, Known, Plain, closing, Closed, PastTurn, turnOf, Turned, feedText, GoesOn, GoesOff, Pieced}
 use Rattle.quotes.proofs.Steps.{quote-is, quote-span}
 
 -- ---- the closing quote
@@ -79,7 +81,7 @@ pub ruleset turns = (turn-quote, turn-feed, turn-cut, turn-closing)
 
 -- ---- pieces
 
-module _ (s : List ℕ) (at : ℕ) (joined : Bool) (indent e : ℕ) (r : Turn) (g : Plain s at e) (h : Turned s e indent r) where
+module _ (s : List ℕ) (at : ℕ) (joined : Bool) (indent e : ℕ) (low : Bool) (r : Turn) (g : Plain s at e) (known : Known s at e low) (h : Turned s e indent r) where
   turn-is : (x : Turn) → r ≡ x → quotedTurn joined indent (drop e s) ≡ turnOf s joined x
   turn-is x q = g .turn joined indent ∙ sym (h .is joined) ∙ rw q
 
@@ -94,7 +96,7 @@ module _ (s : List ℕ) (at : ℕ) (joined : Bool) (indent e : ℕ) (r : Turn) (
   went-off : taken (quotedTurn joined indent) (drop e s) ≡ [] → taken (quotedTurn joined indent) (drop at s) ≡ part at e s
   went-off q = g .runs .text joined indent ∙ rw q (append-nil (part at e s))
 
-  pub piece-quote : (n : ℕ) → r ≡ turn.Quote n → Pieced s at joined indent (piece.On (e + 1) false n)
+  pub piece-quote : (n : ℕ) → r ≡ turn.Quote n → Pieced s at joined indent (piece.On (e + 1) false n low)
   piece-quote n q =
       let p : QuoteSpan s e n = turn-place (turn.Quote n) q in
       let a = p .from in let b = p .within in let f = g .runs .from in
@@ -107,6 +109,10 @@ module _ (s : List ℕ) (at : ℕ) (joined : Bool) (indent e : ℕ) (r : Turn) (
               after = omega arith;
               below = b;
               short = omega arith;
+              known =
+                  record {
+                    is = λ z. sym (all-on ascii s at e true true true f k (sym (known .is z)) (rw (p .byte)) refl);
+                  };
               text =
                   went-on (34 ∷ []) n (turn-is (turn.Quote n) q) ∙
                   rw (part-snoc s at e f k, p .byte, append-assoc);
@@ -122,7 +128,7 @@ module _ (s : List ℕ) (at : ℕ) (joined : Bool) (indent e : ℕ) (r : Turn) (
   feed-short true = omega arith
   feed-short false = omega arith
 
-  pub piece-feed : (n : ℕ) → r ≡ turn.Feed n → Pieced s at joined indent (piece.On e (not joined) n)
+  pub piece-feed : (n : ℕ) → r ≡ turn.Feed n → Pieced s at joined indent (piece.On e (not joined) n low)
   piece-feed n q =
       let p : (e < n) × (n ≤ length s) = turn-place (turn.Feed n) q in
       let f = g .runs .from in let l = feed-short (not joined) in
@@ -134,12 +140,13 @@ module _ (s : List ℕ) (at : ℕ) (joined : Bool) (indent e : ℕ) (r : Turn) (
               after = omega arith;
               below = p .1;
               short = omega arith;
+              known = known;
               text = rw (← feed-is joined) (went-on (escaped joined 10) n (turn-is (turn.Feed n) q));
               ends = end-on (quotedTurn joined indent) (drop e s) _ (quotedTurn-small joined indent) (escaped joined 10) (drop n s) (g .runs .ends joined indent) (turn-is (turn.Feed n) q);
             };
       }
 
-  pub piece-stop : (n : ℕ) → r ≡ turn.Stop n → Pieced s at joined indent (piece.Stop e n)
+  pub piece-stop : (n : ℕ) → r ≡ turn.Stop n → Pieced s at joined indent (piece.Stop e n low)
   piece-stop n q =
       let p : (e < n) × (n ≤ length s) = turn-place (turn.Stop n) q in
       record {
@@ -152,6 +159,7 @@ module _ (s : List ℕ) (at : ℕ) (joined : Bool) (indent e : ℕ) (r : Turn) (
           },
           p .0,
           p .1,
+          known,
         );
       }
 

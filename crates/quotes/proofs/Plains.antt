@@ -15,9 +15,11 @@ use Rattle.format.specs.Features.{special, escape, quotedEnd, quotedTurn}
 use Rattle.laws.specs.Loops.{end-more}
 use Rattle.laws.specs.Shrinks.{quotedTurn-small}
 use Rattle.chars.specs.Places.{part}
-use Rattle.chars.specs.Parts.{part-none, part-snoc}
+use Rattle.chars.specs.Parts.{part-none, part-snoc, part-append}
+use Rattle.utf8.specs.States.{ascii}
+use Rattle.utf8.specs.Every.{all-on}
 use Rattle.pieces.specs.Taken.{taken, taken-more}
-use Rattle.quotes.specs.Escapes.{Runs, Onward, Plain}
+use Rattle.quotes.specs.Escapes.{Runs, AsciiRuns, Onward, Plain, PlainRun}
 
 pub ruleset tests = (eq-eqb, ne-eqb, lt-ltb, le-ltb)
 
@@ -75,24 +77,61 @@ ordinary-plain b h = go (ltb 34 b) refl
         rw (ne-eqb b 34 (λ f. omega arith), ne-eqb b 13 (λ f. omega arith), ne-eqb b 10 (λ f. omega arith))
     go false e = let f : eqb b 32 ≡ true = rw e at h in rw (eqb-true b 32 f)
 
+module _ (s : List ℕ) (at : ℕ) where
+  pub ascii-none : at ≤ length s → AsciiRuns s at at
+  ascii-none h = record { runs = runs-none s at h; known = rw (part-none s at at (le-refl at)) }
+
+  module _ (i : ℕ) (g : AsciiRuns s at i) where
+    pub ascii-on : (r : Bool) → i < length s → r ≡ special (getD s i 0) → r ≡ false → getD s i 0 < 128 → AsciiRuns s at (i + 1)
+    ascii-on r h e f l =
+        record {
+          runs = runs-on s at i r (g .runs) h e f;
+          known = sym (all-on ascii s at i true true true (g .runs .from) h (sym (g .known)) (sym (lt-ltb (getD s i 0) 128 l)) refl);
+        }
+
+    pub ascii-stop : (r : Bool) → i < length s → r ≡ special (getD s i 0) → r ≡ true → PlainRun s at (record { end = i; ascii = true })
+    ascii-stop r h e f = record { plain = plain-stop s at i r (g .runs) h e f; known = record { is = λ z. g .known } }
+
+    pub ascii-cut : length s ≤ i → PlainRun s at (record { end = i; ascii = true })
+    ascii-cut h = record { plain = plain-cut s at i (g .runs) h; known = record { is = λ z. g .known } }
+
+    runs-append : (e : ℕ) → Runs s i e → Runs s at e
+    runs-append e h =
+        let a = g .runs .from in let b = h .from in
+        record {
+          from = omega arith;
+          within = h .within;
+          text = λ joined indent. g .runs .text joined indent ∙ rw (h .text joined indent, part-append s at e i a b, append-assoc);
+          ends = λ joined indent. g .runs .ends joined indent ∙ h .ends joined indent;
+        }
+
+    pub ascii-past : (e : ℕ) → Plain s i e → PlainRun s at (record { end = e; ascii = false })
+    ascii-past e h = record { plain = record { runs = runs-append e (h .runs); turn = h .turn }; known = record { is = λ z. cc } }
+
 module _ (s : List ℕ) (i : ℕ) where
   pub onward-none : Onward s i 0 true
   onward-none = record { go = λ e at g. rw (add-zero i) g }
 
-  pub onward-one : (j : ℕ) (a b r : Bool) → i + j < length s → Onward s i j a → b ≡ (ltb 34 (getD s (i + j) 0) || eqb (getD s (i + j) 0) 32) → r ≡ a && b → Onward s i (j + 1) r
-  onward-one j a b r h w m k =
-      let f : i + (j + 1) ≡ i + j + 1 = omega arith in
-      record {
-        go = λ e at g.
-            rw f (runs-on s at (i + j) false (w .go (one a b (sym k ∙ e)) at g) h (sym (ordinary-plain (getD s (i + j) 0) (sym m ∙ two a b (sym k ∙ e)))) refl);
-      }
-    where
-      one : (a b : Bool) → a && b ≡ true → a ≡ true
-      one true b e = refl
-      one false b e = e
+  module _ (j : ℕ) (h : i + j < length s) where
+    pub onward-one : (a b c d r : Bool) → Onward s i j a → b ≡ (ltb 34 (getD s (i + j) 0) || eqb (getD s (i + j) 0) 32) → c ≡ ascii (getD s (i + j) 0) → d ≡ b && c → r ≡ a && d
+        → Onward s i (j + 1) r
+    onward-one a b c d r w m l u k =
+        let f : i + (j + 1) ≡ i + j + 1 = omega arith in
+        record {
+          go = λ e at g.
+              let v : b && c ≡ true = sym u ∙ right a d (sym k ∙ e) in
+              rw f
+              (ascii-on s at (i + j) (w .go (left a d (sym k ∙ e)) at g) false h
+              (sym (ordinary-plain (getD s (i + j) 0) (sym m ∙ left b c v))) refl
+              (ltb-true (getD s (i + j) 0) 128 (sym l ∙ right b c v)));
+        }
+      where
+        left : (a b : Bool) → a && b ≡ true → a ≡ true
+        left true b e = refl
+        left false b e = e
 
-      two : (a b : Bool) → a && b ≡ true → b ≡ true
-      two true b e = e
-      two false b e = cc
+        right : (a b : Bool) → a && b ≡ true → b ≡ true
+        right true b e = e
+        right false b e = cc
 
-pub ruleset plains = (runs-none, runs-on, plain-stop, plain-cut)
+pub ruleset plains = (runs-none, runs-on, plain-stop, plain-cut, ascii-none, ascii-on, ascii-stop, ascii-cut, ascii-past)

@@ -6,6 +6,7 @@ use mathlib.Core.List.{List, [], _∷_, _++_, append-assoc, append-nil}
 use native.Mathlib.Omega.{arith}
 use lib.ListN.{length, drop, length-append}
 use lib.Dec.{eqb}
+use borrow.Author.Tests.{eqb-true}
 use Rattle.format.specs.Utf8.{utf8}
 use Rattle.format.specs.Readers.{Ans, Got, No, Cut, bind, passing, utf8Of, tag, loop, end}
 use Rattle.format.specs.Features.{quotedTurn, quoted}
@@ -18,12 +19,17 @@ use Rattle.pieces.specs.Views.{Span, PastValue, Valued, passing-got, passing-no
 use Rattle.pieces.specs.declared.Value.{Value}
 use Rattle.pieces.specs.declared.Value.the-variants as value
 use Rattle.pen.specs.Pen.{Writes, Left, left-start, writes-append, writes-nil, writes-as}
+use Rattle.utf8.proofs.Chars.{ascii-ran}
 use Rattle.utf8.specs.declared.State.{State}
 use Rattle.utf8.specs.States.{start, Ran, ran-none, ran-append, ran-utf8}
 use Rattle.quotes.specs.declared.Piece.{Piece}
 use Rattle.quotes.specs.declared.Piece.the-variants as piece
-use Rattle.quotes.specs.Escapes.{QuoteStep, feedText, GoesOn, GoesOff, PieceIs, Pieced, quotedText}
+use Rattle.quotes.specs.Escapes.{QuoteStep, Known, feedText, GoesOn, GoesOff, PieceIs, Pieced, quotedText}
 use Rattle.quotes.proofs.Steps.{quote-is, quote-span}
+
+pub known-ran : (s : List ℕ) (from to : ℕ) (low : Bool) (u : State) (ends : Bool) (v : State) → Known s from to low → low ≡ true → ends ≡ eqb (u .more) 0 → ends ≡ true → v ≡ start
+    → Ran u (part from to s) v
+known-ran s from to low u ends v h e k f w = ascii-ran u (part from to s) true v (eqb-true (u .more) 0 (sym k ∙ f)) (sym (h .is e)) refl w
 
 pub fed-none : (u : State) (feed : Bool) → feed ≡ false → Ran u (feedText feed) u
 fed-none u feed e = rw e (ran-none u)
@@ -46,18 +52,21 @@ module _ {s : List ℕ} {at : ℕ} {joined : Bool} {indent : ℕ} {r : Piece} (h
   piece-is {x} e = subst (λ (y : Piece). PieceIs s at joined indent y) e (h .is)
 
 module _ (s : List ℕ) (at : ℕ) (joined : Bool) (indent : ℕ) (r : Piece) (h : Pieced s at joined indent r) where
-  module _ (to : ℕ) (feed : Bool) (next : ℕ) (e : r ≡ piece.On to feed next) where
+  module _ (to : ℕ) (feed : Bool) (next : ℕ) (low : Bool) (e : r ≡ piece.On to feed next low) where
     pub on-from : at ≤ to
-    on-from = let p : GoesOn s at joined indent to feed next = piece-is h e in p .from
+    on-from = let p : GoesOn s at joined indent to feed next low = piece-is h e in p .from
 
     pub on-within : to ≤ length s
-    on-within = let p : GoesOn s at joined indent to feed next = piece-is h e in p .within
+    on-within = let p : GoesOn s at joined indent to feed next low = piece-is h e in p .within
+
+    pub on-known : Known s at to low
+    on-known = let p : GoesOn s at joined indent to feed next low = piece-is h e in p .known
 
     pub on-less : length s - next < length s - at
-    on-less = let p : GoesOn s at joined indent to feed next = piece-is h e in let a = p .after in let b = p .below in omega arith
+    on-less = let p : GoesOn s at joined indent to feed next low = piece-is h e in let a = p .after in let b = p .below in omega arith
 
-  module _ (to next : ℕ) (e : r ≡ piece.Stop to next) where
-    stop-off : GoesOff s at joined indent to (Got tt (drop next s)) × (to < next) × (next ≤ length s)
+  module _ (to next : ℕ) (low : Bool) (e : r ≡ piece.Stop to next low) where
+    stop-off : GoesOff s at joined indent to (Got tt (drop next s)) × (to < next) × (next ≤ length s) × Known s at to low
     stop-off = piece-is h e
 
     pub stop-from : at ≤ to
@@ -65,6 +74,9 @@ module _ (s : List ℕ) (at : ℕ) (joined : Bool) (indent : ℕ) (r : Piece) (h
 
     pub stop-within : to ≤ length s
     stop-within = stop-off .0 .within
+
+    pub stop-known : Known s at to low
+    stop-known = stop-off .3
 
   module _ (to : ℕ) (e : r ≡ piece.No to) where
     pub no-from : at ≤ to
@@ -80,7 +92,7 @@ module _ (s : List ℕ) (at : ℕ) (joined : Bool) (indent : ℕ) (r : Piece) (h
     pub cut-within : to ≤ length s
     cut-within = let p : GoesOff s at joined indent to Cut = piece-is h e in p .within
 
-pub ruleset places = (on-from, on-within, on-less, stop-from, stop-within, no-from, no-within, cut-from, cut-within)
+pub ruleset places = (on-from, on-within, on-known, on-less, stop-from, stop-within, stop-known, no-from, no-within, cut-from, cut-within)
 
 -- ---- the scan
 
@@ -97,18 +109,18 @@ module _ (s : List ℕ) (at : ℕ) (joined : Bool) (indent : ℕ) where
   going-none u h e = record { from = omega arith; within = h; short = omega arith; ends = refl; so = rw e (so-none _ start) }
 
   module _ (i n : ℕ) (state : State) (r : Piece) (g : Going s at joined indent i n state) (h : Pieced s i joined indent r) where
-    module _ (to : ℕ) (feed : Bool) (next : ℕ) (e : r ≡ piece.On to feed next) (k : ℕ) (l : k ≡ length (feedText feed)) where
+    module _ (to : ℕ) (feed : Bool) (next : ℕ) (low : Bool) (e : r ≡ piece.On to feed next low) (k : ℕ) (l : k ≡ length (feedText feed)) where
       sum-fits : n + (to - i + k) + at ≤ next
       sum-fits =
-          let p : GoesOn s i joined indent to feed next = piece-is h e in
+          let p : GoesOn s i joined indent to feed next low = piece-is h e in
           let a = p .from in let b = p .short in let c = g .short in let d = g .from in omega arith
 
       pub sum-within : n + (to - i + k) ≤ length s
-      sum-within = let p : GoesOn s i joined indent to feed next = piece-is h e in let a = sum-fits in let b = p .below in omega arith
+      sum-within = let p : GoesOn s i joined indent to feed next low = piece-is h e in let a = sum-fits in let b = p .below in omega arith
 
       pub going-on : (u w : State) → Ran state (part i to s) u → Ran u (feedText feed) w → Going s at joined indent next (n + (to - i + k)) w
       going-on u w a b =
-          let p : GoesOn s i joined indent to feed next = piece-is h e in
+          let p : GoesOn s i joined indent to feed next low = piece-is h e in
           let c = g .from in let d = p .after in
           let x : length (part i to s) ≡ to - i = length-part s i to (p .from) (p .within) in
           let y : length (part i to s ++ feedText feed) ≡ to - i + k = length-append (part i to s) (feedText feed) ∙ rw (x, l) in
@@ -124,21 +136,21 @@ module _ (s : List ℕ) (at : ℕ) (joined : Bool) (indent : ℕ) where
                 (ran-append state u w (part i to s) (feedText feed) a b));
           }
 
-    module _ (to next : ℕ) (e : r ≡ piece.Stop to next) where
+    module _ (to next : ℕ) (low : Bool) (e : r ≡ piece.Stop to next low) where
       last-fits : n + (to - i) + at < next
       last-fits =
-          let p = stop-off s i joined indent r h to next e in
+          let p = stop-off s i joined indent r h to next low e in
           let a = p .0 .from in let b = p .1 in let c = g .short in let d = g .from in omega arith
 
       module _ (u : State) (a : Ran state (part i to s) u) (ok : Bool) (k : ok ≡ eqb (u .more) 0) where
         done : SoFar (taken (quotedTurn joined indent) (drop at s)) (n + (to - i)) start u []
         done =
-            let p = stop-off s i joined indent r h to next e in
+            let p = stop-off s i joined indent r h to next low e in
             let x : length (part i to s) ≡ to - i = length-part s i to (p .0 .from) (p .0 .within) in
             rw x at (so-more (part i to s) [] (g .so) (p .0 .text ∙ sym (append-nil (part i to s))) a)
 
         scanned : gathered (quotedTurn joined indent) (drop at s) ≡ Got (taken (quotedTurn joined indent) (drop at s)) (drop next s)
-        scanned = gathered-got (quotedTurn joined indent) (drop at s) (drop next s) (g .ends ∙ stop-off s i joined indent r h to next e .0 .ends)
+        scanned = gathered-got (quotedTurn joined indent) (drop at s) (drop next s) (g .ends ∙ stop-off s i joined indent r h to next low e .0 .ends)
 
         valid : utf8 (taken (quotedTurn joined indent) (drop at s)) ≡ ok
         valid = ran-utf8 _ u (so-ran done refl) ∙ sym k
@@ -146,7 +158,7 @@ module _ (s : List ℕ) (at : ℕ) (joined : Bool) (indent : ℕ) where
         pub going-stop : ok ≡ true
             → Valued s at (taken (quotedTurn joined indent) (drop at s)) (utf8Of (gathered (quotedTurn joined indent) (drop at s))) (value.Got (n + (to - i)) next)
         going-stop t =
-            let p = stop-off s i joined indent r h to next e in
+            let p = stop-off s i joined indent r h to next low e in
             let b = p .1 in let c = last-fits in let d = g .from in let f = p .0 .from in
             record {
               is = passing-got utf8 scanned (valid ∙ t);
@@ -183,11 +195,11 @@ module _ (s : List ℕ) (at : ℕ) (joined : Bool) (indent : ℕ) (old : List �
   putting-none h = record { within = h; same = refl; left = left-start }
 
   module _ (i : ℕ) (room : List ℕ) (p : ℕ) (r : Piece) (g : Putting s at joined indent old place i room p) (h : Pieced s i joined indent r) where
-    pub putting-on : (to : ℕ) (feed : Bool) (next : ℕ) (mid : List ℕ) (q : ℕ) (new : List ℕ) (k : ℕ) → r ≡ piece.On to feed next
+    pub putting-on : (to : ℕ) (feed : Bool) (next : ℕ) (low : Bool) (mid : List ℕ) (q : ℕ) (new : List ℕ) (k : ℕ) → r ≡ piece.On to feed next low
         → Writes room p (part i to s) mid q → length mid ≡ length room → Writes mid q (feedText feed) new k → length new ≡ length mid
         → Putting s at joined indent old place next new k
-    putting-on to feed next mid q new k e a b c d =
-        let f : GoesOn s i joined indent to feed next = piece-is h e in
+    putting-on to feed next low mid q new k e a b c d =
+        let f : GoesOn s i joined indent to feed next low = piece-is h e in
         record {
           within = f .below;
           same = d ∙ b ∙ g .same;
@@ -202,8 +214,8 @@ module _ (s : List ℕ) (at : ℕ) (joined : Bool) (indent : ℕ) (old : List �
     put-last to o new k f w = left-none (left-piece (part i to s) [] (g .left) (f .text ∙ sym (append-nil (part i to s))) w) refl
 
     module _ (to : ℕ) (new : List ℕ) (k : ℕ) (w : Writes room p (part i to s) new k) where
-      pub putting-stop : (next : ℕ) → r ≡ piece.Stop to next → Writes old place (taken (quotedTurn joined indent) (drop at s)) new k
-      putting-stop next e = put-last to _ new k (stop-off s i joined indent r h to next e .0) w
+      pub putting-stop : (next : ℕ) (low : Bool) → r ≡ piece.Stop to next low → Writes old place (taken (quotedTurn joined indent) (drop at s)) new k
+      putting-stop next low e = put-last to _ new k (stop-off s i joined indent r h to next low e .0) w
 
       pub putting-no : r ≡ piece.No to → Writes old place (taken (quotedTurn joined indent) (drop at s)) new k
       putting-no e = put-last to No new k (piece-is h e) w

@@ -4,16 +4,18 @@ use mathlib.Core.Path.{_≡_}
 use mathlib.Core.Bool.{Bool, true, false}
 use mathlib.Core.List.{List, [], _∷_, _++_}
 use lib.ListN.{length, getD, drop}
-use Rattle.format.specs.Bytes.{bytes, spaces}
+use Rattle.format.specs.Bytes.{bytes, spaces, all}
 use Rattle.format.specs.Readers.{Ans, Got, No, Cut, bind, mapped, orElse, tag, lineEnd, Turn, more, stop, end}
 use Rattle.format.specs.Features.{escape, escaped, quotedEnd, quotedTurn}
 use Rattle.chars.specs.Places.{part}
 use Rattle.chars.specs.Views.{stepOf, PastOne}
 use Rattle.chars.specs.declared.Step.{Step}
 use Rattle.chars.specs.declared.Step.the-variants as step
+use Rattle.utf8.specs.States.{ascii}
 use Rattle.pieces.specs.Taken.{taken}
 use Rattle.quotes.specs.declared.Escape.{Escape}
 use Rattle.quotes.specs.declared.Escape.the-variants as escape′
+use Rattle.quotes.specs.declared.Run.{Run}
 use Rattle.quotes.specs.declared.Piece.{Piece}
 use Rattle.quotes.specs.declared.Piece.the-variants as piece
 use Rattle.quotes.specs.declared.Turn as turn′
@@ -74,14 +76,27 @@ pub record Runs (s : List ℕ) (at e : ℕ) : Type 0 where
   pub text : (joined : Bool) (indent : ℕ) → taken (quotedTurn joined indent) (drop at s) ≡ part at e s ++ taken (quotedTurn joined indent) (drop e s)
   pub ends : (joined : Bool) (indent : ℕ) → end (quotedTurn joined indent) (drop at s) ≡ end (quotedTurn joined indent) (drop e s)
 
+-- r holds only where the bytes from `at` up to e are ASCII
+pub record Known (s : List ℕ) (at e : ℕ) (r : Bool) : Type 0 where
+  pub is : r ≡ true → all ascii (part at e s) ≡ true
+
+-- a run that is ASCII
+pub record AsciiRuns (s : List ℕ) (at e : ℕ) : Type 0 where
+  pub runs : Runs s at e
+  pub known : all ascii (part at e s) ≡ true
+
 -- r holds only where the n bytes from i on carry on such a run
 pub record Onward (s : List ℕ) (i n : ℕ) (r : Bool) : Type 0 where
-  pub go : r ≡ true → (at : ℕ) → Runs s at i → Runs s at (i + n)
+  pub go : r ≡ true → (at : ℕ) → AsciiRuns s at i → AsciiRuns s at (i + n)
 
--- and the one at e does not
+-- the bytes from `at` up to e stand for themselves, and the one at e does not
 pub record Plain (s : List ℕ) (at e : ℕ) : Type 0 where
   pub runs : Runs s at e
   pub turn : (joined : Bool) (indent : ℕ) → quotedTurn joined indent (drop e s) ≡ quotedEnd joined (drop e s) (escape indent (drop e s))
+
+pub record PlainRun (s : List ℕ) (at : ℕ) (r : Run) : Type 0 where
+  pub plain : Plain s at (r .end)
+  pub known : Known s at (r .end) (r .ascii)
 
 abbrev pub turnOf : List ℕ → Bool → turn′.Turn → Ans (Turn (List ℕ))
 turnOf s joined (turn.Quote n) = Got (more (34 ∷ [])) (drop n s)
@@ -115,12 +130,13 @@ feedText true = 10 ∷ []
 feedText false = []
 
 -- from `at` on the bytes up to `to` are text, and a LF after them where `feed` says so; the value goes on at `next`
-pub record GoesOn (s : List ℕ) (at : ℕ) (joined : Bool) (indent to : ℕ) (feed : Bool) (next : ℕ) : Type 0 where
+pub record GoesOn (s : List ℕ) (at : ℕ) (joined : Bool) (indent to : ℕ) (feed : Bool) (next : ℕ) (low : Bool) : Type 0 where
   pub from : at ≤ to
   pub within : to ≤ length s
   pub after : at < next
   pub below : next ≤ length s
   pub short : to + length (feedText feed) ≤ next
+  pub known : Known s at to low
   pub text : taken (quotedTurn joined indent) (drop at s) ≡ part at to s ++ (feedText feed ++ taken (quotedTurn joined indent) (drop next s))
   pub ends : end (quotedTurn joined indent) (drop at s) ≡ end (quotedTurn joined indent) (drop next s)
 
@@ -132,8 +148,8 @@ pub record GoesOff (s : List ℕ) (at : ℕ) (joined : Bool) (indent to : ℕ) (
   pub ends : end (quotedTurn joined indent) (drop at s) ≡ o
 
 abbrev pub PieceIs : List ℕ → ℕ → Bool → ℕ → Piece → Type 0
-PieceIs s at joined indent (piece.On to feed next) = GoesOn s at joined indent to feed next
-PieceIs s at joined indent (piece.Stop to next) = GoesOff s at joined indent to (Got tt (drop next s)) × (to < next) × (next ≤ length s)
+PieceIs s at joined indent (piece.On to feed next low) = GoesOn s at joined indent to feed next low
+PieceIs s at joined indent (piece.Stop to next low) = GoesOff s at joined indent to (Got tt (drop next s)) × (to < next) × (next ≤ length s) × Known s at to low
 PieceIs s at joined indent (piece.No to) = GoesOff s at joined indent to No
 PieceIs s at joined indent (piece.Cut to) = GoesOff s at joined indent to Cut
 

@@ -14,8 +14,9 @@ ghost use Rattle.format.specs.Features.{special, escape, quotedTurn, quoted};
 ghost use Rattle.pieces.specs.Taken.{taken, gathered};
 ghost use Rattle.pieces.specs.Views.{Valued};
 ghost use Rattle.pen.specs.Pen.{Writes};
-ghost use Rattle.utf8.specs.States.{Ran};
-ghost use Rattle.quotes.specs.Escapes.{feed, splitQuote, laterEscape, QuoteStep, StepOne, Escaped, Onward, Plain, Closed, Turned, feedText, Pieced, quotedText};
+ghost use Rattle.chars.specs.Places.{part};
+ghost use Rattle.utf8.specs.States.{ascii, Ran};
+ghost use Rattle.quotes.specs.Escapes.{feed, splitQuote, laterEscape, QuoteStep, StepOne, Escaped, Known, Onward, Plain, PlainRun, Closed, Turned, feedText, Pieced, quotedText};
 
 // What an escape stands for, a quote or a LF, and the place after it.
 pub enum Escape {
@@ -34,10 +35,25 @@ pub enum Turn {
     Cut,
 }
 
-// The text's bytes up to `to`, then a LF where `feed` says so, and where the value goes on; or the last of its bytes, and how it ends.
+// Where a run of ordinary bytes ends, and whether they are known to be ASCII.
+pub struct Run {
+    pub end: usize,
+    pub ascii: bool,
+}
+
+// The text's bytes up to `to`, then a LF where `feed` says so, and where the value goes on; or the last of its bytes, and how it ends. `ascii` where those bytes are known to be.
 pub enum Piece {
-    On { to: usize, feed: bool, next: usize },
-    Stop { to: usize, next: usize },
+    On {
+        to: usize,
+        feed: bool,
+        next: usize,
+        ascii: bool,
+    },
+    Stop {
+        to: usize,
+        next: usize,
+        ascii: bool,
+    },
     No(usize),
     Cut(usize),
 }
@@ -140,7 +156,13 @@ fn is_ordinary(b: u8) -> bool
     b == 32
 }
 
-// Whether the eight bytes at a place are such.
+fn is_ascii(b: u8) -> bool
+    ensures { λ r. ⌜ r ≡ ascii b ⌝ }
+{
+    b < 128
+}
+
+// Whether the eight bytes at a place are such, and ASCII.
 fn eight_ordinary(s: &[u8], at: usize) -> bool
     requires { ⌜ at + 8 ≤ length (now s) ⌝ }
     ensures { λ r. ⌜ Onward (now (s .entry)) at 8 r ⌝ }
@@ -148,15 +170,31 @@ fn eight_ordinary(s: &[u8], at: usize) -> bool
     let mut ok = true;
     let mut j = 0;
     while j < 8 {
-        ok = both(ok, is_ordinary(s[at + j]));
+        let b = s[at + j];
+        ok = both(ok, both(is_ordinary(b), is_ascii(b)));
         j += 1;
     }
     ok
 }
 
-fn plain_end(s: &[u8], at: usize) -> usize
+fn special_at(s: &[u8], at: usize) -> usize
     requires { ⌜ at ≤ length (now s) ⌝ }
     ensures { λ r. ⌜ Plain (now (s .entry)) at r ⌝ }
+{
+    let mut i = at;
+    while i < s.len() {
+        if is_special(s[i]) {
+            return i;
+        }
+        i += 1;
+    }
+    i
+}
+
+// One pass tests for special bytes and for ASCII; from a byte that is not ASCII on, for special bytes alone.
+fn plain_end(s: &[u8], at: usize) -> Run
+    requires { ⌜ at ≤ length (now s) ⌝ }
+    ensures { λ r. ⌜ PlainRun (now (s .entry)) at r ⌝ }
 {
     let mut i = at;
     while 8 <= s.len() - i {
@@ -166,12 +204,25 @@ fn plain_end(s: &[u8], at: usize) -> usize
         i += 8;
     }
     while i < s.len() {
-        if is_special(s[i]) {
-            return i;
+        let b = s[i];
+        if is_special(b) {
+            return Run {
+                end: i,
+                ascii: true,
+            };
+        }
+        if 128 <= b {
+            return Run {
+                end: special_at(s, i),
+                ascii: false,
+            };
         }
         i += 1;
     }
-    i
+    Run {
+        end: i,
+        ascii: true,
+    }
 }
 
 fn closing_at(s: &[u8], at: usize) -> Turn
@@ -206,19 +257,27 @@ fn piece_at(s: &[u8], at: usize, indent: usize, joined: bool) -> Piece
     requires { ⌜ at ≤ length (now s) ⌝ }
     ensures { λ r. ⌜ Pieced (now (s .entry)) at joined indent r ⌝ }
 {
-    let e = plain_end(s, at);
+    let run = plain_end(s, at);
+    let e = run.end;
+    let ascii = run.ascii;
     match turn_at(s, e, indent) {
         Turn::Quote(n) => Piece::On {
             to: e + 1,
             feed: false,
             next: n,
+            ascii,
         },
         Turn::Feed(n) => Piece::On {
             to: e,
             feed: !joined,
             next: n,
+            ascii,
         },
-        Turn::Stop(n) => Piece::Stop { to: e, next: n },
+        Turn::Stop(n) => Piece::Stop {
+            to: e,
+            next: n,
+            ascii,
+        },
         Turn::No => Piece::No(e),
         Turn::Cut => Piece::Cut(e),
     }
@@ -241,6 +300,19 @@ fn fed(feed: bool, state: State) -> State
     state
 }
 
+// What `utf8::utf8_on` gives; bytes that are known to be ASCII are not looked at between characters.
+fn run_on(state: State, s: &[u8], from: usize, to: usize, ascii: bool) -> State
+    requires { ⌜ (from ≤ to) × (to ≤ length (now s)) × Known (now s) from to ascii ⌝ }
+    ensures { λ r. ⌜ Ran state (part from to (now (s .entry))) r ⌝ }
+{
+    if ascii {
+        if utf8::utf8_ends(state) {
+            return utf8::started();
+        }
+    }
+    utf8::utf8_on(state, s, from, to)
+}
+
 fn quoted_on(s: &[u8], at: usize, indent: usize, joined: bool) -> Value
     requires { ⌜ at ≤ length (now s) ⌝ }
     ensures { λ r. ⌜ Valued (now (s .entry)) at (taken (quotedTurn joined indent) (drop at (now (s .entry)))) (utf8Of (gathered (quotedTurn joined indent) (drop at (now (s .entry))))) r ⌝ }
@@ -250,13 +322,18 @@ fn quoted_on(s: &[u8], at: usize, indent: usize, joined: bool) -> Value
     let mut state = utf8::started();
     loop {
         match piece_at(s, i, indent, joined) {
-            Piece::On { to, feed, next } => {
+            Piece::On {
+                to,
+                feed,
+                next,
+                ascii,
+            } => {
                 length += to - i + feed_length(feed);
-                state = fed(feed, utf8::utf8_on(state, s, i, to));
+                state = fed(feed, run_on(state, s, i, to, ascii));
                 i = next;
             }
-            Piece::Stop { to, next } => {
-                let last = utf8::utf8_on(state, s, i, to);
+            Piece::Stop { to, next, ascii } => {
+                let last = run_on(state, s, i, to, ascii);
                 if utf8::utf8_ends(last) {
                     return Value::Got {
                         length: length + (to - i),
@@ -302,12 +379,21 @@ fn put_on(s: &[u8], at: usize, indent: usize, joined: bool, room: &mut [u8], pla
     let mut p = place;
     loop {
         match piece_at(s, i, indent, joined) {
-            Piece::On { to, feed, next } => {
+            Piece::On {
+                to,
+                feed,
+                next,
+                ascii: _,
+            } => {
                 let q = pen::put_part(room, p, s, i, to);
                 p = put_feed(feed, room, q);
                 i = next;
             }
-            Piece::Stop { to, next: _ } => return pen::put_part(room, p, s, i, to),
+            Piece::Stop {
+                to,
+                next: _,
+                ascii: _,
+            } => return pen::put_part(room, p, s, i, to),
             Piece::No(to) => return pen::put_part(room, p, s, i, to),
             Piece::Cut(to) => return pen::put_part(room, p, s, i, to),
         }

@@ -12,8 +12,7 @@ use Rattle.chars.specs.Views.{Stepped, Emptied}
 use Rattle.chars.specs.Sequence.{step-places, step-is, empty-places}
 use Rattle.chars.specs.declared.Step.{Step}
 use Rattle.chars.specs.declared.Step.the-variants as step
-use Rattle.pieces.specs.Views.{Span}
-use Rattle.values.specs.Reads.{valueWith, readText, PastRead, ReadIs}
+use Rattle.values.specs.Reads.{valueWith, Placed, PastRead, ReadIs}
 use Rattle.values.specs.declared.Read.{Read}
 use Rattle.values.specs.declared.Read.the-variants as read
 use Rattle.tails.specs.declared.Tail.{Tail}
@@ -60,7 +59,7 @@ module _ (s : List ℕ) (at : ℕ) (joined : Bool) (indent : ℕ) (r : Step) whe
       pub tail-with : (q : Bool) (l next : ℕ) → v ≡ read.Got q l next → TailIs s at joined indent (valueOfWith joined indent (drop at s)) (tail.With n q l next)
       unfolding valueOfWith
       tail-with q l next f =
-          let p : Span s n (readText q joined indent (drop n s)) l next = subst (λ (x : Read). PastRead s n joined indent x) f (g .place) in
+          let p : Placed s n joined indent q l next = subst (λ (x : Read). PastRead s n joined indent x) f (g .place) in
           record { is = rw (step-is h e, ← g .is, f); place = (step-places h e .0, p) }
 
       pub tail-bad : (x : Tail) → v ≡ read.No → TailIs s at joined indent (absentOf (drop at s)) x → TailIs s at joined indent (valueOfWith joined indent (drop at s)) x

@@ -7,8 +7,7 @@ use lib.ListN.{length, drop}
 use Rattle.format.specs.Bytes.{May, absent, is, bytes, same}
 use Rattle.format.specs.Readers.{Ans, Got, No, Cut, bind, mapped, orElse, tag, lineEnd}
 use Rattle.format.specs.Features.{value, valueOf}
-use Rattle.pieces.specs.Views.{Span}
-use Rattle.values.specs.Reads.{valueWith, value-with, readText}
+use Rattle.values.specs.Reads.{valueWith, value-with, readText, Placed}
 use Rattle.tails.specs.declared.Tail.{Tail}
 use Rattle.tails.specs.declared.Tail.the-variants as tail
 
@@ -37,7 +36,7 @@ tailOf s joined indent tail.Cut = Cut
 
 abbrev pub PastTail : List ℕ → ℕ → Bool → ℕ → Tail → Type 0
 PastTail s at joined indent (tail.Absent next) = (at < next) × (next ≤ length s)
-PastTail s at joined indent (tail.With from quoted n next) = (at ≤ from) × Span s from (readText quoted joined indent (drop from s)) n next
+PastTail s at joined indent (tail.With from quoted n next) = (at ≤ from) × Placed s from joined indent quoted n next
 PastTail s at joined indent tail.No = Unit
 PastTail s at joined indent tail.Cut = Unit
 

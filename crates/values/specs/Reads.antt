@@ -1,9 +1,9 @@
 -- The answers of the scan of a value as readers' answers, and its text, which goes by how it was read.
-use Prim.Native.Nat.{ℕ}
+use Prim.Native.Nat.{ℕ, _+_}
 use mathlib.Core.Path.{_≡_, refl}
 use mathlib.Core.Bool.{Bool, true, false}
 use mathlib.Core.List.{List}
-use lib.ListN.{drop}
+use lib.ListN.{take, drop}
 use Rattle.format.specs.Bytes.{bytes, same}
 use Rattle.format.specs.Readers.{Ans, Got, No, Cut, orElse, utf8Of}
 use Rattle.format.specs.Features.{quoted, bare, value}
@@ -30,8 +30,13 @@ readOf s at joined indent (read.Got quoted n next) = Got (readText quoted joined
 readOf s at joined indent read.No = No
 readOf s at joined indent read.Cut = Cut
 
+-- a value that was read: where it stands; a quoted one that takes three bytes more than its text has its text in one piece behind the quote
+pub record Placed (s : List ℕ) (at : ℕ) (joined : Bool) (indent : ℕ) (quoted : Bool) (n next : ℕ) : Type 0 where
+  pub span : Span s at (readText quoted joined indent (drop at s)) n next
+  pub straight : quoted ≡ true → next ≡ at + n + 3 → readText quoted joined indent (drop at s) ≡ take n (drop (at + 1) s)
+
 abbrev pub PastRead : List ℕ → ℕ → Bool → ℕ → Read → Type 0
-PastRead s at joined indent (read.Got quoted n next) = Span s at (readText quoted joined indent (drop at s)) n next
+PastRead s at joined indent (read.Got quoted n next) = Placed s at joined indent quoted n next
 PastRead s at joined indent read.No = Unit
 PastRead s at joined indent read.Cut = Unit
 

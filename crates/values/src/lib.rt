@@ -3,7 +3,7 @@ use pieces::Value;
 ghost use Prim.Native.Nat.{_≤_};
 ghost use lib.ListN.{length, drop};
 ghost use Rattle.pen.specs.Pen.{Writes};
-ghost use Rattle.values.specs.Reads.{valueWith, readText, ReadIs};
+ghost use Rattle.values.specs.Reads.{valueWith, readText, Placed, ReadIs};
 
 // A value: whether it was read as a quoted one, its length, and the place after it.
 pub enum Read {
@@ -40,20 +40,25 @@ pub fn value_at(s: &[u8], at: usize, indent: usize, joined: bool) -> Read
     }
 }
 
-// The text that `value_at` scans, read as it says.
+// The text that `value_at` scans, read as it says, with the length and the place after it that it gives: a quoted one with nothing to undo is copied.
 pub fn put_value(
     s: &[u8],
     at: usize,
     indent: usize,
     joined: bool,
     quoted: bool,
+    long: usize,
+    next: usize,
     room: &mut [u8],
     place: usize,
 ) -> usize
-    requires { ⌜ at ≤ length (now s) ⌝ }
+    requires { ⌜ Placed (now s) at joined indent quoted long next ⌝ }
     ensures { λ r. ⌜ Writes (now (room .entry)) place (readText quoted joined indent (drop at (now (s .entry)))) (now (room .exit)) r ⌝ }
 {
     if quoted {
+        if next - at - long == 3 {
+            return pen::put_part(room, place, s, at + 1, at + 1 + long);
+        }
         return quotes::put_quoted(s, at, indent, joined, room, place);
     }
     bares::put_bare(s, at, indent, room, place)

@@ -29,7 +29,7 @@ sub-put-four-2 c = search needs
 add-put-four : tie.Need-add-put-four
 add-put-four c =
     omega
-    (arith, value-fits _ _ _ _ _ _ (c .before .before .before .before .before .before .before .before .before .before .before .before .before .before .before .pre) _ _ _ (c .before .before .before .before .before .before .value .given .1))
+    (arith, value-fits _ _ _ _ _ _ _ (c .before .before .before .before .before .before .before .before .before .before .before .before .before .before .before .pre) _ _ _ (c .before .before .before .before .before .before .value .given .1))
 
 put-four-requires-2 : tie.Need-put-four-requires-2
 put-four-requires-2 c κs = search needs

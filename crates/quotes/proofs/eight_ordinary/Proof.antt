@@ -17,17 +17,23 @@ abbrev μ-loop : tie.MeasureT-loop
 loop-holds : tie.Need-loop-holds Inv-loop μ-loop
 loop-holds c = (search needs, onward-none _ _)
 
-add-is-ordinary : tie.Need-add-is-ordinary Inv-loop μ-loop
-add-is-ordinary c = search needs
+add-b : tie.Need-add-b Inv-loop μ-loop
+add-b c = search needs
 
-shared-slice-read-is-ordinary : tie.Need-shared-slice-read-is-ordinary Inv-loop μ-loop
-shared-slice-read-is-ordinary c = search needs
+shared-slice-read-b : tie.Need-shared-slice-read-b Inv-loop μ-loop
+shared-slice-read-b c = search needs
 
 is-ordinary-requires : tie.Need-is-ordinary-requires Inv-loop μ-loop
 is-ordinary-requires c κs = search needs
 
+is-ascii-requires : tie.Need-is-ascii-requires Inv-loop μ-loop
+is-ascii-requires c κs = search needs
+
 both-requires : tie.Need-both-requires Inv-loop μ-loop
 both-requires c κs = search needs
+
+both-requires-2 : tie.Need-both-requires-2 Inv-loop μ-loop
+both-requires-2 c κs = search needs
 
 add-j : tie.Need-add-j Inv-loop μ-loop
 add-j c = search needs
@@ -36,7 +42,7 @@ loop-less : tie.Need-loop-less Inv-loop μ-loop
 loop-less c = search needs
 
 loop-again : tie.Need-loop-again Inv-loop μ-loop
-loop-again c = (omega arith, onward-one (c .before .before .before .before .before .before .args .s .now) (c .before .before .before .before .before .before .args .at) (c .before .before .before .before .loop .j) _ _ _ (omega arith) (c .before .before .before .before .loop .inv .1) (c .before .is-ordinary .ensures) (c .both .ensures))
+loop-again c = (omega arith, onward-one (c .before .before .before .before .before .before .before .before .args .s .now) (c .before .before .before .before .before .before .before .before .args .at) (c .before .before .before .before .before .before .loop .j) (omega arith) _ _ _ _ _ (c .before .before .before .before .before .before .loop .inv .1) (c .before .before .before .is-ordinary .ensures) (c .before .before .is-ascii .ensures) (c .before .both .ensures) (c .both2 .ensures))
 
 returns : tie.Need-returns Inv-loop μ-loop
 returns c = let e : c .before .loop .j ≡ 8 = omega arith in rw e at (c .before .loop .inv .1)
@@ -48,10 +54,12 @@ eight-ordinary-spec =
     Inv-loop
     μ-loop
     loop-holds
-    add-is-ordinary
-    shared-slice-read-is-ordinary
+    add-b
+    shared-slice-read-b
     is-ordinary-requires
+    is-ascii-requires
     both-requires
+    both-requires-2
     add-j
     loop-less
     loop-again

@@ -14,8 +14,8 @@ turn-at-requires c κs = search (pieces, sequence, needs)
 enum-known-n : tie.Need-enum-known-n
 enum-known-n c = search (pieces, sequence, needs)
 
-add-t11 : tie.Need-add-t11
-add-t11 c = search (pieces, sequence, needs)
+add-t13 : tie.Need-add-t13
+add-t13 c = search (pieces, sequence, needs)
 
 enum-known-n-2 : tie.Need-enum-known-n-2
 enum-known-n-2 c = search (pieces, sequence, needs)
@@ -51,7 +51,7 @@ piece-at-spec =
     plain-end-requires
     turn-at-requires
     enum-known-n
-    add-t11
+    add-t13
     enum-known-n-2
     enum-known-n-3
     enum-told

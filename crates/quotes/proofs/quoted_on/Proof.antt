@@ -34,14 +34,14 @@ feed-length-requires c κs = search (goings, places, sequence, needs)
 
 add-length : tie.Need-add-length Inv-loop μ-loop
 add-length c =
-    omega (arith, sum-within _ _ _ _ _ _ _ _ (c .before .before .before .before .before .loop .inv) (c .before .before .before .before .piece-at .ensures) _ _ _ (c .before .before .to .given .1) _ (c .feed-length .ensures))
+    omega (arith, sum-within _ _ _ _ _ _ _ _ (c .before .before .before .before .before .loop .inv) (c .before .before .before .before .piece-at .ensures) _ _ _ _ (c .before .before .to .given .1) _ (c .feed-length .ensures))
 
 add-length-2 : tie.Need-add-length-2 Inv-loop μ-loop
 add-length-2 c =
-    omega (arith, sum-within _ _ _ _ _ _ _ _ (c .before .before .before .before .before .loop .inv) (c .before .before .before .before .piece-at .ensures) _ _ _ (c .before .before .to .given .1) _ (c .feed-length .ensures))
+    omega (arith, sum-within _ _ _ _ _ _ _ _ (c .before .before .before .before .before .loop .inv) (c .before .before .before .before .piece-at .ensures) _ _ _ _ (c .before .before .to .given .1) _ (c .feed-length .ensures))
 
-utf8-on-requires : tie.Need-utf8-on-requires Inv-loop μ-loop
-utf8-on-requires c κs = search (goings, places, sequence, needs)
+run-on-requires : tie.Need-run-on-requires Inv-loop μ-loop
+run-on-requires c κs = search (goings, places, sequence, needs)
 
 fed-requires : tie.Need-fed-requires Inv-loop μ-loop
 fed-requires c κs = search (goings, places, sequence, needs)
@@ -55,17 +55,17 @@ loop-again c = search (goings, places, sequence, needs)
 enum-known-to-2 : tie.Need-enum-known-to-2 Inv-loop μ-loop
 enum-known-to-2 c = search (goings, places, sequence, needs)
 
-utf8-on-requires-2 : tie.Need-utf8-on-requires-2 Inv-loop μ-loop
-utf8-on-requires-2 c κs = search (goings, places, sequence, needs)
+run-on-requires-2 : tie.Need-run-on-requires-2 Inv-loop μ-loop
+run-on-requires-2 c κs = search (goings, places, sequence, needs)
 
 utf8-ends-requires : tie.Need-utf8-ends-requires Inv-loop μ-loop
 utf8-ends-requires c κs = search (goings, places, sequence, needs)
 
-sub-t20 : tie.Need-sub-t20 Inv-loop μ-loop
-sub-t20 c = search (goings, places, sequence, needs)
+sub-t22 : tie.Need-sub-t22 Inv-loop μ-loop
+sub-t22 c = search (goings, places, sequence, needs)
 
-add-t21 : tie.Need-add-t21 Inv-loop μ-loop
-add-t21 c = search (goings, places, sequence, needs)
+add-t23 : tie.Need-add-t23 Inv-loop μ-loop
+add-t23 c = search (goings, places, sequence, needs)
 
 returns : tie.Need-returns Inv-loop μ-loop
 returns c = search (goings, places, sequence, needs)
@@ -99,15 +99,15 @@ quoted-on-spec =
     feed-length-requires
     add-length
     add-length-2
-    utf8-on-requires
+    run-on-requires
     fed-requires
     loop-less
     loop-again
     enum-known-to-2
-    utf8-on-requires-2
+    run-on-requires-2
     utf8-ends-requires
-    sub-t20
-    add-t21
+    sub-t22
+    add-t23
     returns
     returns-2
     enum-told
