@@ -1,4 +1,4 @@
--- A feature is written with its key from column 6 and its location from column 22, and goes on at column 22.
+-- A feature is written with its key from column 6 and its location from column 22, and goes on at column 22; a qualifier stands from column 22 on.
 use Prim.Native.Nat.{ℕ, zero, suc, _+_, _-_, _≤_}
 use native.Mathlib.Omega.{arith}
 use mathlib.Core.Bool.{Bool, true, false, _&&_}
@@ -7,11 +7,11 @@ use mathlib.Core.List.{List, [], _∷_, _++_, append-assoc, append-nil}
 use lib.ListN.{length, take, drop, length-append, take-append-drop}
 use lib.Dec.{leb}
 use borrow.Author.Tests.{le-leb}
-use Rattle.format.specs.Bytes.{bytes, spaces, each, concat}
-use Rattle.format.specs.Table.{Feature}
-use Rattle.format.specs.Wrap.{breakAt, commaLines, wrapLocation}
-use Rattle.format.specs.Write.{padded, qualifierLines, featureLines}
-use Rattle.format.specs.Public.{columns, fromLeft, featureColumns}
+use Rattle.format.specs.Bytes.{May, absent, is, bytes, spaces, each, concat, pick}
+use Rattle.format.specs.Table.{Feature, Qualifier}
+use Rattle.format.specs.Wrap.{breakAt, commaLines, wrapLocation, wrapped, wrapText}
+use Rattle.format.specs.Write.{padded, commaKey, keyText, quotes, valueLines, qualifierText, qualifierLines, featureLines}
+use Rattle.format.specs.Public.{columns, fromLeft, featureColumns, qualifierColumns}
 use Rattle.columns.specs.Parts.{same-as, part, padded-more, padded-length}
 
 -- a text that fits its line stands there whole
@@ -81,3 +81,39 @@ feature-columns W f h g =
     let z : suc (21 + length l) - 22 ≡ length l = omega arith in
     let y : columns 22 (21 + length l) (featureLines W f) ≡ l = rw z (p₃ .here) in
     three _ _ _ (same-as _ _ (p₁ .here)) (same-as _ _ (p₂ .here ∙ key-more k h)) (same-as _ _ y)
+
+-- ---- qualifiers
+
+-- a text that begins with the word w after 21 spaces
+pub record Begins (w text : List ℕ) : Type 0 where
+  pub rest : List ℕ
+  pub is : text ≡ spaces 21 ++ (w ++ rest)
+
+begins : (w x y : List ℕ) → Begins w (((spaces 21 ++ w) ++ x) ++ y)
+begins w x y = record { rest = x ++ y; is = simp append-assoc }
+
+value-begins : (W : ℕ) (k v : List ℕ) → Begins (bytes "/" ++ k) (valueLines W k v)
+unfolding valueLines wrapLocation wrapText
+value-begins W k v = go (commaKey k) (quotes k)
+  where
+    go : (comma quote : Bool) → Begins (bytes "/" ++ k) (pick comma (wrapLocation W (keyText k ++ bytes "=") 21 v) (wrapText W (keyText k ++ bytes "=") 21 quote v))
+    go true quote = begins (bytes "/" ++ k) (bytes "=") _
+    go false false = begins (bytes "/" ++ k) (bytes "=") _
+    go false true =
+        record { rest = bytes "=" ++ 34 ∷ [] ++ wrapped true W 21 (suc (length (keyText k ++ bytes "="))) v; is = simp append-assoc }
+
+text-begins : (W : ℕ) (k : List ℕ) (v : May (List ℕ)) → Begins (bytes "/" ++ k) (qualifierText W k v)
+text-begins W k absent = record { rest = bytes "\n"; is = simp append-assoc }
+text-begins W k (is v) = value-begins W k v
+
+pub qualifier-columns : (W : ℕ) (q : Qualifier) → qualifierColumns (bytes "/" ++ q .key) (qualifierLines W q) ≡ true
+unfolding qualifierLines
+qualifier-columns W q =
+    let w : List ℕ = bytes "/" ++ q .key in
+    let line : List ℕ = qualifierText W (q .key) (q .value) in
+    let b = text-begins W (q .key) (q .value) in
+    let p₁ = part line 0 21 (spaces 21) (w ++ b .rest) (b .is) refl in
+    let p₂ = part line 21 (length w) w (b .rest) (p₁ .next) refl in
+    let z : suc (21 + length w) - 22 ≡ length w = omega arith in
+    let y : columns 22 (21 + length w) line ≡ w = rw z (p₂ .here) in
+    cc (same-as _ _ (p₁ .here), same-as _ _ y)
