@@ -219,8 +219,6 @@ module _ (s : List ℕ) (p : Plan) (h : Ready s p) where
         letters = x .letters;
       }
 
-pub ruleset heading = (header-within, head-there, head-bound, references-texts, references-rows, comments-texts, comments-rows, header-filled)
-
 pub ruleset around = (contig-ready, letters-within, gap-bound, around-filled)
 
 pub ruleset filling = (features-fit, all-filled)

@@ -30,12 +30,6 @@ filling-end {l} {m} {i} {j} {x} p = record { is = sym (p .is); to = omega (arith
 pub filling-bound : {l m : List ℕ} {i j : ℕ} {x : List ℕ} (y z : List ℕ) → Filling l i x m j (y ++ z) → i + length x < 2 ^ 64 → j + length y < 2 ^ 64
 filling-bound y z p h = omega (arith, p .to, length-append y z)
 
-pub wrote-fit : {l n : List ℕ} {i k : ℕ} {x : List ℕ} → Writes l i x n k → i + length x < 2 ^ 64 → Wrote l i x n k
-wrote-fit w h = w .fit h
-
-pub wrote-nil : {l : List ℕ} {i : ℕ} → Wrote l i [] l i
-wrote-nil {l} {i} = record { is = refl; to = sym (add-zero i) }
-
 -- the text may be named by what it equals
 pub wrote-as : {l n : List ℕ} {i k : ℕ} {x y : List ℕ} → x ≡ y → Wrote l i x n k → Wrote l i y n k
 wrote-as e p = rw e at p

@@ -75,10 +75,6 @@ leaves-less k m s o l h = record { past = λ a r e. past-less k m s r l (h .past
 pub leaves-loose : {A : Type 0} {m : ℕ} {s : List ℕ} {o : Ans A} → Leaves m s o → Leaves 0 s o
 leaves-loose {A} {m} {s} {o} h = leaves-less 0 m s o (omega arith) h
 
--- what is left, as code has it: a place in s
-pub leaves-drop : {A : Type 0} {m : ℕ} {s : List ℕ} {o : Ans A} → Leaves m s o → (a : A) (r : List ℕ) → o ≡ Got a r → r ≡ drop (length s - length r) s
-leaves-drop {A} {m} {s} h a r e = past-drop m s r (h .past a r e)
-
 pub leaves-length : {A : Type 0} {m : ℕ} {s : List ℕ} {o : Ans A} → Leaves m s o → (a : A) (r : List ℕ) → o ≡ Got a r → m + length r ≤ length s
 leaves-length {A} {m} {s} h a r e = past-length m s r (h .past a r e)
 
@@ -187,9 +183,6 @@ until-past p (b ∷ s) t r h = go (λ u. until-past p s u) (p b) refl (until p s
     go ih false e No f = let z : _≡_ {A = ℕ} 0 1 = cc in absurd (omega arith)
     go ih false e Cut f = let z : _≡_ {A = ℕ} 0 1 = cc in absurd (omega arith)
 
-pub until-leaves : (p : ℕ → Bool) (s : List ℕ) → Leaves 0 s (until p s)
-until-leaves p s = record { past = λ t r e. past-loose (length t) s r (until-past p s t r e) }
-
 pub until1-takes : (p : ℕ → Bool) (s : List ℕ) → Leaves 1 s (until1 p s)
 until1-takes p s = go (until p s) refl
   where
@@ -243,13 +236,6 @@ module _ {A : Type 0} where
   pub turns-cut : (s : List ℕ) → Turns {A = A} s Cut
   turns-cut s = turns-takes (leaves-cut 1 s)
 
-  pub turns-leaves : {s : List ℕ} {o : Ans (Turn A)} → Turns s o → Leaves 0 s o
-  turns-leaves {s} {o} h = record { past = go }
-    where
-      go : (t : Turn A) (r : List ℕ) → o ≡ Got t r → Past 0 s r
-      go (more a) r e = past-loose 1 s r (h .on a r e)
-      go stop r e = h .off r e
-
   pub turns-shrinks : (turn : List ℕ → Ans (Turn A)) → ((s : List ℕ) → Turns s (turn s)) → Shrinks turn
   turns-shrinks turn h s a r e = omega (arith, past-length 1 s r (h s .on a r e))
 
@@ -263,14 +249,6 @@ module _ {A : Type 0} where
       go (Got a r) l = turns-takes (leaves-got 1 s (more a) r (l .past a r refl))
       go No l = turns-here s
       go Cut l = turns-cut s
-
-  pub turns-try : (p : List ℕ → Ans A) → ((s : List ℕ) → Leaves 1 s (p s)) → (s : List ℕ) → Turns s (tryTurn p s)
-  turns-try p h s = go (p s) (h s)
-    where
-      go : (o : Ans A) → Leaves 1 s o → Turns s (trying s o)
-      go (Got a r) l = turns-takes (leaves-got 1 s (more a) r (l .past a r refl))
-      go No l = turns-here s
-      go Cut l = turns-here s
 
 module _ {A : Type 0} (turn : List ℕ → Ans (Turn A)) (h : (s : List ℕ) → Turns s (turn s)) where
   upTo-leaves : (n : ℕ) (s : List ℕ) → Leaves 0 s (endUpTo turn n s)
@@ -293,9 +271,6 @@ module _ {A : Type 0} (turn : List ℕ → Ans (Turn A)) (h : (s : List ℕ) →
 
 pub many0-leaves : {A : Type 0} (p : List ℕ → Ans A) → ((s : List ℕ) → Leaves 1 s (p s)) → (s : List ℕ) → Leaves 0 s (many0 p s)
 many0-leaves p h s = loop-leaves (fitTurn p) (turns-fit p h) s
-
-pub tries-leaves : {A : Type 0} (p : List ℕ → Ans A) → ((s : List ℕ) → Leaves 1 s (p s)) → (s : List ℕ) → Leaves 0 s (whileFits p s)
-tries-leaves p h s = loop-leaves (tryTurn p) (turns-try p h) s
 
 -- ---- the header's readers
 
@@ -426,37 +401,6 @@ preamble-turns s = go (tag (bytes "LOCUS") s)
     go (Got u r) = turns-here s
     go No = turns-takes (leaves-mapped more (leaves-passing utf8 (line-takes s)))
     go Cut = turns-takes (leaves-mapped more (leaves-passing utf8 (line-takes s)))
-
-pub preamble-leaves : (s : List ℕ) → Leaves 0 s (preamble s)
-unfolding preamble
-preamble-leaves s = end-leaves preambleTurn preamble-turns s
-
-pub locus-takes : (s : List ℕ) → Leaves 1 s (locus s)
-unfolding locus
-locus-takes s = leaves-then (tag-loose (bytes "LOCUS") s) (λ _ s. leaves-first (until1-takes notBlank s) (λ _ s. leaves-mapped locusLine (leaves-loose (line-takes s))))
-
-pub featuresHeader-takes : (s : List ℕ) → Leaves 1 s (featuresHeader s)
-unfolding featuresHeader
-featuresHeader-takes s =
-    leaves-then (tag-loose (bytes "FEATURES") s) (λ _ s. leaves-first (until1-takes notBlank s) (λ _ s. leaves-first (tag-loose (bytes "Location/Qualifiers") s) (λ _ s. leaves-loose (end-takes s))))
-
-pub features-takes : (s : List ℕ) → Leaves 1 s (features s)
-unfolding features
-features-takes s = leaves-first (featuresHeader-takes s) (λ _ s. tries-leaves feature feature-takes s)
-
-pub contig-takes : (s : List ℕ) → Leaves 1 s (contig s)
-contig-takes s = leaves-passing locationText (bytes-takes 0 (bytes "CONTIG") false s)
-
-pub middle-leaves : (s : List ℕ) → Leaves 0 s (middle s)
-unfolding middle
-middle-leaves s =
-    leaves-first (leaves-optional (leaves-loose (features-takes s))) (λ _ s. leaves-first (leaves-optional (leaves-loose (field-takes _ _ _ s))) (λ _ s.
-    leaves-first (leaves-optional (leaves-loose (contig-takes s))) (λ _ s. leaves-got 0 s _ s (past-here s))))
-
-pub origin-takes : (s : List ℕ) → Leaves 1 s (originTag s)
-unfolding originTag
-origin-takes s =
-    leaves-or (leaves-then (tag-loose (bytes "ORIGIN") s) (λ _ s. leaves-then (until-leaves notBlank s) (λ _ s. end-takes s))) (field-takes 0 (bytes "ORIGIN") true s)
 
 pub letters-leave : (s l r : List ℕ) → letters s ≡ AtSlash l r → Past 0 s r
 unfolding letters

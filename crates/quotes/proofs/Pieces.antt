@@ -190,8 +190,4 @@ module _ (s : List ℕ) (at : ℕ) (joined : Bool) (indent e : ℕ) (low : Bool)
 pub plain-within : (s : List ℕ) (at e : ℕ) → Plain s at e → e ≤ length s
 plain-within s at e g = g .runs .within
 
-pub quote-more : (s : List ℕ) (at indent : ℕ) (r : Turn) (n : ℕ) → Turned s at indent r → r ≡ turn.Quote n → at < length s
-quote-more s at indent r n h q =
-    let p : QuoteSpan s at n = subst (λ (y : Turn). PastTurn s at y) q (h .place) in let a = p .from in let b = p .within in omega arith
-
 pub ruleset pieces = (plain-within, piece-quote, piece-feed, piece-stop, piece-no, piece-cut)

@@ -40,10 +40,6 @@ six-more n = omega arith
 six-further : (n k : ℕ) → 6 * suc n + k ≡ suc (suc (suc (suc (suc (suc (6 * n + k))))))
 six-further n k = omega arith
 
-pub flat-more : (f : Feature) (rows : List Feature) → flat (f ∷ rows) ≡ numbers f ++ flat rows
-unfolding flat
-flat-more f rows = refl
-
 pub flat-length : (rows : List Feature) → length (flat rows) ≡ 6 * length rows
 unfolding flat
 flat-length [] = refl
