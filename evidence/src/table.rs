@@ -1,4 +1,4 @@
-//! A record table, and the rooms that hold it: crates/format/specs/Rooms.antt says what stands where, crates/headnumbers the head's 31 numbers.
+//! A record table, and the rooms that hold it: crates/spec_format/specs/Rooms.antt says what stands where, crates/api_head the head's 31 numbers.
 
 pub type Text = Vec<u8>;
 

@@ -1,4 +1,4 @@
-"""A table in rooms, as crates/format/specs/Rooms.antt lays it out, and its head as the 31 numbers of crates/headnumbers."""
+"""A table in rooms, as crates/spec_format/specs/Rooms.antt lays it out, and its head as the 31 numbers of crates/api_head."""
 import tables
 
 

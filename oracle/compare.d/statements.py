@@ -1,4 +1,4 @@
-"""States answers as equations about the definitions of crates/format, and lets antt compute them.
+"""States answers as equations about the definitions of crates/spec_format, and lets antt compute them.
 
 Each statement is closed by `refl`, so antt accepts it exactly if the definition computes to the answer. The statements stand in
 throw-away crates above a copy of `format`, in a temporary folder.
@@ -29,11 +29,11 @@ use mathlib.Core.Bool.{Bool, true, false}
 use mathlib.Core.Path.{_≡_, refl}
 use mathlib.Core.List.{List, [], _∷_}
 use lib.Dec.{eqb}
-use Rattle.format.specs.Bytes.{bytes, May, absent, is, pick, same, among}
-use Rattle.format.specs.Table.{Locus, Source, Reference, Qualifier, Feature, Table}
-use Rattle.format.specs.Record.{Outcome, Read, Not, number, placeWith}
-use Rattle.format.specs.declared.Dated.the-variants as dated
-use Rattle.format.specs.declared.Unread.the-variants as unread
+use Rattle.spec_format.specs.Bytes.{bytes, May, absent, is, pick, same, among}
+use Rattle.spec_format.specs.Table.{Locus, Source, Reference, Qualifier, Feature, Table}
+use Rattle.spec_format.specs.Record.{Outcome, Read, Not, number, placeWith}
+use Rattle.spec_format.specs.declared.Dated.the-variants as dated
+use Rattle.spec_format.specs.declared.Unread.the-variants as unread
 %s
 -- a refusal: its number and what is returned with it
 abbrev refusal : ℕ → Outcome → List ℕ
@@ -110,7 +110,7 @@ def _unfoldable():
         path = REPOSITORY / "crates" / "format" / "specs" / (module + ".antt")
         if module not in texts and path.exists():
             texts[module] = path.read_text()
-            wanted += re.findall(r"^use Rattle\.format\.specs\.(\w+)", texts[module], re.M)
+            wanted += re.findall(r"^use Rattle\.spec_format\.specs\.(\w+)", texts[module], re.M)
     return ["%s.%s" % (m, n) for m, text in sorted(texts.items()) for n in re.findall(r"^\s*unfoldable pub (\S+)", text, re.M)]
 
 
@@ -138,7 +138,7 @@ class Prover:
         (crate / "src" / "lib.rt").write_text(LIBRARY)
         (crate / "specs" / "Lib.antt").write_text("pub mod Answers\n")
         modules = sorted({n.split(".")[0] for n in self.names})
-        text = [OPENING % "".join("use Rattle.format.specs.%s as %s\n" % (m, m) for m in modules)]
+        text = [OPENING % "".join("use Rattle.spec_format.specs.%s as %s\n" % (m, m) for m in modules)]
         for i, statement in statements:
             text.append("case%d : %s\nunfolding %s\ncase%d = refl\n" % (i, statement, " ".join(self.names), i))
         (crate / "specs" / "Answers.antt").write_text("\n".join(text))

@@ -1,0 +1,154 @@
+-- The ways out of the functions, each as its test leaves it.
+use Prim.Native.Nat.{ℕ, zero, suc, _+_, _-_, _≤_, _<_}
+use mathlib.Core.Path.{_≡_, refl, sym}
+use mathlib.Core.Bool.{Bool, true, false, _&&_, not}
+use mathlib.Core.List.{List, [], _∷_}
+use native.Mathlib.Omega.{arith}
+use lib.ListN.{length, getD, List·getD-eq-default}
+use lib.Dec.{eqb}
+use borrow.Author.Tests.{lt-ltb, le-ltb, le-leb, lt-leb}
+use Rattle.spec_format.specs.declared.Text.{Text}
+use Rattle.spec_format.specs.declared.Text.the-variants as text
+use Rattle.spec_format.specs.declared.SourceText.{SourceText}
+use Rattle.spec_format.specs.declared.SourceText.the-variants as source
+use Rattle.spec_format.specs.declared.Span.{Span}
+use Rattle.spec_format.specs.declared.Date.{Date}
+use Rattle.spec_format.specs.declared.Length.{Length}
+use Rattle.spec_format.specs.declared.Length.the-variants as bases
+use Rattle.spec_format.specs.declared.Dated.{Dated}
+use Rattle.spec_format.specs.declared.Dated.the-variants as dated
+use Rattle.spec_format.specs.declared.Head.{Head}
+use Rattle.base_pen.specs.Pen.{Writes, writes-append}
+use Rattle.api_head.specs.Numbers.{largest, textNumbers, sourceNumbers, lengthNumbers, dateNumbers, above, lower, textFrom, sourceFrom, lengthFrom, onDate, dateFrom, textIn, headIn, outside, headFrom}
+
+pub above-less : (n : ℕ) → n < largest → n + 1 ≡ above n
+above-less n h = rw (lt-ltb n largest h)
+
+pub above-largest : (n : ℕ) → largest ≤ n → n ≡ above n
+above-largest n h = rw (le-ltb n largest h)
+
+pub lower-high : (top n : ℕ) → top < n → top ≡ lower top n
+lower-high top n h = rw (lt-ltb top n h)
+
+pub lower-low : (top n : ℕ) → n ≤ top → n ≡ lower top n
+lower-low top n h = rw (le-ltb top n h)
+
+pub number-past : (ns : List ℕ) (i : ℕ) → length ns ≤ i → 0 ≡ getD ns i 0
+number-past ns i h = sym (List·getD-eq-default ns 0 h)
+
+suc-less : (n : ℕ) → suc n - 1 ≡ n
+suc-less n = omega arith
+
+pub text-there : (start n : ℕ) → (n ≡ 0 → ⊥) → text.At (record { start = start; length = n - 1 }) ≡ textFrom start n
+text-there start zero h = absurd (h refl)
+text-there start (suc n) h = rw (suc-less n)
+
+pub source-there : (start n : ℕ) (o : Text) → (n ≡ 0 → ⊥) → source.At (record { start = start; length = n - 1 }) o ≡ sourceFrom start n o
+source-there start zero o h = absurd (h refl)
+source-there start (suc n) o h = rw (suc-less n)
+
+pub length-there : (n : ℕ) → (n ≡ 0 → ⊥) → bases.Bases (n - 1) ≡ lengthFrom n
+length-there zero h = absurd (h refl)
+length-there (suc n) h = rw (suc-less n)
+
+module _ (d m y : ℕ) (a b : Bool) (e : a ≡ (eqb m 0 && eqb y 0)) (f : b ≡ (eqb d 0 && a)) where
+  pub date-none : b ≡ true → dated.Absent ≡ dateFrom d m y
+  date-none t = rw (← e, ← f, t)
+
+  pub date-there : b ≡ false → (r : Dated) → r ≡ onDate d m y → r ≡ dateFrom d m y
+  date-there t r g = rw (← e, ← f, t) g
+
+module _ (ns : List ℕ) (h : Head) where
+  pub too-few : length ns < 31 → h ≡ outside → h ≡ headFrom ns
+  unfolding headFrom
+  too-few l e = rw (lt-leb 31 (length ns) l) e
+
+  pub too-long : 31 ≤ length ns → 4294967296 < getD ns 2 0 → h ≡ outside → h ≡ headFrom ns
+  unfolding headFrom
+  too-long l m e = rw (le-leb 31 (length ns) l, lt-leb (getD ns 2 0) 4294967296 m) e
+
+  pub enough : 31 ≤ length ns → getD ns 2 0 ≤ 4294967296 → h ≡ headIn ns → h ≡ headFrom ns
+  unfolding headFrom
+  enough l m e = rw (le-leb 31 (length ns) l, le-leb (getD ns 2 0) 4294967296 m) e
+
+-- a head made of what was found
+module _ (ns : List ℕ) (length : Length) (name molecule definition accession version dblink keywords organism contig : Text) (date : Dated) (source : SourceText)
+    (flag start n day month year at above references comments features letters : ℕ) where
+  pub head-is : length ≡ lengthFrom (getD ns 2 0) → name ≡ textIn ns 0 → molecule ≡ textIn ns 3 → start ≡ getD ns 6 0 → n ≡ getD ns 7 0
+      → day ≡ getD ns 8 0 → month ≡ getD ns 9 0 → year ≡ getD ns 10 0 → date ≡ dateFrom day month year
+      → at ≡ getD ns 21 0 → above ≡ getD ns 22 0 → organism ≡ textIn ns 23 → source ≡ sourceFrom at above organism → flag ≡ getD ns 5 0
+      → definition ≡ textIn ns 11 → accession ≡ textIn ns 13 → version ≡ textIn ns 15 → dblink ≡ textIn ns 17 → keywords ≡ textIn ns 19
+      → references ≡ getD ns 25 0 → comments ≡ getD ns 26 0 → features ≡ getD ns 27 0 → contig ≡ textIn ns 28 → letters ≡ getD ns 30 0
+      → record {
+        name = name;
+        length = length;
+        molecule = molecule;
+        circular = not (eqb flag 0);
+        division = record { start = start; length = n };
+        date = date;
+        definition = definition;
+        accession = accession;
+        version = version;
+        dblink = dblink;
+        keywords = keywords;
+        source = source;
+        references = references;
+        comments = comments;
+        features = features;
+        contig = contig;
+        letters = letters;
+      } ≡ headIn ns
+  unfolding headIn
+  head-is e₁ e₂ e₃ e₄ e₅ e₆ e₇ e₈ e₉ f₁ f₂ f₃ f₄ f₅ f₆ f₇ f₈ f₉ g₁ g₂ g₃ g₄ g₅ g₆ =
+      rw (e₁, e₂, e₃, e₄, e₅, e₉, e₆, e₇, e₈, f₄, f₁, f₂, f₃, f₅, f₆, f₇, f₈, f₉, g₁, g₂, g₃, g₄, g₅, g₆)
+
+-- what was put, by which value it is
+module _ (l n : List ℕ) (i k : ℕ) where
+  pub text-none : (t : Text) → t ≡ text.Absent → Writes l i (0 ∷ 0 ∷ []) n k → Writes l i (textNumbers t) n k
+  text-none t e w = rw e w
+
+  pub text-some : (t : Text) (s : Span) (p : ℕ) → t ≡ text.At s → p ≡ above (s .length) → Writes l i (s .start ∷ p ∷ []) n k → Writes l i (textNumbers t) n k
+  text-some t s p e f w = rw e (rw f at w)
+
+  pub source-none : (t : SourceText) → t ≡ source.Absent → Writes l i (0 ∷ 0 ∷ 0 ∷ 0 ∷ []) n k → Writes l i (sourceNumbers t) n k
+  source-none t e w = rw e w
+
+  pub source-some : (t : SourceText) (s : Span) (o : Text) (p : ℕ) (m : List ℕ) (j : ℕ) → t ≡ source.At s o → p ≡ above (s .length)
+      → Writes l i (s .start ∷ p ∷ []) m j → Writes m j (textNumbers o) n k → Writes l i (sourceNumbers t) n k
+  source-some t s o p m j e f w v = rw e (writes-append (rw f at w) v)
+
+  pub length-none : (t : Length) → t ≡ bases.Absent → Writes l i (0 ∷ []) n k → Writes l i (lengthNumbers t) n k
+  length-none t e w = rw e w
+
+  pub length-some : (t : Length) (b : ℕ) → t ≡ bases.Bases b → Writes l i ((b + 1) ∷ []) n k → Writes l i (lengthNumbers t) n k
+  length-some t b e w = rw e w
+
+  pub dated-none : (t : Dated) → t ≡ dated.Absent → Writes l i (0 ∷ 0 ∷ 0 ∷ []) n k → Writes l i (dateNumbers t) n k
+  dated-none t e w = rw e w
+
+  pub dated-some : (t : Dated) (d : Date) → t ≡ dated.On d → Writes l i (d .day ∷ d .month ∷ d .year ∷ []) n k → Writes l i (dateNumbers t) n k
+  dated-some t d e w = rw e w
+
+pub ruleset ways = (
+  above-less,
+  above-largest,
+  lower-high,
+  lower-low,
+  number-past,
+  text-there,
+  source-there,
+  length-there,
+  date-none,
+  date-there,
+  too-few,
+  too-long,
+  enough,
+  text-none,
+  text-some,
+  source-none,
+  source-some,
+  length-none,
+  length-some,
+  dated-none,
+  dated-some,
+)

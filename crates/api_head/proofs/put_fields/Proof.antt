@@ -1,0 +1,44 @@
+-- `headnumbers::put_fields` meets its contract.
+use borrow.Author.Needs.{needs}
+use Rattle.base_pen.specs.Pen.{writes-append}
+use Rattle.api_head.specs.Numbers.{fieldNumbers}
+use Rattle.api_head.proofs.put_fields.Statement.{statement}
+use Rattle.api_head.proofs.put_fields.Tie as tie
+
+put-text-requires : tie.Need-put-text-requires
+put-text-requires c κs = search needs
+
+put-text-requires-2 : tie.Need-put-text-requires-2
+put-text-requires-2 c κs = search needs
+
+put-text-requires-3 : tie.Need-put-text-requires-3
+put-text-requires-3 c κs = search needs
+
+put-text-requires-4 : tie.Need-put-text-requires-4
+put-text-requires-4 c κs = search needs
+
+put-text-requires-5 : tie.Need-put-text-requires-5
+put-text-requires-5 c κs = search needs
+
+put-source-requires : tie.Need-put-source-requires
+put-source-requires c κs = search needs
+
+same-length : tie.Need-same-length
+same-length c = search needs
+
+returns : tie.Need-returns
+unfolding fieldNumbers
+returns c = writes-append (writes-append (writes-append (writes-append (writes-append (c .before .before .before .before .before .before .before .before .before .before .before .before .before .before .before .before .before .before .before .before .before .before .put-text .ensures) (c .before .before .before .before .before .before .before .before .before .before .before .before .before .before .before .before .before .before .put-text2 .ensures)) (c .before .before .before .before .before .before .before .before .before .before .before .before .before .before .put-text3 .ensures)) (c .before .before .before .before .before .before .before .before .before .before .put-text4 .ensures)) (c .before .before .before .before .before .before .put-text5 .ensures)) (c .before .before .put-source .ensures)
+
+pub put-fields-spec : {M : Type 1} → statement M
+put-fields-spec =
+    tie.close
+    (tie.spec
+    put-text-requires
+    put-text-requires-2
+    put-text-requires-3
+    put-text-requires-4
+    put-text-requires-5
+    put-source-requires
+    same-length
+    returns)

@@ -1,0 +1,48 @@
+-- `headnumbers::put_locus` meets its contract.
+use borrow.Author.Needs.{needs}
+use Rattle.base_pen.specs.Pen.{writes-append}
+use Rattle.api_head.specs.Numbers.{locusNumbers}
+use Rattle.api_head.proofs.put_locus.Statement.{statement}
+use Rattle.api_head.proofs.put_locus.Tie as tie
+
+put-text-requires : tie.Need-put-text-requires
+put-text-requires c κs = search needs
+
+put-length-requires : tie.Need-put-length-requires
+put-length-requires c κs = search needs
+
+put-text-requires-2 : tie.Need-put-text-requires-2
+put-text-requires-2 c κs = search needs
+
+flag-of-requires : tie.Need-flag-of-requires
+flag-of-requires c κs = search needs
+
+put-number-requires : tie.Need-put-number-requires
+put-number-requires c κs = search needs
+
+put-two-requires : tie.Need-put-two-requires
+put-two-requires c κs = search needs
+
+put-date-requires : tie.Need-put-date-requires
+put-date-requires c κs = search needs
+
+same-length : tie.Need-same-length
+same-length c = search needs
+
+returns : tie.Need-returns
+unfolding locusNumbers
+returns c = writes-append (writes-append (writes-append (writes-append (writes-append (c .before .before .before .before .before .before .before .before .before .before .before .before .before .before .before .before .before .before .before .before .before .before .before .put-text .ensures) (c .before .before .before .before .before .before .before .before .before .before .before .before .before .before .before .before .before .before .before .put-length .ensures)) (c .before .before .before .before .before .before .before .before .before .before .before .before .before .before .before .put-text2 .ensures)) (rw (c .before .before .before .before .before .before .before .before .before .before .before .flag-of .ensures) at (c .before .before .before .before .before .before .before .before .before .before .put-number .ensures))) (c .before .before .before .before .before .before .put-two .ensures)) (c .before .before .put-date .ensures)
+
+pub put-locus-spec : {M : Type 1} → statement M
+put-locus-spec =
+    tie.close
+    (tie.spec
+    put-text-requires
+    put-length-requires
+    put-text-requires-2
+    flag-of-requires
+    put-number-requires
+    put-two-requires
+    put-date-requires
+    same-length
+    returns)

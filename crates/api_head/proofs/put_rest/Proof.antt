@@ -1,0 +1,36 @@
+-- `headnumbers::put_rest` meets its contract.
+use borrow.Author.Needs.{needs}
+use Rattle.base_pen.specs.Pen.{writes-append}
+use Rattle.api_head.specs.Numbers.{restNumbers}
+use Rattle.api_head.proofs.put_rest.Statement.{statement}
+use Rattle.api_head.proofs.put_rest.Tie as tie
+
+put-two-requires : tie.Need-put-two-requires
+put-two-requires c κs = search needs
+
+put-number-requires : tie.Need-put-number-requires
+put-number-requires c κs = search needs
+
+put-text-requires : tie.Need-put-text-requires
+put-text-requires c κs = search needs
+
+put-number-requires-2 : tie.Need-put-number-requires-2
+put-number-requires-2 c κs = search needs
+
+same-length : tie.Need-same-length
+same-length c = search needs
+
+returns : tie.Need-returns
+unfolding restNumbers
+returns c = writes-append (writes-append (writes-append (c .before .before .before .before .before .before .before .before .before .before .before .before .before .before .put-two .ensures) (c .before .before .before .before .before .before .before .before .before .before .put-number .ensures)) (c .before .before .before .before .before .before .put-text .ensures)) (c .before .before .put-number2 .ensures)
+
+pub put-rest-spec : {M : Type 1} → statement M
+put-rest-spec =
+    tie.close
+    (tie.spec
+    put-two-requires
+    put-number-requires
+    put-text-requires
+    put-number-requires-2
+    same-length
+    returns)

@@ -1,0 +1,50 @@
+-- `headnumbers::put_source` meets its contract.
+use borrow.Author.Needs.{needs}
+use Rattle.api_head.proofs.Laws.{ways, source-some}
+use Rattle.api_head.proofs.put_source.Statement.{statement}
+use Rattle.api_head.proofs.put_source.Tie as tie
+
+enum-told : tie.Need-enum-told
+enum-told c = search needs
+
+put-four-requires : tie.Need-put-four-requires
+put-four-requires c κs = search needs
+
+enum-known-source : tie.Need-enum-known-source
+enum-known-source c = search needs
+
+plus-one-requires : tie.Need-plus-one-requires
+plus-one-requires c κs = search needs
+
+put-two-requires : tie.Need-put-two-requires
+put-two-requires c κs = search needs
+
+put-text-requires : tie.Need-put-text-requires
+put-text-requires c κs = search needs
+
+same-length : tie.Need-same-length
+same-length c = search needs
+
+returns : tie.Need-returns
+returns c = search (ways, needs)
+
+same-length-2 : tie.Need-same-length-2
+same-length-2 c = search needs
+
+returns-2 : tie.Need-returns-2
+returns-2 c = source-some _ _ _ _ _ _ _ _ _ _ (c .before .before .before .before .before .before .before .before .before .before .source .given .1) (c .before .before .before .before .before .before .before .plus-one .ensures) (c .before .before .before .before .before .before .put-two .ensures) (c .before .before .put-text .ensures)
+
+pub put-source-spec : {M : Type 1} → statement M
+put-source-spec =
+    tie.close
+    (tie.spec
+    enum-told
+    put-four-requires
+    enum-known-source
+    plus-one-requires
+    put-two-requires
+    put-text-requires
+    same-length
+    returns
+    same-length-2
+    returns-2)

@@ -1,0 +1,309 @@
+// The head of a table as 31 numbers and back, for callers that pass numbers and slices only. specs/Numbers.antt has the layout.
+use base_arith::both;
+use base_pen::put_four;
+use base_pen::put_number;
+use base_pen::put_two;
+use spec_format::Date;
+use spec_format::Dated;
+use spec_format::Head;
+use spec_format::Length;
+use spec_format::SourceText;
+use spec_format::Span;
+use spec_format::Text;
+ghost use mathlib.Core.Path.{_≡_};
+ghost use mathlib.Core.List.{[], _∷_};
+ghost use Prim.Native.Nat.{_≤_};
+ghost use lib.ListN.{getD};
+ghost use Rattle.base_pen.specs.Pen.{Writes};
+ghost use Rattle.api_head.specs.Numbers.{above, flag, textNumbers, sourceNumbers, lengthNumbers, dateNumbers, locusNumbers, fieldNumbers, restNumbers, headNumbers, lower, textFrom, textIn, sourceFrom, lengthFrom, onDate, dateFrom, headIn, outside, headFrom};
+
+// ---- to numbers
+
+fn plus_one(n: usize) -> usize
+    ensures { λ r. ⌜ r ≡ above n ⌝ }
+{
+    if n < usize::MAX {
+        return n + 1;
+    }
+    n
+}
+
+fn put_text(out: &mut [usize], at: usize, text: Text) -> usize
+    ensures { λ r. ⌜ Writes (now (out .entry)) at (textNumbers text) (now (out .exit)) r ⌝ }
+{
+    match text {
+        Text::Absent => put_two(out, at, 0, 0),
+        Text::At(span) => put_two(out, at, span.start, plus_one(span.length)),
+    }
+}
+
+fn put_source(out: &mut [usize], at: usize, source: SourceText) -> usize
+    ensures { λ r. ⌜ Writes (now (out .entry)) at (sourceNumbers source) (now (out .exit)) r ⌝ }
+{
+    match source {
+        SourceText::Absent => put_four(out, at, 0, 0, 0, 0),
+        SourceText::At { text, organism } => {
+            let next = put_two(out, at, text.start, plus_one(text.length));
+            put_text(out, next, organism)
+        }
+    }
+}
+
+fn put_length(out: &mut [usize], at: usize, length: Length) -> usize
+    ensures { λ r. ⌜ Writes (now (out .entry)) at (lengthNumbers length) (now (out .exit)) r ⌝ }
+{
+    match length {
+        Length::Absent => put_number(out, at, 0),
+        Length::Bases(n) => put_number(out, at, n as usize + 1),
+    }
+}
+
+fn put_three(out: &mut [usize], at: usize, a: usize, b: usize, c: usize) -> usize
+    ensures { λ r. ⌜ Writes (now (out .entry)) at (a ∷ b ∷ c ∷ []) (now (out .exit)) r ⌝ }
+{
+    let next = put_two(out, at, a, b);
+    put_number(out, next, c)
+}
+
+fn put_date(out: &mut [usize], at: usize, date: Dated) -> usize
+    ensures { λ r. ⌜ Writes (now (out .entry)) at (dateNumbers date) (now (out .exit)) r ⌝ }
+{
+    match date {
+        Dated::Absent => put_three(out, at, 0, 0, 0),
+        Dated::On(on) => put_three(
+            out,
+            at,
+            on.day as usize,
+            on.month as usize,
+            on.year as usize,
+        ),
+    }
+}
+
+fn flag_of(b: bool) -> usize
+    ensures { λ r. ⌜ r ≡ flag b ⌝ }
+{
+    if b { 1 } else { 0 }
+}
+
+// Name, length, molecule type, topology, division, date.
+fn put_locus(out: &mut [usize], at: usize, head: Head) -> usize
+    ensures { λ r. ⌜ Writes (now (out .entry)) at (locusNumbers head) (now (out .exit)) r ⌝ }
+{
+    let name = head.name;
+    let length = head.length;
+    let molecule = head.molecule;
+    let division = head.division;
+    let date = head.date;
+    let a = put_text(out, at, name);
+    let b = put_length(out, a, length);
+    let c = put_text(out, b, molecule);
+    let d = put_number(out, c, flag_of(head.circular));
+    let e = put_two(out, d, division.start, division.length);
+    put_date(out, e, date)
+}
+
+// The single texts of the header.
+fn put_fields(out: &mut [usize], at: usize, head: Head) -> usize
+    ensures { λ r. ⌜ Writes (now (out .entry)) at (fieldNumbers head) (now (out .exit)) r ⌝ }
+{
+    let definition = head.definition;
+    let accession = head.accession;
+    let version = head.version;
+    let dblink = head.dblink;
+    let keywords = head.keywords;
+    let source = head.source;
+    let a = put_text(out, at, definition);
+    let b = put_text(out, a, accession);
+    let c = put_text(out, b, version);
+    let d = put_text(out, c, dblink);
+    let e = put_text(out, d, keywords);
+    put_source(out, e, source)
+}
+
+// How many rows and letters, and CONTIG.
+fn put_rest(out: &mut [usize], at: usize, head: Head) -> usize
+    ensures { λ r. ⌜ Writes (now (out .entry)) at (restNumbers head) (now (out .exit)) r ⌝ }
+{
+    let contig = head.contig;
+    let a = put_two(out, at, head.references, head.comments);
+    let b = put_number(out, a, head.features);
+    let c = put_text(out, b, contig);
+    put_number(out, c, head.letters)
+}
+
+// The numbers of a head; what falls past the end of `out` is lost.
+pub fn put_head(out: &mut [usize], at: usize, head: Head) -> usize
+    ensures { λ r. ⌜ Writes (now (out .entry)) at (headNumbers head) (now (out .exit)) r ⌝ }
+{
+    let a = put_locus(out, at, head);
+    let b = put_fields(out, a, head);
+    put_rest(out, b, head)
+}
+
+// ---- from numbers
+
+// The number at a place; 0 past the end.
+fn number_at(ns: &[usize], i: usize) -> usize
+    ensures { λ r. ⌜ r ≡ getD (now (ns .entry)) i 0 ⌝ }
+{
+    if i < ns.len() {
+        return ns[i];
+    }
+    0
+}
+
+fn text_from(start: usize, above: usize) -> Text
+    ensures { λ r. ⌜ r ≡ textFrom start above ⌝ }
+{
+    if above == 0 {
+        return Text::Absent;
+    }
+    Text::At(Span {
+        start: start,
+        length: above - 1,
+    })
+}
+
+fn text_at(ns: &[usize], i: usize) -> Text
+    requires { ⌜ i ≤ 30 ⌝ }
+    ensures { λ r. ⌜ r ≡ textIn (now (ns .entry)) i ⌝ }
+{
+    text_from(number_at(ns, i), number_at(ns, i + 1))
+}
+
+fn source_from(start: usize, above: usize, organism: Text) -> SourceText
+    ensures { λ r. ⌜ r ≡ sourceFrom start above organism ⌝ }
+{
+    if above == 0 {
+        return SourceText::Absent;
+    }
+    SourceText::At {
+        text: Span {
+            start: start,
+            length: above - 1,
+        },
+        organism: organism,
+    }
+}
+
+fn length_from(above: usize) -> Length
+    requires { ⌜ above ≤ 4294967296 ⌝ }
+    ensures { λ r. ⌜ r ≡ lengthFrom above ⌝ }
+{
+    if above == 0 {
+        return Length::Absent;
+    }
+    Length::Bases((above - 1) as u32)
+}
+
+fn lower_byte(n: usize) -> u8
+    ensures { λ r. ⌜ r ≡ lower 255 n ⌝ }
+{
+    if 255 < n {
+        return 255;
+    }
+    n as u8
+}
+
+fn lower_pair(n: usize) -> u16
+    ensures { λ r. ⌜ r ≡ lower 65535 n ⌝ }
+{
+    if 65535 < n {
+        return 65535;
+    }
+    n as u16
+}
+
+fn date_on(day: usize, month: usize, year: usize) -> Dated
+    ensures { λ r. ⌜ r ≡ onDate day month year ⌝ }
+{
+    Dated::On(Date {
+        day: lower_byte(day),
+        month: lower_byte(month),
+        year: lower_pair(year),
+    })
+}
+
+fn date_from(day: usize, month: usize, year: usize) -> Dated
+    ensures { λ r. ⌜ r ≡ dateFrom day month year ⌝ }
+{
+    if both(day == 0, both(month == 0, year == 0)) {
+        return Dated::Absent;
+    }
+    date_on(day, month, year)
+}
+
+// The head of 31 numbers.
+fn head_in(ns: &[usize], length: Length) -> Head
+    requires { ⌜ length ≡ lengthFrom (getD (now ns) 2 0) ⌝ }
+    ensures { λ r. ⌜ r ≡ headIn (now (ns .entry)) ⌝ }
+{
+    let name = text_at(ns, 0);
+    let molecule = text_at(ns, 3);
+    let division = Span {
+        start: number_at(ns, 6),
+        length: number_at(ns, 7),
+    };
+    let date = date_from(number_at(ns, 8), number_at(ns, 9), number_at(ns, 10));
+    let source = source_from(number_at(ns, 21), number_at(ns, 22), text_at(ns, 23));
+    Head {
+        name: name,
+        length: length,
+        molecule: molecule,
+        circular: number_at(ns, 5) != 0,
+        division: division,
+        date: date,
+        definition: text_at(ns, 11),
+        accession: text_at(ns, 13),
+        version: text_at(ns, 15),
+        dblink: text_at(ns, 17),
+        keywords: text_at(ns, 19),
+        source: source,
+        references: number_at(ns, 25),
+        comments: number_at(ns, 26),
+        features: number_at(ns, 27),
+        contig: text_at(ns, 28),
+        letters: number_at(ns, 30),
+    }
+}
+
+fn no_head() -> Head
+    ensures { λ r. ⌜ r ≡ outside ⌝ }
+{
+    Head {
+        name: Text::Absent,
+        length: Length::Absent,
+        molecule: Text::Absent,
+        circular: false,
+        division: Span {
+            start: usize::MAX,
+            length: 0,
+        },
+        date: Dated::Absent,
+        definition: Text::Absent,
+        accession: Text::Absent,
+        version: Text::Absent,
+        dblink: Text::Absent,
+        keywords: Text::Absent,
+        source: SourceText::Absent,
+        references: 0,
+        comments: 0,
+        features: 0,
+        contig: Text::Absent,
+        letters: 0,
+    }
+}
+
+// The head that numbers stand for. Where they stand for none it is one that lies outside every room, so that a writer answers 12 or 10.
+pub fn head_from(ns: &[usize]) -> Head
+    ensures { λ r. ⌜ r ≡ headFrom (now (ns .entry)) ⌝ }
+{
+    if ns.len() < 31 {
+        return no_head();
+    }
+    if 4294967296 < ns[2] {
+        return no_head();
+    }
+    head_in(ns, length_from(ns[2]))
+}

@@ -1,0 +1,157 @@
+// The member's question, record by record: read, written by the keeping writer and read again, is it still the same? The keeping writer's answer on an
+// empty slice tells (the theorem `rooms-come-back` of crate promise says so), so nothing has to be written.
+use app_round::Round;
+use spec_format::Head;
+use spec_format::How;
+use spec_format::MOST;
+use spec_format::ReadAnswer;
+use spec_format::Text;
+use spec_format::WriteAnswer;
+
+// How a record went.
+enum Judged {
+    // It was read and judged, and the next one starts there.
+    On(usize),
+    // It was not read.
+    Stop,
+}
+
+fn show_ordinal(ordinal: usize) {
+    io::write_all(1, b"record ");
+    io::print_decimal(1, ordinal as u64);
+}
+
+// A part of the store, after a comma; nothing where it is none.
+fn show_part(texts: &[u8], start: usize, n: usize) {
+    if texts.len() < start {
+        return;
+    }
+    if texts.len() - start < n {
+        return;
+    }
+    io::write_all(1, b", ");
+    io::write_all(1, &texts[start..start + n]);
+}
+
+// The record's name, if it has one.
+fn show_name(texts: &[u8], name: Text) {
+    match name {
+        Text::Absent => {}
+        Text::At(span) => show_part(texts, span.start, span.length),
+    }
+}
+
+fn show_number(number: usize) {
+    io::write_all(1, b": ");
+    io::print_decimal(1, number as u64);
+    io::write_all(1, b", ");
+    base_numbers::tell(1, number);
+    io::write_all(1, b"\n");
+}
+
+// What the keeping writer answers, measured: the bytes that it would write, if the reader takes that many; or the number of the refusal.
+fn show_judged(answer: WriteAnswer) {
+    let number = base_numbers::write_number(answer);
+    if 6 < number {
+        show_number(number);
+        return;
+    }
+    if MOST < base_numbers::write_value(answer) {
+        io::write_all(1, b": longer than 16,777,216 bytes when written\n");
+        return;
+    }
+    io::write_all(1, b": kept\n");
+}
+
+fn judge(texts: &[u8], head: Head, answer: WriteAnswer) {
+    let name = head.name;
+    show_name(texts, name);
+    show_judged(answer);
+}
+
+// What is said of a record that was read, or not.
+fn judge_round(round: Round, texts: &[u8]) -> Judged {
+    let read = round.read;
+    let wrote = round.wrote;
+    match read {
+        ReadAnswer::Room(_) => {
+            show_number(6);
+            Judged::Stop
+        }
+        ReadAnswer::Refused(why) => {
+            show_number(base_numbers::unread_number(why));
+            Judged::Stop
+        }
+        ReadAnswer::Done { head, place } => {
+            judge(texts, head, wrote);
+            Judged::On(place)
+        }
+    }
+}
+
+fn judge_at(
+    input: &[u8],
+    at: usize,
+    texts: &mut [u8],
+    references: &mut [usize],
+    comments: &mut [usize],
+    qualifiers: &mut [usize],
+    letters: &mut [u8],
+    width: usize,
+) -> Judged {
+    let mut none = [0u8; 0];
+    let how = How {
+        keeping: true,
+        width: width,
+        truncate: false,
+        escape: false,
+    };
+    let round = app_round::read_and_write(
+        input,
+        at,
+        texts,
+        references,
+        comments,
+        qualifiers,
+        letters,
+        &mut none,
+        how,
+    );
+    judge_round(round, texts)
+}
+
+// All records of the input. A record takes a byte at least, so there are no more records than bytes.
+pub fn judge_all(
+    input: &[u8],
+    texts: &mut [u8],
+    references: &mut [usize],
+    comments: &mut [usize],
+    qualifiers: &mut [usize],
+    letters: &mut [u8],
+    width: usize,
+) {
+    let mut at = 0;
+    let mut ordinal = 1;
+    while ordinal <= input.len() {
+        if at == input.len() {
+            return;
+        }
+        show_ordinal(ordinal);
+        match judge_at(
+            input,
+            at,
+            texts,
+            references,
+            comments,
+            qualifiers,
+            letters,
+            width,
+        ) {
+            Judged::Stop => return,
+            Judged::On(next) => {
+                at = next;
+                ordinal += 1;
+            }
+        }
+    }
+}

@@ -1,0 +1,56 @@
+// Answers for each record on standard input: read, written and read again, is it still the same? "kept", or the number and the reason.
+mod judging;
+
+use app_options::Asked;
+use app_options::Options;
+
+fn help() {
+    io::write_all(2, b"usage: still [WIDTH]   (WIDTH: 60 to 132, else 80)\n");
+}
+
+fn judge_input(width: usize) {
+    let mut input = app_rooms::input_room();
+    let mut texts = app_rooms::text_room();
+    let mut references = app_rooms::reference_room();
+    let mut comments = app_rooms::comment_room();
+    let mut qualifiers = app_rooms::qualifier_room();
+    let mut letters = app_rooms::text_room();
+    let n = io::read_full(0, &mut input);
+    if 524288 < n {
+        io::write_all(2, b"the input is longer than 524,288 bytes\n");
+        return;
+    }
+    judging::judge_all(
+        &input[..n],
+        &mut texts,
+        &mut references,
+        &mut comments,
+        &mut qualifiers,
+        &mut letters,
+        width,
+    );
+}
+
+// Of the arguments only a width has a meaning here.
+fn with_options(options: Options) {
+    if options.keep {
+        help();
+        return;
+    }
+    if options.truncate {
+        help();
+        return;
+    }
+    if options.escape {
+        help();
+        return;
+    }
+    judge_input(options.width);
+}
+
+fn main() {
+    match app_options::options_asked() {
+        Asked::Nothing => help(),
+        Asked::Options(options) => with_options(options),
+    }
+}

@@ -1,0 +1,121 @@
+// Document 01's numbers and values for the answers, as the definitions of `format` give them, and the words for each number.
+use spec_format::Unread;
+use spec_format::Unwritten;
+use spec_format::WriteAnswer;
+ghost use mathlib.Core.Path.{_≡_};
+ghost use Rattle.spec_format.specs.Record.{number, placeWith};
+ghost use Rattle.spec_format.specs.Answers.{valueWith};
+ghost use Rattle.spec_format.specs.Answers as write;
+ghost use Rattle.spec_format.specs.declared.WriteAnswer.the-variants as answered;
+
+// The number of a refusal to read.
+pub fn unread_number(why: Unread) -> usize
+    ensures { λ r. ⌜ r ≡ number why ⌝ }
+{
+    match why {
+        Unread::AtEnd => 1,
+        Unread::Unended => 2,
+        Unread::BadPlace => 3,
+        Unread::NoLocus => 4,
+        Unread::TwoDefinitions => 5,
+        Unread::NoSlashes => 7,
+        Unread::OtherLength => 8,
+        Unread::BadLetter => 9,
+    }
+}
+
+// What is returned with it, where `at` was the place given.
+pub fn unread_place(why: Unread, at: usize) -> usize
+    ensures { λ r. ⌜ r ≡ placeWith why at ⌝ }
+{
+    match why {
+        Unread::AtEnd => at,
+        Unread::Unended => at,
+        Unread::BadPlace => 0,
+        Unread::NoLocus => at,
+        Unread::TwoDefinitions => at,
+        Unread::NoSlashes => at,
+        Unread::OtherLength => at,
+        Unread::BadLetter => at,
+    }
+}
+
+// The number of a refusal to write.
+pub fn unwritten_number(why: Unwritten) -> usize
+    ensures { λ r. ⌜ r ≡ write.number (answered.Refused why) ⌝ }
+{
+    match why {
+        Unwritten::BadRooms => 10,
+        Unwritten::NoLayout => 11,
+        Unwritten::BadWidth => 12,
+        Unwritten::NotKept => 13,
+    }
+}
+
+// The number of a writer's answer.
+pub fn write_number(answer: WriteAnswer) -> usize
+    ensures { λ r. ⌜ r ≡ write.number answer ⌝ }
+{
+    match answer {
+        WriteAnswer::Done(_) => 0,
+        WriteAnswer::Room(_) => 6,
+        WriteAnswer::Refused(why) => unwritten_number(why),
+    }
+}
+
+// What is returned with it.
+pub fn write_value(answer: WriteAnswer) -> usize
+    ensures { λ r. ⌜ r ≡ valueWith answer ⌝ }
+{
+    match answer {
+        WriteAnswer::Done(n) => n,
+        WriteAnswer::Room(n) => n,
+        WriteAnswer::Refused(_) => 0,
+    }
+}
+
+// Why, in words, on the descriptor `fd`.
+pub fn tell(fd: i32, number: usize) {
+    if number == 1 {
+        io::write_all(fd, b"the place is the end of the input");
+    }
+    if number == 2 {
+        io::write_all(fd, b"the input ends inside the record");
+    }
+    if number == 3 {
+        io::write_all(
+            fd,
+            b"the place is beyond the input, or the input is longer than 16,777,216 bytes",
+        );
+    }
+    if number == 4 {
+        io::write_all(fd, b"no LOCUS line");
+    }
+    if number == 5 {
+        io::write_all(fd, b"a second DEFINITION");
+    }
+    if number == 6 {
+        io::write_all(fd, b"the room is too small");
+    }
+    if number == 7 {
+        io::write_all(fd, b"// does not stand where the sections end");
+    }
+    if number == 8 {
+        io::write_all(fd, b"the letters do not number the length that LOCUS gives");
+    }
+    if number == 9 {
+        io::write_all(fd, b"a byte in the sequence that cannot stand there");
+    }
+    if number == 10 {
+        io::write_all(fd, b"the table does not lie in its rooms");
+    }
+    if number == 11 {
+        io::write_all(fd, b"a text that cannot be laid out");
+    }
+    if number == 12 {
+        io::write_all(fd, b"the width is not 60 to 132");
+    }
+    if number == 13 {
+        io::write_all(fd, b"a keeping rule is broken");
+    }
+}

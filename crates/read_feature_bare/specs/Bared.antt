@@ -1,0 +1,72 @@
+-- The answers of scans over bare texts as readers' answers, and the text that a bare reading gives, as a function of the bytes alone.
+use Prim.Native.Nat.{ℕ, _+_, _≤_, _<_}
+use mathlib.Core.Path.{_≡_}
+use mathlib.Core.Bool.{Bool, _&&_}
+use mathlib.Core.List.{List, [], _++_}
+use lib.ListN.{length, drop}
+use Rattle.spec_format.specs.Bytes.{all, visible}
+use Rattle.spec_format.specs.Readers.{Ans, Got, No, Cut, Turn, more, stop, line}
+use Rattle.spec_format.specs.Features.{bareMore}
+use Rattle.scan_bytes.specs.Places.{part}
+use Rattle.read_feature_joined.specs.Taken.{taken}
+use Rattle.scan_utf8.specs.declared.State.{State}
+use Rattle.scan_utf8.specs.States.{Ran}
+use Rattle.read_feature_bare.specs.declared.Further.{Further}
+use Rattle.read_feature_bare.specs.declared.Further.the-variants as further
+use Rattle.read_feature_bare.specs.declared.Bare.{Bare}
+use Rattle.read_feature_bare.specs.declared.Bare.the-variants as bare′
+
+-- the text after a first line was read
+abbrev pub bareFrom : ℕ → Ans (List ℕ) → List ℕ
+bareFrom indent (Got first r) = first ++ taken (bareMore indent) r
+bareFrom indent No = []
+bareFrom indent Cut = []
+
+-- what `bare` gives, where it gives a text
+unfoldable pub bareText : ℕ → List ℕ → List ℕ
+bareText indent s = bareFrom indent (line s)
+
+abbrev pub furtherOf : List ℕ → ℕ → Further → Ans (Turn (List ℕ))
+furtherOf s at (further.Line from end next) = Got (more (part from end s)) (drop next s)
+furtherOf s at further.Stop = Got stop (drop at s)
+furtherOf s at further.No = No
+furtherOf s at further.Cut = Cut
+
+pub record LineSpan (s : List ℕ) (at from end next : ℕ) : Type 0 where
+  pub after : at ≤ from
+  pub long : from ≤ end
+  pub ended : end < next
+  pub within : next ≤ length s
+
+abbrev pub PastFurther : List ℕ → ℕ → Further → Type 0
+PastFurther s at (further.Line from end next) = LineSpan s at from end next
+PastFurther s at further.Stop = Unit
+PastFurther s at further.No = Unit
+PastFurther s at further.Cut = Unit
+
+pub record Furthered (s : List ℕ) (at : ℕ) (o : Ans (Turn (List ℕ))) (r : Further) : Type 0 where
+  pub is : furtherOf s at r ≡ o
+  pub place : PastFurther s at r
+
+abbrev pub bareOf : List ℕ → List ℕ → Bare → Ans (List ℕ)
+bareOf s t (bare′.Got n next vis state) = Got t (drop next s)
+bareOf s t bare′.No = No
+bareOf s t bare′.Cut = Cut
+
+-- the text t comes from bytes from `at` up to `next`; the count and the tests went on from `first`, `seen` and `before`
+pub record BareSpan (s : List ℕ) (at first : ℕ) (seen : Bool) (before : State) (t : List ℕ) (n next : ℕ) (vis : Bool) (state : State) : Type 0 where
+  pub from : at ≤ next
+  pub within : next ≤ length s
+  pub long : n ≡ first + length t
+  pub short : n + at ≤ next + first
+  pub shown : vis ≡ seen && all visible t
+  pub ran : Ran before t state
+
+abbrev pub PastBare : List ℕ → ℕ → ℕ → Bool → State → List ℕ → Bare → Type 0
+PastBare s at first seen before t (bare′.Got n next vis state) = BareSpan s at first seen before t n next vis state
+PastBare s at first seen before t bare′.No = Unit
+PastBare s at first seen before t bare′.Cut = Unit
+
+pub record Bared (s : List ℕ) (at first : ℕ) (seen : Bool) (before : State) (t : List ℕ) (o : Ans (List ℕ)) (r : Bare) : Type 0 where
+  pub is : bareOf s t r ≡ o
+  pub place : PastBare s at first seen before t r

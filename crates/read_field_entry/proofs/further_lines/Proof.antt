@@ -1,0 +1,85 @@
+-- `field::further_lines` meets its contract. Assumes nothing.
+use Prim.Native.Nat.{_+_, _-_, _≤_}
+use lib.ListN.{length, drop}
+use native.Mathlib.Omega.{arith}
+use borrow.Author.Needs.{needs}
+use denote.Ref.{now}
+use Rattle.read_field_entry.specs.Texts.{further}
+use Rattle.scan_bytes.specs.Parts.{length-part}
+use Rattle.read_field_entry.proofs.Turns.{Reading, reading-start, reading-more, reading-stop, reading-cut, grown-small}
+use Rattle.read_field_entry.specs.Lines.{piece-places, piece-is, piece-is-no, piece-is-cut}
+use Rattle.read_field_entry.proofs.further_lines.Statement.{statement}
+use Rattle.read_field_entry.proofs.further_lines.Tie as tie
+
+abbrev Inv-loop : tie.InvT-loop
+Inv-loop s at columns keep front i₀ size₀ judge₀ i size judge =
+    (at ≤ i) × (i ≤ length s) × (size + at ≤ front + i) × Reading (further columns keep (drop at s)) (further columns keep (drop i s)) judge₀ judge front size
+
+abbrev μ-loop : tie.MeasureT-loop
+μ-loop s at columns keep front i₀ size₀ judge₀ i size judge = length s - i
+
+loop-holds : tie.Need-loop-holds Inv-loop μ-loop
+loop-holds c = (omega arith, omega arith, omega arith, reading-start _ _ _)
+
+further-line-requires : tie.Need-further-line-requires Inv-loop μ-loop
+further-line-requires c κs = search needs
+
+enum-told : tie.Need-enum-told Inv-loop μ-loop
+enum-told c = search needs
+
+returns : tie.Need-returns Inv-loop μ-loop
+returns c =
+    let v = c .before .before .before .loop .inv in
+    reading-stop (c .before .before .before .before .before .args .columns) (c .before .before .before .before .before .args .keep) _ _ _ _ _ (now (c .before .before .before .before .before .args .s)) _ (c .before .before .before .loop .i) (v .3) (piece-is-no (c .before .before .further-line .ensures) (c .enum-told .given .1)) (v .0) (v .1) (v .2)
+
+enum-told-2 : tie.Need-enum-told-2 Inv-loop μ-loop
+enum-told-2 c = search needs
+
+returns-2 : tie.Need-returns-2 Inv-loop μ-loop
+returns-2 c = reading-cut (c .before .before .before .before .before .args .columns) (c .before .before .before .before .before .args .keep) _ _ _ _ _ (drop (c .before .before .before .loop .i) (now (c .before .before .before .before .before .args .s))) (c .before .before .before .loop .inv .3) _ _ (piece-is-cut (c .before .before .further-line .ensures) (c .enum-told2 .given .1))
+
+enum-known-from : tie.Need-enum-known-from Inv-loop μ-loop
+enum-known-from c = search needs
+
+judge-line-requires : tie.Need-judge-line-requires Inv-loop μ-loop
+judge-line-requires c κs = let p = piece-places (c .before .before .before .further-line .ensures) (c .before .from .given .1) in search needs
+
+sub-grown : tie.Need-sub-grown Inv-loop μ-loop
+sub-grown c = let p = piece-places (c .before .before .before .before .further-line .ensures) (c .before .before .from .given .1) in search needs
+
+grown-requires : tie.Need-grown-requires Inv-loop μ-loop
+grown-requires c κs = let p = piece-places (c .before .before .before .before .further-line .ensures) (c .before .before .from .given .1) in search needs
+
+loop-less : tie.Need-loop-less Inv-loop μ-loop
+loop-less c = omega (arith, piece-places (c .before .before .before .before .before .further-line .ensures) (c .before .before .before .from .given .1))
+
+loop-again : tie.Need-loop-again Inv-loop μ-loop
+loop-again c =
+    let p = piece-places (c .before .before .before .before .before .further-line .ensures) (c .before .before .before .from .given .1) in
+    let v = c .before .before .before .before .before .before .loop .inv in
+    let g = c .grown .ensures in
+    let k = length-part (now (c .before .before .before .before .before .before .before .before .args .s)) _ _ (p .1) (omega arith) in (
+      omega arith,
+      omega arith,
+      grown-small (c .before .before .before .before .before .before .before .before .args .keep) (now (c .before .before .before .before .before .before .before .before .args .s)) _ _ _ _ _ _ _ _ p (v .2) g,
+      reading-more (c .before .before .before .before .before .before .before .before .args .columns) (c .before .before .before .before .before .before .before .before .args .keep) _ _ _ _ _ (drop (c .before .before .before .before .before .before .loop .i) (now (c .before .before .before .before .before .before .before .before .args .s))) (v .3) _ _ _ _ _ (piece-is (c .before .before .before .before .before .further-line .ensures) (c .before .before .before .from .given .1)) (c .before .judge-line .ensures) k g,
+    )
+
+pub further-lines-spec : {M : Type 1} → statement M
+further-lines-spec =
+    tie.close
+    (tie.spec
+    Inv-loop
+    μ-loop
+    loop-holds
+    further-line-requires
+    enum-told
+    returns
+    enum-told-2
+    returns-2
+    enum-known-from
+    judge-line-requires
+    sub-grown
+    grown-requires
+    loop-less
+    loop-again)

@@ -1,0 +1,58 @@
+-- `field::text_at` meets its contract. Assumes nothing.
+use denote.Ref.{now}
+use borrow.Author.Needs.{needs}
+use Rattle.scan_bytes.specs.Sequence.{line-places}
+use Rattle.read_field_entry.proofs.Turns.{text-no, text-cut, text-got}
+use Rattle.read_field_entry.proofs.text_at.Statement.{statement}
+use Rattle.read_field_entry.proofs.text_at.Tie as tie
+
+line-at-requires : tie.Need-line-at-requires
+line-at-requires c κs = search needs
+
+enum-told : tie.Need-enum-told
+enum-told c = search needs
+
+enum-told-2 : tie.Need-enum-told-2
+enum-told-2 c = search needs
+
+enum-known-end : tie.Need-enum-known-end
+enum-known-end c = search needs
+
+unjudged-requires : tie.Need-unjudged-requires
+unjudged-requires c κs = search needs
+
+judge-part-requires : tie.Need-judge-part-requires
+judge-part-requires c κs = let p = line-places (c .before .before .before .before .line-at .ensures) (c .before .before .end .given .1) in search needs
+
+sub-further-lines : tie.Need-sub-further-lines
+sub-further-lines c = let p = line-places (c .before .before .before .before .before .line-at .ensures) (c .before .before .before .end .given .1) in search needs
+
+further-lines-requires : tie.Need-further-lines-requires
+further-lines-requires c κs = let p = line-places (c .before .before .before .before .before .line-at .ensures) (c .before .before .before .end .given .1) in search needs
+
+returns : tie.Need-returns
+returns c = search (text-no, text-cut, needs)
+
+returns-2 : tie.Need-returns-2
+returns-2 c = search (text-no, text-cut, needs)
+
+returns-3 : tie.Need-returns-3
+returns-3 c =
+    text-got (c .before .before .before .before .before .before .before .before .args .columns) (c .before .before .before .before .before .before .before .before .args .keep) (now (c .before .before .before .before .before .before .before .before .args .s)) (c .before .before .before .before .before .before .before .before .args .at) _ (c .before .before .before .before .before .before .line-at .ensures) _ _ _ _ (c .before .before .before .before .end .given .1)
+    (rw (c .before .before .unjudged .ensures) at (c .before .judge-part .ensures)) (c .further-lines .ensures)
+
+pub text-at-spec : {M : Type 1} → statement M
+text-at-spec =
+    tie.close
+    (tie.spec
+    line-at-requires
+    enum-told
+    enum-told-2
+    enum-known-end
+    unjudged-requires
+    judge-part-requires
+    sub-further-lines
+    further-lines-requires
+    returns
+    returns-2
+    returns-3)

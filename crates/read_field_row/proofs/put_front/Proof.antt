@@ -1,0 +1,35 @@
+-- `referenceputs::put_front` meets its contract. Assumes nothing.
+use native.Mathlib.Omega.{arith}
+use Rattle.read_field_row.specs.Putting.{puts-append}
+use borrow.Author.Needs.{needs}
+use Rattle.read_field_row.proofs.put_front.Statement.{statement}
+use Rattle.read_field_row.proofs.put_front.Tie as tie
+
+put-always-requires : tie.Need-put-always-requires
+put-always-requires c κs = search needs
+
+put-perhaps-requires : tie.Need-put-perhaps-requires
+put-perhaps-requires c κs = search needs
+
+put-perhaps-requires-2 : tie.Need-put-perhaps-requires-2
+put-perhaps-requires-2 c κs = (c .before .before .before .before .before .before .before .before .before .before .before .before .before .before .before .before .before .before .before .before .pre .0 .consrtm, record { text = omega (arith, c .before .before .before .before .before .before .before .before .before .before .before .before .before .put-always .ensures .text, c .before .before .before .before .before .before .put-perhaps .ensures .text, c .before .before .before .before .before .before .before .before .before .before .before .before .before .before .before .before .before .before .before .before .pre .1 .text); row = omega (arith, c .before .before .before .before .before .before .before .before .before .before .before .before .before .put-always .ensures .row, c .before .before .before .before .before .before .put-perhaps .ensures .row, c .before .before .before .before .before .before .before .before .before .before .before .before .before .before .before .before .before .before .before .before .pre .1 .row) })
+
+same-length : tie.Need-same-length
+same-length c = search needs
+
+same-length-2 : tie.Need-same-length-2
+same-length-2 c = search needs
+
+returns : tie.Need-returns
+returns c = puts-append (puts-append (c .before .before .before .before .before .before .before .before .before .before .before .before .before .before .before .before .before .before .put-always .ensures) (c .before .before .before .before .before .before .before .before .before .before .before .put-perhaps .ensures)) (c .before .before .before .before .put-perhaps2 .ensures)
+
+pub put-front-spec : {M : Type 1} → statement M
+put-front-spec =
+    tie.close
+    (tie.spec
+    put-always-requires
+    put-perhaps-requires
+    put-perhaps-requires-2
+    same-length
+    same-length-2
+    returns)

@@ -1,0 +1,2 @@
+-- The definitions that the contracts cite, and that two answers agree.
+pub mod Reads

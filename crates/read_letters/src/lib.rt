@@ -1,0 +1,295 @@
+// The letters of ORIGIN: `parse_seq_data` of stream_parser.rs, counted first and then put into the lent room. A line of the usual layout
+// (nine columns of number, six times a space and ten letters, a line end) is tested at once and taken whole.
+use base_arith::both;
+ghost use mathlib.Core.Path.{_≡_};
+ghost use mathlib.Core.Bool.{_&&_, _||_};
+ghost use mathlib.Core.List.{[], _++_};
+ghost use Prim.Native.Nat.{_+_, _-_, _≤_};
+ghost use lib.ListN.{length, drop};
+ghost use Rattle.spec_format.specs.Bytes.{letter};
+ghost use Rattle.spec_format.specs.Origin.{letters, skipped};
+ghost use Rattle.base_pen.specs.Pen.{Writes};
+ghost use Rattle.read_letters.specs.Runs.{tally, plus, Counts, sifted, Runs, one, lettersIn, spaced, ten, thirtyOf, sixtyOf};
+
+// How many letters there are, and the place of the `/` that ends them; or that a byte stands there that may not.
+pub enum Counted {
+    AtSlash { count: usize, next: usize },
+    AtEnd { count: usize },
+    Bad,
+}
+
+fn either(a: bool, b: bool) -> bool
+    ensures { λ r. ⌜ r ≡ a || b ⌝ }
+{
+    if a { true } else { b }
+}
+
+fn is_skipped(b: u8) -> bool
+    ensures { λ r. ⌜ r ≡ skipped b ⌝ }
+{
+    either(
+        scan_bytes::is_digit(b),
+        either(b == b' ', either(b == b'\r', b == b'\n')),
+    )
+}
+
+// Whether the n bytes at a place are skipped.
+fn skips(s: &[u8], at: usize, n: usize) -> bool
+    requires { ⌜ at + n ≤ length (now s) ⌝ }
+    ensures { λ r. ⌜ Runs (now (s .entry)) at (at + n) [] r ⌝ }
+{
+    let mut ok = true;
+    let mut j = 0;
+    while j < n {
+        ok = both(ok, is_skipped(s[at + j]));
+        j += 1;
+    }
+    ok
+}
+
+// Whether nine columns end in a digit and the eight before it are skipped.
+fn numbered(s: &[u8], at: usize) -> bool
+    requires { ⌜ at + 9 ≤ length (now s) ⌝ }
+    ensures { λ r. ⌜ Runs (now (s .entry)) at (at + 9) [] r ⌝ }
+{
+    if !scan_bytes::is_digit(s[at + 8]) {
+        return false;
+    }
+    skips(s, at, 8)
+}
+
+// Whether a line ends at a place.
+fn ends(s: &[u8], at: usize) -> bool
+    requires { ⌜ at + 1 ≤ length (now s) ⌝ }
+    ensures { λ r. ⌜ Runs (now (s .entry)) at (at + 1) [] r ⌝ }
+{
+    s[at] == b'\n' || s[at] == b'\r'
+}
+
+fn letter_one(b: u8) -> u8
+    ensures { λ r. ⌜ r ≡ one (letter b) ⌝ }
+{
+    if scan_bytes::is_letter(b) {
+        return 1;
+    }
+    0
+}
+
+// How many of the 65 bytes at a place are letters: a sum of bytes in a loop without a branch, which the compiler makes of many bytes at once.
+fn letters_in(s: &[u8], at: usize) -> u8
+    requires { ⌜ at + 65 ≤ length (now s) ⌝ }
+    ensures { λ r. ⌜ r ≡ lettersIn (now (s .entry)) at 65 ⌝ }
+{
+    let mut n: u8 = 0;
+    let mut j = 0;
+    while j < 65 {
+        n += letter_one(s[at + j]);
+        j += 1;
+    }
+    n
+}
+
+// Whether a space stands at a place and before each of the two tens of letters after the next ten.
+fn three_spaces(s: &[u8], at: usize) -> bool
+    requires { ⌜ at + 33 ≤ length (now s) ⌝ }
+    ensures { λ r. ⌜ r ≡ spaced (now (s .entry)) at ⌝ }
+{
+    s[at] == b' ' && (s[at + 11] == b' ' && s[at + 22] == b' ')
+}
+
+// Whether six times a space and ten letters stand at a place. Of 66 bytes that begin so, 60 are letters only if all others are.
+fn sixty(s: &[u8], at: usize) -> bool
+    requires { ⌜ at + 66 ≤ length (now s) ⌝ }
+    ensures { λ r. ⌜ Runs (now (s .entry)) at (at + 66) (thirtyOf (now (s .entry)) at ++ thirtyOf (now (s .entry)) (at + 33)) r ⌝ }
+{
+    if !three_spaces(s, at) {
+        return false;
+    }
+    if !three_spaces(s, at + 33) {
+        return false;
+    }
+    letters_in(s, at + 1) == 60
+}
+
+// Whether a line of the usual layout does.
+fn usual(s: &[u8], at: usize) -> bool
+    requires { ⌜ at + 76 ≤ length (now s) ⌝ }
+    ensures { λ r. ⌜ Runs (now (s .entry)) at (at + 76) (sixtyOf (now (s .entry)) at) r ⌝ }
+{
+    if !ends(s, at + 75) {
+        return false;
+    }
+    if !sixty(s, at + 9) {
+        return false;
+    }
+    numbered(s, at)
+}
+
+// The letters at a place, byte by byte, after n others.
+fn count_from(s: &[u8], at: usize, n: usize) -> Counted
+    requires { ⌜ (at ≤ length (now s)) × (n ≤ at) ⌝ }
+    ensures { λ r. ⌜ Counts (now (s .entry)) (at - n) (plus n (tally (letters (drop at (now (s .entry)))))) r ⌝ }
+{
+    let mut k = n;
+    let mut i = at;
+    while i < s.len() {
+        let b = s[i];
+        if scan_bytes::is_letter(b) {
+            k += 1;
+            i += 1;
+            continue;
+        }
+        if b == b'/' {
+            return Counted::AtSlash { count: k, next: i };
+        }
+        if !is_skipped(b) {
+            return Counted::Bad;
+        }
+        i += 1;
+    }
+    Counted::AtEnd { count: k }
+}
+
+// The letters at a place: lines of the usual layout, which may end in CR and LF and have empty lines between them, and then byte by byte.
+pub fn count_letters(s: &[u8], at: usize) -> Counted
+    requires { ⌜ at ≤ length (now s) ⌝ }
+    ensures { λ r. ⌜ Counts (now (s .entry)) at (tally (letters (drop at (now (s .entry))))) r ⌝ }
+{
+    let mut k = 0;
+    let mut i = at;
+    while 76 <= s.len() - i {
+        if usual(s, i) {
+            k += 60;
+            i += 76;
+            continue;
+        }
+        if s[i] != b'\n' {
+            return count_from(s, i, k);
+        }
+        i += 1;
+    }
+    count_from(s, i, k)
+}
+
+// ---- into the room
+
+// Ten bytes by value: nothing then says that they could lie in the room, and they go there as wide moves.
+fn ten_of(s: &[u8], at: usize) -> [u8; 10]
+    requires { ⌜ at + 10 ≤ length (now s) ⌝ }
+    ensures { λ r. ⌜ r ≡ ten (now (s .entry)) at ⌝ }
+{
+    let mut t = [0u8; 10];
+    let mut j = 0;
+    while j < 10 {
+        t[j] = s[at + j];
+        j += 1;
+    }
+    t
+}
+
+fn store_ten(t: &[u8; 10], room: &mut [u8], place: usize) -> usize
+    requires { ⌜ (length (now t) ≡ 10) × (place + 10 ≤ length (now room)) ⌝ }
+    ensures { λ r. ⌜ Writes (now (room .entry)) place (now (t .entry)) (now (room .exit)) r × (r ≡ place + 10) ⌝ }
+{
+    let mut j = 0;
+    while j < 10 {
+        room[place + j] = t[j];
+        j += 1;
+    }
+    place + 10
+}
+
+// Ten bytes, which fit.
+fn copy_ten(s: &[u8], at: usize, room: &mut [u8], place: usize) -> usize
+    requires { ⌜ (at + 10 ≤ length (now s)) × (place + 10 ≤ length (now room)) ⌝ }
+    ensures { λ r. ⌜ Writes (now (room .entry)) place (ten (now (s .entry)) at) (now (room .exit)) r × (r ≡ place + 10) ⌝ }
+{
+    let t = ten_of(s, at);
+    store_ten(&t, room, place)
+}
+
+// Thirty letters of three groups, which fit.
+fn copy_thirty(s: &[u8], at: usize, room: &mut [u8], place: usize) -> usize
+    requires { ⌜ (at + 33 ≤ length (now s)) × (place + 30 ≤ length (now room)) ⌝ }
+    ensures { λ r. ⌜ Writes (now (room .entry)) place (thirtyOf (now (s .entry)) at) (now (room .exit)) r × (r ≡ place + 30) ⌝ }
+{
+    let a = copy_ten(s, at + 1, room, place);
+    let b = copy_ten(s, at + 12, room, a);
+    copy_ten(s, at + 23, room, b)
+}
+
+// The sixty letters of a line of the usual layout, which fit.
+fn copy_sixty(s: &[u8], at: usize, room: &mut [u8], place: usize) -> usize
+    requires { ⌜ (at + 76 ≤ length (now s)) × (place + 60 ≤ length (now room)) ⌝ }
+    ensures { λ r. ⌜ Writes (now (room .entry)) place (sixtyOf (now (s .entry)) at) (now (room .exit)) r ⌝ }
+{
+    let next = copy_thirty(s, at + 9, room, place);
+    copy_thirty(s, at + 42, room, next)
+}
+
+// Thirty letters of three groups, of which some may not fit.
+fn put_thirty(s: &[u8], at: usize, room: &mut [u8], place: usize) -> usize
+    requires { ⌜ at + 33 ≤ length (now s) ⌝ }
+    ensures { λ r. ⌜ Writes (now (room .entry)) place (thirtyOf (now (s .entry)) at) (now (room .exit)) r ⌝ }
+{
+    let a = base_pen::put_part(room, place, s, at + 1, at + 11);
+    let b = base_pen::put_part(room, a, s, at + 12, at + 22);
+    base_pen::put_part(room, b, s, at + 23, at + 33)
+}
+
+// The sixty letters of a line of the usual layout: one test of the room, for all of them.
+fn put_sixty(s: &[u8], at: usize, room: &mut [u8], place: usize) -> usize
+    requires { ⌜ at + 76 ≤ length (now s) ⌝ }
+    ensures { λ r. ⌜ Writes (now (room .entry)) place (sixtyOf (now (s .entry)) at) (now (room .exit)) r ⌝ }
+{
+    if place <= room.len() {
+        if 60 <= room.len() - place {
+            return copy_sixty(s, at, room, place);
+        }
+    }
+    let next = put_thirty(s, at + 9, room, place);
+    put_thirty(s, at + 42, room, next)
+}
+
+// The letters at a place, byte by byte.
+fn put_from(s: &[u8], at: usize, room: &mut [u8], place: usize) -> usize
+    requires { ⌜ at ≤ length (now s) ⌝ }
+    ensures { λ r. ⌜ Writes (now (room .entry)) place (sifted (drop at (now (s .entry)))) (now (room .exit)) r ⌝ }
+{
+    let mut p = place;
+    let mut i = at;
+    while i < s.len() {
+        let b = s[i];
+        if scan_bytes::is_letter(b) {
+            p = base_pen::put_byte(room, p, b);
+            i += 1;
+            continue;
+        }
+        if !is_skipped(b) {
+            return p;
+        }
+        i += 1;
+    }
+    p
+}
+
+// The letters at a place, up to the byte that ends them, put at a place of the room.
+pub fn put_letters(s: &[u8], at: usize, room: &mut [u8], place: usize) -> usize
+    requires { ⌜ at ≤ length (now s) ⌝ }
+    ensures { λ r. ⌜ Writes (now (room .entry)) place (sifted (drop at (now (s .entry)))) (now (room .exit)) r ⌝ }
+{
+    let mut p = place;
+    let mut i = at;
+    while 76 <= s.len() - i {
+        if usual(s, i) {
+            p = put_sixty(s, i, room, p);
+            i += 76;
+            continue;
+        }
+        if s[i] != b'\n' {
+            return put_from(s, i, room, p);
+        }
+        i += 1;
+    }
+    put_from(s, i, room, p)
+}

@@ -1,0 +1,66 @@
+-- What reading ORIGIN, the letters and the record's end answers, whatever table was read before.
+use Prim.Native.Nat.{ℕ, _≤_}
+use mathlib.Core.Path.{_≡_}
+use mathlib.Core.List.{List, []}
+use lib.ListN.{length, drop}
+use Rattle.spec_format.specs.Bytes.{bytes, notBlank}
+use Rattle.spec_format.specs.Readers.{Ans, Got, No, Cut, bind, tag, until, lineEnd}
+use Rattle.spec_format.specs.Table.{Table}
+use Rattle.spec_format.specs.Origin.{originTag, letters}
+use Rattle.spec_format.specs.Record.{Outcome, Read, Not, withLetters, slashesAt, sequence, afterOrigin}
+use Rattle.spec_format.specs.Rooms.{mayLength}
+use Rattle.spec_format.specs.declared.Length.{Length}
+use Rattle.scan_bytes.specs.Views.{stepOf, Past}
+use Rattle.scan_bytes.specs.declared.Step.{Step}
+use Rattle.read_letters.specs.Runs.{sifted}
+use Rattle.read_origin.specs.declared.EndAt.{EndAt}
+use Rattle.read_origin.specs.declared.EndAt.the-variants as ended
+
+-- ---- ORIGIN
+
+abbrev pub originRest : List ℕ → Ans (List ℕ)
+originRest s = bind (until notBlank s) λ _ s. lineEnd s
+
+abbrev pub originWord : List ℕ → Ans (List ℕ)
+originWord s = bind (tag (bytes "ORIGIN") s) λ _ s. originRest s
+
+-- an answer whose text is of no interest
+abbrev pub passed : Ans (List ℕ) → Ans Unit
+passed (Got t r) = Got tt r
+passed No = No
+passed Cut = Cut
+
+pub record Passed (s : List ℕ) (at : ℕ) (o : Ans (List ℕ)) (r : Step) : Type 0 where
+  pub is : stepOf s r ≡ passed o
+  pub place : Past s at r
+
+-- ---- what follows, as a function of the table that was read before
+
+-- `//` after these letters
+unfoldable pub lettersThen : List ℕ → List ℕ → Table → Outcome
+lettersThen l s t = slashesAt (withLetters t l) s
+
+unfoldable pub sequenceThen : List ℕ → Table → Outcome
+sequenceThen s t = sequence t (letters s)
+
+unfoldable pub originThen : List ℕ → Table → Outcome
+originThen s t = afterOrigin t s (originTag s)
+
+-- a table that has no letters yet, and LOCUS gave that length
+pub record Before (given : Length) (t : Table) : Type 0 where
+  pub none : t .letters ≡ []
+  pub length : t .locus .length ≡ mayLength given
+
+pub record EndKnown (s : List ℕ) (given : Length) (o : Table → Outcome) (lettersAt count place : ℕ) : Type 0 where
+  pub is : (t : Table) → Before given t → o t ≡ Read (withLetters t (sifted (drop lettersAt s))) (drop place s)
+  pub counted : count ≡ length (sifted (drop lettersAt s))
+  pub lettered : lettersAt ≤ length s
+  pub within : place ≤ length s
+
+abbrev pub EndAs : List ℕ → Length → (Table → Outcome) → EndAt → Type 0
+EndAs s given o (ended.Got lettersAt count place) = EndKnown s given o lettersAt count place
+EndAs s given o (ended.Refused why) = (t : Table) → Before given t → o t ≡ Not why
+
+-- for each table before
+pub record Ends (s : List ℕ) (given : Length) (o : Table → Outcome) (r : EndAt) : Type 0 where
+  pub is : EndAs s given o r

@@ -1,0 +1,224 @@
+-- The laws of the puts: what each asks for, and that together they leave the table's layout.
+use Prim.Native.Nat.{ℕ, suc, _+_, _≤_, _<_, _^_}
+use native.Mathlib.Nat.{add-zero, add-suc, suc-add}
+use native.Mathlib.Omega.{arith}
+use mathlib.Core.Bool.{false}
+use mathlib.Core.Path.{_≡_, refl, sym, ap, subst, _∙_}
+use mathlib.Core.List.{List, [], _∷_, _++_, append-assoc}
+use lib.ListN.{length, drop, set, length-append}
+use lib.Seq.{sets, set-comm}
+use Rattle.spec_format.specs.Bytes.{is, bytes, each}
+use Rattle.spec_format.specs.Table.{Table}
+use Rattle.spec_format.specs.Header.{fieldText, every, textIn, referenceIn}
+use Rattle.spec_format.specs.Record.{most}
+use Rattle.spec_format.specs.Rooms.{perhaps, pieceText, piecesText, headPieces, referencePieces, commentPieces, textsOf, rowsOf, featureText, referencesAt, commentsAt, featuresAt, contigAt, layout, sizes, roomsIn}
+use Rattle.spec_rooms.specs.LayoutLengths.{Lengths, layout-lengths}
+use Rattle.base_pen.specs.Pen.{Wrote, Writes, writes-nil, sets-append, wrote-append}
+use Rattle.filling.specs.Filling.{wrote-as}
+use Rattle.read_letters.specs.Runs.{sifted}
+use Rattle.read_field_entry.specs.declared.Entry.{Entry}
+use Rattle.read_field_text.specs.Texts as entry
+use Rattle.read_field_optional.specs.declared.MayEntry.{MayEntry}
+use Rattle.read_field_optional.specs.declared.MayEntry.the-variants as may
+use Rattle.read_field_optional.specs.Fields.{Stands, MayStand}
+use Rattle.read_field_all.specs.Gathered.{fieldsAt}
+use Rattle.read_feature_table.specs.Reads.{featuresIn}
+use Rattle.read_record_middle.specs.Middles.{contigIn}
+use Rattle.read_record_head.specs.Texts.{headText, HeadGets}
+use Rattle.read_record_head.specs.Stands.{HeadStands, head-gets, head-text, text-small}
+use Rattle.read_field_rows.specs.Puts.{Laid}
+use Rattle.read_feature_texts.specs.Puts.{Fits, FeaturesPut}
+use Rattle.read_record_plan.specs.declared.Plan.{Plan}
+use Rattle.read_record_plan.specs.Plans.{planTable}
+use Rattle.read_record_plan.specs.Parts.{TableParts, table-parts, SmallParts, small-parts}
+use Rattle.read_record_frame.specs.Heads.{plan-head}
+use Rattle.read_record_frame.specs.Fills.{ContigStands, Ready, headerText, HeaderFilled, AroundFilled, Filled}
+
+-- ---- CONTIG
+
+module _ (s : List ℕ) (contig : MayEntry) (h : ContigStands s contig) where
+  pub contig-absent : (l : List ℕ) (place : ℕ) → contig ≡ may.Absent → Writes l place (pieceText (perhaps (contigIn s contig))) l place
+  contig-absent l place e = rw e writes-nil
+
+  module _ (x : Entry) (e : contig ≡ may.Is x) where
+    contig-stands : Stands s 0 false (entry.textIn (fieldText (x .columns) false (drop (x .text) s))) x
+    contig-stands = subst (λ (c : MayEntry). MayStand s 0 false (contigIn s c) c) e (h .stands)
+
+    pub contig-within : x .text ≤ length s
+    contig-within = omega (arith, contig-stands .ahead, contig-stands .within)
+
+    pub contig-gets : entry.Gets (fieldText (x .columns) false (drop (x .text) s))
+    contig-gets = rw (contig-stands .again) tt
+
+    pub contig-put : (l m : List ℕ) (place r : ℕ) → Writes l place (entry.textIn (fieldText (x .columns) false (drop (x .text) s))) m r →
+        Writes l place (pieceText (perhaps (contigIn s contig))) m r
+    contig-put l m place r w = rw e w
+
+pub ruleset joining = (contig-absent, contig-within, contig-gets, contig-put)
+
+-- ---- the store's texts, where a gap is filled last
+
+set-before : (y l : List ℕ) (i j a : ℕ) → i < j → set (sets l j y) i a ≡ sets (set l i a) j y
+set-before [] l i j a h = refl
+set-before (b ∷ y) l i j a h =
+    set-before y (set l j b) i (suc j) a (omega arith) ∙ ap (λ (m : List ℕ). sets m (suc j) y) (set-comm l j i b a (λ e. omega arith))
+
+-- x before a y that is there already
+sets-before : (x y l : List ℕ) (i : ℕ) → sets (sets l (i + length x) y) i x ≡ sets l i (x ++ y)
+sets-before [] y l i = rw (add-zero i)
+sets-before (a ∷ x) y l i =
+    ap (λ (m : List ℕ). sets m (suc i) x) (set-before y l i (i + suc (length x)) a (omega arith)) ∙
+    rw (add-suc i (length x), ← (suc-add i (length x))) (sets-before x y (set l i a) (suc i))
+
+header-long : (t : Table) → 0 + length (headerText t) ≡ featuresAt t
+header-long t =
+    let H : List ℕ = piecesText (headPieces t) in
+    let R : List ℕ = textsOf referencePieces (t .references) in
+    let C : List ℕ = textsOf commentPieces (t .comments) in
+    omega (arith, length-append H R, length-append (H ++ R) C)
+
+gap-filled : (t : Table) (t₀ t₁ t₂ : List ℕ) → t₁ ≡ sets (sets t₀ 0 (headerText t)) (contigAt t) (pieceText (perhaps (t .contig))) →
+    t₂ ≡ sets t₁ (featuresAt t) (each featureText (t .features)) → t₂ ≡ sets t₀ 0 (layout t .texts)
+unfolding layout
+gap-filled t t₀ t₁ t₂ e f =
+    let F : List ℕ = each featureText (t .features) in
+    let C : List ℕ = pieceText (perhaps (t .contig)) in
+    f ∙ ap (λ (l : List ℕ). sets l (featuresAt t) F) e ∙ sets-before F C (sets t₀ 0 (headerText t)) (featuresAt t) ∙
+    rw (← header-long t, sets-append (headerText t) (F ++ C) t₀ 0) (ap (sets t₀ 0) (sym (append-assoc (headerText t) F C)))
+
+-- ---- LOCUS and the header
+
+module _ (s : List ℕ) (p : Plan) (h : Ready s p) where
+  parts : TableParts s p
+  parts = table-parts s p
+
+  small : SmallParts (length s) (planTable s p)
+  small = small-parts s p (h .stands)
+
+  lengths : Lengths (planTable s p)
+  lengths = layout-lengths (planTable s p)
+
+  pub header-within : p .«header_at» ≤ length s
+  header-within = h .stands .headed
+
+  pub letters-within : p .rest .«letters_at» ≤ length s
+  letters-within = h .stands .rest .lettered
+
+  stands : HeadStands s (p .«header_at») (p .locus) (p .header) (planTable s p)
+  stands = plan-head s p (h .stands)
+
+  text-is : headText s (p .locus) (p .header) ≡ piecesText (headPieces (planTable s p))
+  text-is = head-text s (p .«header_at») (p .locus) (p .header) (planTable s p) stands
+
+  pub head-there : HeadGets s (p .locus) (p .header)
+  head-there = head-gets s (p .«header_at») (p .locus) (p .header) (planTable s p) stands
+
+  pub head-bound : length (headText s (p .locus) (p .header)) < 2 ^ 64
+  head-bound = text-small s (p .«header_at») (p .locus) (p .header) (planTable s p) stands (h .most)
+
+  module _ (t₀ t₁ : List ℕ) (a : ℕ) (u : Wrote t₀ 0 (headText s (p .locus) (p .header)) t₁ a) where
+    first-place : a ≡ referencesAt (planTable s p)
+    first-place = omega (arith, u .to, ap length text-is)
+
+    pub references-texts : a + length (textsOf referencePieces (every referenceIn (fieldsAt (drop (p .«header_at») s)))) < 2 ^ 64
+    references-texts = rw (← parts .references, first-place) (omega (arith, small .head, small .reference-texts, h .most))
+
+    pub references-rows : length (rowsOf referencePieces a (every referenceIn (fieldsAt (drop (p .«header_at») s)))) < 2 ^ 64
+    unfolding layout sizes
+    references-rows = rw (← parts .references, first-place) (omega (arith, lengths .references, small .references, h .most))
+
+    module _ (t₂ r₀ r₁ : List ℕ) (b : ℕ) (v : Laid referencePieces t₁ r₀ a (every referenceIn (fieldsAt (drop (p .«header_at») s))) t₂ r₁ b) where
+      references-laid : Laid referencePieces t₁ r₀ (referencesAt (planTable s p)) (planTable s p .references) t₂ r₁ b
+      references-laid = rw (parts .references, ← first-place) v
+
+      second-place : b ≡ commentsAt (planTable s p)
+      second-place = references-laid .texts .to
+
+      pub comments-texts : b + length (textsOf commentPieces (every (textIn (bytes "COMMENT")) (fieldsAt (drop (p .«header_at») s)))) < 2 ^ 64
+      comments-texts =
+          rw (← parts .comments, second-place) (omega (arith, small .head, small .reference-texts, small .comment-texts, h .most))
+
+      pub comments-rows : length (rowsOf commentPieces b (every (textIn (bytes "COMMENT")) (fieldsAt (drop (p .«header_at») s)))) < 2 ^ 64
+      unfolding layout sizes
+      comments-rows = rw (← parts .comments, second-place) (omega (arith, lengths .comments, small .comments, h .most))
+
+      pub header-filled : (t₃ c₀ c₁ : List ℕ) (z : ℕ) →
+          Laid commentPieces t₂ c₀ b (every (textIn (bytes "COMMENT")) (fieldsAt (drop (p .«header_at») s))) t₃ c₁ z →
+          HeaderFilled (planTable s p) t₀ t₃ r₀ r₁ c₀ c₁ z
+      header-filled t₃ c₀ c₁ z w =
+          let k : Laid commentPieces t₂ c₀ (commentsAt (planTable s p)) (planTable s p .comments) t₃ c₁ z = rw (parts .comments, ← second-place) w in
+          let x : Wrote t₀ 0 (piecesText (headPieces (planTable s p))) t₁ a = wrote-as text-is u in
+          let y : Wrote t₁ a (textsOf referencePieces (planTable s p .references)) t₂ b = rw first-place (references-laid .texts) in
+          let q : Wrote t₂ b (textsOf commentPieces (planTable s p .comments)) t₃ z = rw second-place (k .texts) in
+          record {
+            texts = wrote-append (wrote-append x y) q;
+            references = references-laid .rows;
+            comments = k .rows;
+          }
+
+  -- ---- features and CONTIG
+
+  pub features-fit : (place : ℕ) → place ≡ featuresAt (planTable s p) →
+      Fits s (p .rest .«features_at») (p .rest .features .count) place (featuresIn (drop (p .rest .«features_at») s))
+  unfolding layout sizes
+  features-fit place e =
+      record {
+        within = h .stands .rest .middle .tabled;
+        counted = h .stands .rest .middle .read .count;
+        texts =
+            rw (← parts .features, e) (omega (arith, small .head, small .reference-texts, small .comment-texts, small .feature-texts, h .most));
+        features = rw (← parts .features, e) (omega (arith, lengths .features, small .features, h .most));
+        qualifiers = rw (← parts .features, e) (omega (arith, lengths .qualifiers, small .qualifiers, h .most));
+      }
+
+  pub contig-ready : ContigStands s (p .rest .contig)
+  contig-ready = record { stands = h .stands .rest .middle .contig }
+
+  -- ---- all but the features
+
+  module _ (t₀ t₁ r₀ r₁ c₀ c₁ : List ℕ) (a : ℕ) (x : HeaderFilled (planTable s p) t₀ t₁ r₀ r₁ c₀ c₁ a) where
+    third-place : a ≡ featuresAt (planTable s p)
+    third-place = x .texts .to ∙ header-long (planTable s p)
+
+    fourth-place : a + p .rest .features .bytes ≡ contigAt (planTable s p)
+    fourth-place = rw (parts .features, ← h .stands .rest .middle .read .bytes) (ap (λ (n : ℕ). n + p .rest .features .bytes) third-place)
+
+    pub gap-bound : a + p .rest .features .bytes < 2 ^ 64
+    gap-bound = rw fourth-place (omega (arith, small .head, small .reference-texts, small .comment-texts, small .feature-texts, h .most))
+
+    pub around-filled : (t₂ l₀ l₁ : List ℕ) (y z : ℕ) → Writes t₁ (a + p .rest .features .bytes) (pieceText (perhaps (contigIn s (p .rest .contig)))) t₂ y →
+        Writes l₀ 0 (sifted (drop (p .rest .«letters_at») s)) l₁ z → AroundFilled (planTable s p) t₀ t₂ r₀ r₁ c₀ c₁ l₀ l₁ a
+    around-filled t₂ l₀ l₁ y z u v =
+        let c : Writes t₁ (contigAt (planTable s p)) (pieceText (perhaps (planTable s p .contig))) t₂ y = rw (parts .contig, ← fourth-place) u in
+        let k : Writes l₀ 0 (planTable s p .letters) l₁ z = rw (parts .letters) v in
+        let w : Wrote t₁ (contigAt (planTable s p)) (pieceText (perhaps (planTable s p .contig))) t₂ y =
+        c .fit (omega (arith, small .head, small .reference-texts, small .comment-texts, small .feature-texts, small .contig, h .most)) in
+        let m : Wrote l₀ 0 (planTable s p .letters) l₁ z = k .fit (omega (arith, small .letters, h .most)) in
+        record {
+          gap = third-place;
+          texts = w .is ∙ ap (λ (l : List ℕ). sets l (contigAt (planTable s p)) (pieceText (perhaps (planTable s p .contig)))) (x .texts .is);
+          references = x .references;
+          comments = x .comments;
+          letters = m .is;
+        }
+
+  -- ---- all of it
+
+  pub all-filled : (t₀ t₁ t₂ r₀ r₁ c₀ c₁ f₀ f₁ q₀ q₁ l₀ l₁ : List ℕ) (a z : ℕ) → AroundFilled (planTable s p) t₀ t₁ r₀ r₁ c₀ c₁ l₀ l₁ a →
+      FeaturesPut a (featuresIn (drop (p .rest .«features_at») s)) t₁ t₂ f₀ f₁ q₀ q₁ z →
+      Filled (planTable s p) (roomsIn t₀ r₀ c₀ f₀ q₀ l₀) (roomsIn t₂ r₁ c₁ f₁ q₁ l₁)
+  unfolding layout
+  all-filled t₀ t₁ t₂ r₀ r₁ c₀ c₁ f₀ f₁ q₀ q₁ l₀ l₁ a z x y =
+      let k : FeaturesPut (featuresAt (planTable s p)) (planTable s p .features) t₁ t₂ f₀ f₁ q₀ q₁ z = rw (parts .features, ← x .gap) y in
+      record {
+        texts = gap-filled (planTable s p) t₀ t₁ t₂ (x .texts) (k .texts .is);
+        references = x .references;
+        comments = x .comments;
+        features = k .features;
+        qualifiers = k .qualifiers;
+        letters = x .letters;
+      }
+
+pub ruleset around = (contig-ready, letters-within, gap-bound, around-filled)
+
+pub ruleset filling = (features-fit, all-filled)

@@ -1,0 +1,46 @@
+-- `fill::fill_around` meets its contract. Assumes nothing.
+use borrow.Author.Needs.{needs}
+use Rattle.read_record_frame.proofs.Laws.{around, around-filled}
+use Rattle.read_record_frame.proofs.fill_around.Statement.{statement}
+use Rattle.read_record_frame.proofs.fill_around.Tie as tie
+
+fill-header-requires : tie.Need-fill-header-requires
+fill-header-requires c κs = search needs
+
+add-put-contig : tie.Need-add-put-contig
+add-put-contig c = search (around, needs)
+
+put-contig-requires : tie.Need-put-contig-requires
+put-contig-requires c κs = search (around, needs)
+
+put-letters-requires : tie.Need-put-letters-requires
+put-letters-requires c κs = search (around, needs)
+
+same-length : tie.Need-same-length
+same-length c = search needs
+
+same-length-2 : tie.Need-same-length-2
+same-length-2 c = search needs
+
+same-length-3 : tie.Need-same-length-3
+same-length-3 c = search needs
+
+same-length-4 : tie.Need-same-length-4
+same-length-4 c = search needs
+
+returns : tie.Need-returns
+returns c = around-filled _ _ (c .before .before .before .before .before .before .before .before .before .before .before .before .before .before .before .before .before .before .before .before .before .before .before .before .before .before .pre) _ _ _ _ _ _ _ (c .before .before .before .before .before .before .before .before .before .before .before .before .before .before .before .fill-header .ensures) _ _ _ _ _ (c .before .before .before .before .before .before .put-contig .ensures) (c .before .before .put-letters .ensures)
+
+pub fill-around-spec : {M : Type 1} → statement M
+fill-around-spec =
+    tie.close
+    (tie.spec
+    fill-header-requires
+    add-put-contig
+    put-contig-requires
+    put-letters-requires
+    same-length
+    same-length-2
+    same-length-3
+    same-length-4
+    returns)

@@ -1,0 +1,86 @@
+// A record whose places and counts are known, put into the lent rooms: texts, rows and letters, each in the table's own order.
+use read_field_optional::MayEntry;
+use read_record_plan::Plan;
+ghost use Rattle.spec_format.specs.Rooms.{perhaps, pieceText, roomsIn};
+ghost use Rattle.base_pen.specs.Pen.{Writes};
+ghost use Rattle.read_record_middle.specs.Middles.{contigIn};
+ghost use Rattle.read_record_plan.specs.Plans.{planTable};
+ghost use Rattle.read_record_frame.specs.Fills.{ContigStands, Ready, HeaderFilled, AroundFilled, Filled};
+
+// CONTIG's text, where there is one.
+fn put_contig(s: &[u8], contig: MayEntry, texts: &mut [u8], place: usize) -> usize
+    requires { ⌜ ContigStands (now s) contig ⌝ }
+    ensures { λ r. ⌜ Writes (now (texts .entry)) place (pieceText (perhaps (contigIn (now (s .entry)) contig))) (now (texts .exit)) r ⌝ }
+{
+    match contig {
+        MayEntry::Absent => place,
+        MayEntry::Is(e) => {
+            let start = e.text;
+            let columns = e.columns;
+            read_field_text::put_entry(s, start, columns, false, texts, place)
+        }
+    }
+}
+
+// LOCUS and the header.
+fn fill_header(
+    s: &[u8],
+    plan: Plan,
+    texts: &mut [u8],
+    references: &mut [usize],
+    comments: &mut [usize],
+) -> usize
+    requires { ⌜ Ready (now s) plan ⌝ }
+    ensures { λ r. ⌜ HeaderFilled (planTable (now (s .entry)) plan) (now (texts .entry)) (now (texts .exit)) (now (references .entry)) (now (references .exit)) (now (comments .entry)) (now (comments .exit)) r ⌝ }
+{
+    let at = plan.header_at;
+    let locus = plan.locus;
+    let header = plan.header;
+    let first = read_record_head::put_head(s, locus, header, texts);
+    let second = read_field_rows::put_references(s, at, texts, first, references);
+    read_field_rows::put_comments(s, at, texts, second, comments)
+}
+
+// All but the features: CONTIG's text goes behind the gap that their texts are to fill. The place where the gap starts.
+pub fn fill_around(
+    s: &[u8],
+    plan: Plan,
+    texts: &mut [u8],
+    references: &mut [usize],
+    comments: &mut [usize],
+    letters: &mut [u8],
+) -> usize
+    requires { ⌜ Ready (now s) plan ⌝ }
+    ensures { λ r. ⌜ AroundFilled (planTable (now (s .entry)) plan) (now (texts .entry)) (now (texts .exit)) (now (references .entry)) (now (references .exit)) (now (comments .entry)) (now (comments .exit)) (now (letters .entry)) (now (letters .exit)) r ⌝ }
+{
+    let rest = plan.rest;
+    let at = rest.letters_at;
+    let counts = rest.features;
+    let contig = rest.contig;
+    let place = fill_header(s, plan, texts, references, comments);
+    put_contig(s, contig, texts, place + counts.bytes);
+    read_letters::put_letters(s, at, letters, 0);
+    place
+}
+
+// The whole record.
+pub fn fill(
+    s: &[u8],
+    plan: Plan,
+    texts: &mut [u8],
+    references: &mut [usize],
+    comments: &mut [usize],
+    features: &mut [usize],
+    qualifiers: &mut [usize],
+    letters: &mut [u8],
+)
+    requires { ⌜ Ready (now s) plan ⌝ }
+    ensures { λ r. ⌜ Filled (planTable (now (s .entry)) plan) (roomsIn (now (texts .entry)) (now (references .entry)) (now (comments .entry)) (now (features .entry)) (now (qualifiers .entry)) (now (letters .entry))) (roomsIn (now (texts .exit)) (now (references .exit)) (now (comments .exit)) (now (features .exit)) (now (qualifiers .exit)) (now (letters .exit))) ⌝ }
+{
+    let rest = plan.rest;
+    let at = rest.features_at;
+    let counts = rest.features;
+    let n = counts.count;
+    let place = fill_around(s, plan, texts, references, comments, letters);
+    read_feature_texts::put_features(s, at, n, texts, place, features, qualifiers);
+}

@@ -1,0 +1,44 @@
+-- What is prepared: with the features put that it names, it is the reader's answer. It rules out features that are put for a refused record.
+use Prim.Native.Nat.{ℕ, _*_}
+use mathlib.Core.Path.{_≡_}
+use mathlib.Core.List.{List}
+use lib.ListN.{length, drop}
+use Rattle.spec_format.specs.declared.ReadAnswer.{ReadAnswer}
+use Rattle.spec_format.specs.declared.ReadAnswer.the-variants as answer
+use Rattle.read_feature_table.specs.Reads.{featuresIn}
+use Rattle.read_feature_texts.specs.Puts.{Fits, FeaturesPut}
+use Rattle.read_record_plan.specs.declared.Plan.{Plan}
+use Rattle.read_flat.specs.Reads.{Answering}
+use Rattle.read_record_sizes.specs.Sizing.{headPlan}
+use Rattle.read_record_prepared.specs.declared.Prepared.{Prepared}
+use Rattle.spec_format.specs.Rooms.{roomsIn}
+use Rattle.spec_contracts.specs.Reads.{Answered}
+
+-- of a slice that ends at `end`
+abbrev pub noRows : ℕ → ReadAnswer → Prepared
+noRows end a = record { at = end; place = 0; count = 0; answer = a }
+
+abbrev pub allRows : Plan → ℕ → Prepared
+allRows p place =
+    record {
+      at = p .rest .«features_at»;
+      place = place;
+      count = p .rest .features .count;
+      answer = answer.Done (headPlan p) (p .rest .place);
+    }
+
+-- of a record that a plan stands for: whatever rooms, of so many rows and numbers of qualifiers, have the features put
+pub record Planned (s : List ℕ) (p : Plan) (t₀ t₁ r₀ r₁ c₀ c₁ : List ℕ) (rows qualifiers : ℕ) (l₀ l₁ : List ℕ) (r : Prepared) : Type 0 where
+  pub answers :
+      (t₂ f₀ f₁ q₀ q₁ : List ℕ) (z : ℕ) → length f₀ ≡ 6 * rows → length q₀ ≡ qualifiers →
+      FeaturesPut (r .place) (featuresIn (drop (r .at) s)) t₁ t₂ f₀ f₁ q₀ q₁ z →
+      Answering s p (roomsIn t₀ r₀ c₀ f₀ q₀ l₀) (roomsIn t₂ r₁ c₁ f₁ q₁ l₁) (r .answer)
+  pub fits : Fits s (r .at) (r .count) (r .place) (featuresIn (drop (r .at) s))
+
+-- the same of the record at a place
+pub record Prepares (s : List ℕ) (at : ℕ) (t₀ t₁ r₀ r₁ c₀ c₁ : List ℕ) (rows qualifiers : ℕ) (l₀ l₁ : List ℕ) (r : Prepared) : Type 0 where
+  pub answers :
+      (t₂ f₀ f₁ q₀ q₁ : List ℕ) (z : ℕ) → length f₀ ≡ 6 * rows → length q₀ ≡ qualifiers →
+      FeaturesPut (r .place) (featuresIn (drop (r .at) s)) t₁ t₂ f₀ f₁ q₀ q₁ z →
+      Answered s at (roomsIn t₀ r₀ c₀ f₀ q₀ l₀) (roomsIn t₂ r₁ c₁ f₁ q₁ l₁) (r .answer)
+  pub fits : Fits s (r .at) (r .count) (r .place) (featuresIn (drop (r .at) s))

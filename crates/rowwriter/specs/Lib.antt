@@ -1,2 +1,0 @@
--- What holds of the entry point by its contract.
-pub mod Agrees

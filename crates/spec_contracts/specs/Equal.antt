@@ -1,0 +1,20 @@
+-- Rooms are equal where each of the six is; so the contract's six equations are one.
+use Prim.Native.Nat.{ℕ}
+use mathlib.Core.Path.{_≡_, ap, _∙_}
+use mathlib.Core.List.{List}
+use Rattle.spec_format.specs.Rooms.{Rooms, roomsAfter, roomsIn}
+use Rattle.spec_format.specs.declared.ReadAnswer.{ReadAnswer}
+use Rattle.spec_contracts.specs.Reads.{Answered}
+
+pub rooms-equal : (a b : Rooms) → a .texts ≡ b .texts → a .references ≡ b .references → a .comments ≡ b .comments → a .features ≡ b .features →
+    a .qualifiers ≡ b .qualifiers → a .letters ≡ b .letters → a ≡ b
+rooms-equal a b t r c f q l =
+    ap (λ (x : List ℕ). roomsIn x (a .references) (a .comments) (a .features) (a .qualifiers) (a .letters)) t
+    ∙ ap (λ (x : List ℕ). roomsIn (b .texts) x (a .comments) (a .features) (a .qualifiers) (a .letters)) r
+    ∙ ap (λ (x : List ℕ). roomsIn (b .texts) (b .references) x (a .features) (a .qualifiers) (a .letters)) c
+    ∙ ap (λ (x : List ℕ). roomsIn (b .texts) (b .references) (b .comments) x (a .qualifiers) (a .letters)) f
+    ∙ ap (λ (x : List ℕ). roomsIn (b .texts) (b .references) (b .comments) (b .features) x (a .letters)) q
+    ∙ ap (λ (x : List ℕ). roomsIn (b .texts) (b .references) (b .comments) (b .features) (b .qualifiers) x) l
+
+pub rooms-after : (s : List ℕ) (at : ℕ) (old new : Rooms) (r : ReadAnswer) → Answered s at old new r → new ≡ roomsAfter s at old
+rooms-after s at old new r a = rooms-equal new (roomsAfter s at old) (a .texts) (a .references) (a .comments) (a .features) (a .qualifiers) (a .letters)

@@ -1,0 +1,4 @@
+-- The records that the contracts of the entry points cite.
+pub mod Reads
+pub mod Writes
+pub mod Equal

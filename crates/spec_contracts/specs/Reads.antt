@@ -1,0 +1,34 @@
+-- What the reader promises. It rules out a reader that always refuses, one that reads the first record from every place, and one that leaves a room changed
+-- where it refuses.
+use Prim.Native.Nat.{ℕ}
+use mathlib.Core.Path.{_≡_}
+use mathlib.Core.List.{List}
+use Rattle.spec_format.specs.Rooms.{Rooms, readAnswer, roomsAfter, roomsIn}
+use Rattle.spec_format.specs.declared.ReadAnswer.{ReadAnswer}
+use Rattle.base_rows.specs.declared.Feature.{Feature}
+use Rattle.base_rows.specs.Rows.{flat}
+
+-- THE READER'S ANSWER, and each room afterwards
+pub record Answered (s : List ℕ) (at : ℕ) (old new : Rooms) (r : ReadAnswer) : Type 0 where
+  pub is : r ≡ readAnswer s at old
+  pub texts : new .texts ≡ roomsAfter s at old .texts
+  pub references : new .references ≡ roomsAfter s at old .references
+  pub comments : new .comments ≡ roomsAfter s at old .comments
+  pub features : new .features ≡ roomsAfter s at old .features
+  pub qualifiers : new .qualifiers ≡ roomsAfter s at old .qualifiers
+  pub letters : new .letters ≡ roomsAfter s at old .letters
+
+-- ---- the features' room holds rows that are structs; definitions speak of their flat numbers
+
+-- what a call is lent: all rooms, one of them of rows
+pub record RowRooms : Type 0 where
+  pub texts : List ℕ
+  pub references : List ℕ
+  pub comments : List ℕ
+  pub rows : List Feature
+  pub qualifiers : List ℕ
+  pub letters : List ℕ
+
+-- the same with flat numbers
+abbrev pub flatRooms : RowRooms → Rooms
+flatRooms x = roomsIn (x .texts) (x .references) (x .comments) (flat (x .rows)) (x .qualifiers) (x .letters)

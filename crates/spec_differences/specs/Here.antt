@@ -1,0 +1,158 @@
+-- What docs/DIFFERENCES.md says under "Here", in its order, computed from the definitions by one statement over a list. Left out is the width of section 6, which every writing shows.
+use Prim.Native.Nat.{ℕ, _-_}
+use mathlib.Core.Bool.{Bool, true, false, cond}
+use mathlib.Core.Path.{_≡_, refl}
+use mathlib.Core.List.{List, [], _∷_, _++_, map}
+use lib.ListN.{length, take, drop, replicate}
+use Rattle.spec_format.specs.Bytes.{May, absent, is, bytes, decimal, spaces, pick}
+use Rattle.spec_format.specs.Bytes.{number, digits}
+use Rattle.spec_format.specs.Dates.{monthName, dateText}
+use Rattle.spec_format.specs.Features.{featuresHeader, bare, escape, quotedTurn, quoted, value, valueOf, qualifier, featureFrom, feature}
+use Rattle.spec_format.specs.Header.{fieldText, fieldBytes, field, reference, source, ignoredLine, headerField, latest, every}
+use Rattle.spec_format.specs.Locus.{preamble, tokens, dateOf, dateToken, locusFrom, locusOf, locusLine, locus}
+use Rattle.spec_format.specs.Origin.{originTag, letters}
+use Rattle.spec_format.specs.Readers.{tag, until, line, lineEnd, membersUpTo, endUpTo, members, end}
+use Rattle.spec_format.specs.Record as read
+use Rattle.spec_format.specs.Record.{Outcome, Read, Not, placeWith, features, slashesLater, middle, tableFrom, readRecord, readAt}
+use Rattle.spec_format.specs.Table.{Locus, Source, Reference, Qualifier, Feature, Table}
+use Rattle.spec_format.specs.Utf8.{chars, utf8}
+use Rattle.spec_format.specs.WellFormed.{referenceTexts, headerTexts, locusFine, qualifierFine, featureFine, lettersFine, wellFormed}
+use Rattle.spec_format.specs.Wrap.{fill, closing, linesAfter, wrapped, wrapText, lastComma, breakAt, commaLines, wrapLocation}
+use Rattle.spec_format.specs.Write.{lengthText, white, blanked, words, joined, printedName, locusText, fieldLines, referenceLines, headerLines, commaKey, bareKey, valueLines, qualifierLines, featureLines, featuresLines, letterLines, originLines, written}
+use Rattle.spec_format.specs.declared.Dated.{Dated}
+use Rattle.spec_format.specs.declared.Dated.the-variants as dated
+
+-- an answer: what is computed, and what the page says
+pub record Answer : Type 0 where
+  pub got : List ℕ
+  pub should : List ℕ
+
+-- ---- reading
+
+-- number and place
+told : List ℕ → Outcome → List ℕ
+told s (Read t rest) = 0 ∷ (length s - length rest) ∷ []
+told s (Not why) = read.number why ∷ placeWith why 0 ∷ []
+
+answer : List ℕ → List ℕ
+answer s = told s (readAt s 0)
+
+may-text : May (List ℕ) → List ℕ
+may-text absent = bytes "-"
+may-text (is t) = t
+
+may-number : May ℕ → List ℕ
+may-number absent = bytes "-"
+may-number (is n) = decimal n
+
+may-date : Dated → List ℕ
+may-date dated.Absent = bytes "-"
+may-date (dated.On d) = dateText d
+
+-- name, length, molecule type, topology, division, date
+locus-values : Outcome → List ℕ
+locus-values (Read t rest) =
+    may-text (t .locus .name) ++ bytes " " ++ may-number (t .locus .length) ++ bytes " " ++ may-text (t .locus .molecule) ++ bytes " " ++
+    cond (t .locus .circular) (bytes "circular") (bytes "linear") ++ bytes " " ++ t .locus .division ++ bytes " " ++ may-date (t .locus .date)
+locus-values (Not why) = read.number why ∷ []
+
+locus-read : List ℕ → List ℕ
+locus-read l = locus-values (readAt (l ++ bytes "\nORIGIN\n//\n") 0)
+
+unk : List ℕ
+unk = bytes "- - - linear UNK -"
+
+-- the first feature's location, or the number of a refusal
+first-location : List Feature → List ℕ
+first-location [] = bytes "none"
+first-location (f ∷ fs) = f .location
+
+location-values : Outcome → List ℕ
+location-values (Read t rest) = first-location (t .features)
+location-values (Not why) = read.number why ∷ []
+
+location-read : List ℕ → List ℕ
+location-read s = location-values (readAt (bytes "LOCUS x\nFEATURES  Location/Qualifiers\n" ++ s) 0)
+
+-- ---- writing
+
+-- a record with that name, 123 bases and one qualifier
+table : List ℕ → List ℕ → List ℕ → Table
+table name key text =
+    record {
+      locus = record { name = is name; length = is 123; molecule = absent; circular = false; division = bytes "SYN"; date = dated.On (record { day = 1; month = 3; year = 2024 }) };
+      definition = absent;
+      accession = absent;
+      version = absent;
+      dblink = absent;
+      keywords = absent;
+      source = absent;
+      references = [];
+      comments = [];
+      features = record { kind = bytes "gene"; location = bytes "1"; qualifiers = record { key = key; value = is text } ∷ [] } ∷ [];
+      contig = absent;
+      letters = [];
+    }
+
+-- 11 where the table cannot be laid out at width 80, else the LOCUS line
+line-or-11 : Bool → Table → List ℕ
+line-or-11 truncate t = pick (wellFormed 80 truncate false t) (locusText truncate false t) (11 ∷ [])
+
+lines-of : ℕ → List ℕ → List ℕ → List ℕ
+lines-of W key text = qualifierLines W (record { key = key; value = is text })
+
+-- a short value of a key at width 80
+bare-line : List ℕ → Answer
+bare-line key = record { got = lines-of 80 key (bytes "[1]"); should = spaces 21 ++ bytes "/" ++ key ++ bytes "=[1]\n" }
+
+pub answers : List Answer
+answers =
+    -- 1
+    record { got = answer (bytes "LOCUS x\n//\nLOCUS y\n//\n"); should = 0 ∷ 11 ∷ [] } ∷
+    -- 2
+    record { got = locus-read (bytes "LOCUS x 0 bp DNA linear"); should = unk } ∷
+    record { got = locus-read (bytes "LOCUS x 0 bp DNA SYN"); should = unk } ∷
+    record { got = locus-read (bytes "LOCUS x 0 bp linear SYN 01-JAN-2024"); should = bytes "x 0 - linear SYN 01-JAN-2024" } ∷
+    record { got = locus-read (bytes "LOCUS x 0 bp DNA\tlinear SYN 01-JAN-2024"); should = bytes "x 0 DNA linear SYN 01-JAN-2024" } ∷
+    record { got = locus-read (bytes "LOCUS x 0 bp D\nA linear SYN 01-JAN-2024"); should = unk } ∷
+    record { got = locus-read (bytes "LOCUS " ++ 195 ∷ 169 ∷ [] ++ bytes " 0 bp DNA linear SYN 01-JAN-2024"); should = unk } ∷
+    record { got = locus-read (bytes "LOCUS x 00000000000 bp DNA linear SYN 01-JAN-2024"); should = unk } ∷
+    record { got = locus-read (bytes "LOCUS x 0 bp DNA linear SYN 01-JAN-24"); should = unk } ∷
+    record { got = locus-read (bytes "LOCUS x 0 bp DNA SYN DNA"); should = unk } ∷
+    record { got = locus-read (bytes "LOCUS x 0 bp DNA linear S1 01-JAN-2024"); should = bytes "x 0 DNA linear S1 01-JAN-2024" } ∷
+    record { got = locus-read (bytes "LOCUS x 0 bp DNA linear SYN 32-JAN-2024"); should = unk } ∷
+    record { got = answer (bytes "LOCUS x"); should = 2 ∷ 0 ∷ [] } ∷
+    record { got = answer (bytes "LOC"); should = 4 ∷ 0 ∷ [] } ∷
+    -- 3
+    record { got = location-read (bytes " a 01..2\n//\n"); should = bytes "01..2" } ∷
+    record { got = location-read (bytes " a 1..x\n//\n"); should = bytes "1..x" } ∷
+    record { got = location-read (bytes " a 1 2\n//\n"); should = 7 ∷ [] } ∷
+    record { got = location-read (bytes " a :\n//\n"); should = bytes ":" } ∷
+    record { got = location-read (bytes " a\n 1\n//\n"); should = 7 ∷ [] } ∷
+    record { got = location-read (bytes " /a 1\n//\n"); should = 7 ∷ [] } ∷
+    record { got = location-read (bytes " " ++ 195 ∷ 169 ∷ [] ++ bytes " 1\n//\n"); should = 7 ∷ [] } ∷
+    record { got = answer (bytes "LOCUS x\nCONTIG 1 2\n//\n"); should = 7 ∷ 0 ∷ [] } ∷
+    -- 4
+    record { got = lines-of 79 (bytes "note") (replicate 50 97 ++ bytes "\" b"); should = spaces 21 ++ bytes "/note=\"" ++ replicate 50 97 ++ bytes "\n" ++ spaces 21 ++ bytes "\"\" b\"\n" } ∷
+    record { got = lines-of 79 (bytes "note") (replicate 50 97 ++ bytes "\""); should = spaces 21 ++ bytes "/note=\"" ++ replicate 50 97 ++ bytes "\n" ++ spaces 21 ++ bytes "\"\"\"\n" } ∷
+    -- 5
+    record { got = location-read (bytes " a -9223372036854775808\n//\n"); should = bytes "-9223372036854775808" } ∷
+    record { got = location-read (bytes " a 1\n   " ++ 255 ∷ []); should = 2 ∷ [] } ∷
+    record { got = line-or-11 true (table (replicate 23 97 ++ 195 ∷ 169 ∷ [] ++ bytes "a") (bytes "note") (bytes "a")); should = 11 ∷ [] } ∷
+    record { got = line-or-11 false (table (bytes "x") (replicate 60 97) (bytes "a")); should = 11 ∷ [] } ∷
+    record { got = line-or-11 false (table [] (bytes "note") (bytes "a")); should = 11 ∷ [] } ∷
+    record { got = take 43 (line-or-11 true (table (replicate 27 97 ++ 255 ∷ []) (bytes "note") (bytes "a"))); should = bytes "LOCUS       " ++ replicate 24 97 ++ bytes " 123 bp" } ∷
+    -- 6
+    record { got = drop 55 (line-or-11 false (table (bytes "x") (bytes "note") (bytes "a"))); should = bytes "linear   SYN 01-MAR-2024\n" } ∷
+    bare-line (bytes "citation") ∷
+    bare-line (bytes "compare") ∷
+    bare-line (bytes "direction") ∷
+    bare-line (bytes "mod_base") ∷
+    bare-line (bytes "rpt_unit_range") ∷
+    bare-line (bytes "tag_peptide") ∷
+    []
+
+-- THE PAGE'S ANSWERS ARE THOSE OF THE DEFINITIONS
+pub answers-hold : map (λ a. a .got) answers ≡ map (λ a. a .should) answers
+unfolding told answer may-text may-number may-date locus-values locus-read unk first-location location-values location-read table line-or-11 lines-of bare-line answers number digits monthName dateText featuresHeader bare escape quotedTurn quoted value valueOf qualifier featureFrom feature fieldText fieldBytes field reference source ignoredLine headerField latest every preamble tokens dateOf dateToken locusFrom locusOf locusLine locus originTag letters tag until line lineEnd membersUpTo endUpTo members end features slashesLater middle tableFrom readRecord readAt chars utf8 referenceTexts headerTexts locusFine qualifierFine featureFine lettersFine wellFormed fill closing linesAfter wrapped wrapText lastComma breakAt commaLines wrapLocation lengthText white blanked words joined printedName locusText fieldLines referenceLines headerLines commaKey bareKey valueLines qualifierLines featureLines featuresLines letterLines originLines written
+answers-hold = refl

@@ -1,0 +1,33 @@
+-- Reading, the letters: `origin_tag` of misc.rs, `parse_seq_data` of stream_parser.rs.
+use Prim.Native.Nat.{ℕ}
+use mathlib.Core.Bool.{Bool, true, false, _||_}
+use mathlib.Core.List.{List, [], _∷_}
+use lib.Dec.{eqb}
+use Rattle.spec_format.specs.Bytes.{bytes, letter, digit, notBlank}
+use Rattle.spec_format.specs.Readers.{Ans, bind, orElse, tag, until, lineEnd}
+use Rattle.spec_format.specs.Header.{field}
+
+-- `origin_tag`: "the word and spaces or tabs; or a header text with its further lines, dropped"
+unfoldable pub originTag : List ℕ → Ans (List ℕ)
+originTag s =
+    orElse (bind (tag (bytes "ORIGIN") s) λ _ s. bind (until notBlank s) λ _ s. lineEnd s) (field 0 (bytes "ORIGIN") true s)
+
+-- where the letters end: at a `/`, at the input's end, or at a byte that cannot stand there
+pub data Letters : Type 0 where
+  AtSlash : List ℕ → List ℕ → Letters
+  AtEnd : List ℕ → Letters
+  Bad : Letters
+
+abbrev pub keep : ℕ → Letters → Letters
+keep b (AtSlash l r) = AtSlash (b ∷ l) r
+keep b (AtEnd l) = AtEnd (b ∷ l)
+keep b Bad = Bad
+
+-- digits, spaces, CR and LF
+abbrev pub skipped : ℕ → Bool
+skipped b = digit b || (eqb b 32 || (eqb b 13 || eqb b 10))
+
+-- "Letters are kept, digits and blanks skipped, `/` ends"
+unfoldable pub letters : List ℕ → Letters
+letters [] = AtEnd []
+letters (b ∷ s) = elim (letter b) [ true ↦ keep b (letters s) | false ↦ elim (eqb b 47) [ true ↦ AtSlash [] (b ∷ s) | false ↦ elim (skipped b) [ true ↦ letters s | false ↦ Bad ] ] ]

@@ -1,0 +1,121 @@
+-- Rows of texts: each piece that was laid out is read again from its row and the store, and stands inside the store.
+use Prim.Native.Nat.{ℕ, zero, suc, _+_, _-_, _*_}
+use native.Mathlib.Omega.{arith}
+use native.Mathlib.Nat.{add-comm}
+use native.Mathlib.Numerals.{unary-clauses}
+use mathlib.Core.Bool.{Bool, true, false}
+use mathlib.Core.Path.{_≡_, refl, ap}
+use mathlib.Core.List.{List, [], _∷_}
+use lib.ListN.{length, getD, length-append}
+use lib.Dec.{eqb}
+use borrow.Author.Tests.{ne-eqb}
+use Rattle.spec_format.specs.Bytes.{pick, absent, is}
+use Rattle.spec_format.specs.Rooms.{Piece, always, perhaps, pieceText, pieceRow, piecesText, piecesRow, textsOf, rowsOf, spanFine, textIn, perhapsIn, rowsFrom, rowsFine}
+use Rattle.spec_rooms.specs.Held.{Held, held-left, held-right, held-head, held-tail, held-cut, held-fine, held-at}
+
+-- a piece, read at a place of a room of rows
+abbrev pub Reads : List ℕ → List ℕ → ℕ → Piece → Type 0
+Reads S R at (always t) = textIn S R at ≡ t
+Reads S R at (perhaps m) = perhapsIn S R at ≡ m
+
+-- its span lies in a store of n bytes
+abbrev pub Inside : ℕ → List ℕ → ℕ → Piece → Type 0
+Inside n R at (always t) = spanFine n (getD R at 0) (getD R (at + 1) 0) ≡ true
+Inside n R at (perhaps m) = pick (eqb (getD R (at + 1) 0) 0) true (spanFine n (getD R at 0) (getD R (at + 1) 0 - 1)) ≡ true
+
+pub record Good (S R : List ℕ) (at : ℕ) (p : Piece) : Type 0 where
+  pub reads : Reads S R at p
+  pub inside : Inside (length S) R at p
+
+module _ (S R : List ℕ) (start at : ℕ) where
+  piece-good : (p : Piece) → Held S start (pieceText p) → Held R at (pieceRow start p) → Good S R at p
+  piece-good (always t) h k =
+      let a : getD R at 0 ≡ start = held-head R at start (length t ∷ []) k in
+      let b : getD R (at + 1) 0 ≡ length t = held-head R (at + 1) (length t) [] (held-tail R at start (length t ∷ []) k) in
+      record { reads = rw (a, b) (held-cut S start t h); inside = rw (a, b) (held-fine S start t h) }
+  piece-good (perhaps absent) h k =
+      let b : getD R (at + 1) 0 ≡ 0 = held-head R (at + 1) 0 [] (held-tail R at 0 (0 ∷ []) k) in
+      record { reads = rw b; inside = rw b }
+  piece-good (perhaps (is t)) h k =
+      let a : getD R at 0 ≡ start = held-head R at start (suc (length t) ∷ []) k in
+      let b : getD R (at + 1) 0 ≡ suc (length t) = held-head R (at + 1) (suc (length t)) [] (held-tail R at start (suc (length t) ∷ []) k) in
+      let c : eqb (suc (length t)) 0 ≡ false = ne-eqb (suc (length t)) 0 (λ q. omega arith) in
+      let d : suc (length t) - 1 ≡ length t = omega arith in
+      record { reads = rw (a, b) (ap is (held-cut S start t h)); inside = rw (a, b, c, d) (held-fine S start t h) }
+
+row-two : (start : ℕ) (p : Piece) → length (pieceRow start p) ≡ 2
+row-two start (always t) = refl
+row-two start (perhaps absent) = refl
+row-two start (perhaps (is t)) = refl
+
+-- k numbers after the row's start
+abbrev pub further : ℕ → ℕ → ℕ
+further at zero = at
+further at (suc k) = at + suc k
+
+further-is : (at k : ℕ) → further at k ≡ at + k
+further-is at zero = omega arith
+further-is at (suc k) = refl
+
+-- each piece of a row is good, the first of them k numbers after the row's start
+abbrev pub AllGood : List ℕ → List ℕ → ℕ → ℕ → List Piece → Type 0
+AllGood S R at k [] = Unit
+AllGood S R at k (p ∷ ps) = Good S R (further at k) p × AllGood S R at (2 + k) ps
+
+pub row-good :
+    (S R : List ℕ) (at : ℕ) (ps : List Piece) (start k : ℕ) → Held S start (piecesText ps) → Held R (further at k) (piecesRow start ps) → AllGood S R at k ps
+unfolding piecesText piecesRow
+row-good S R at [] start k h g = tt
+row-good S R at (p ∷ ps) start k h g =
+    let rest : List ℕ = piecesRow (start + length (pieceText p)) ps in
+    let e : further at k + length (pieceRow start p) ≡ further at (2 + k) = omega (arith, row-two start p, further-is at k, further-is at (2 + k)) in (
+      piece-good S R start (further at k) p (held-left S start (pieceText p) (piecesText ps) h) (held-left R (further at k) (pieceRow start p) rest g),
+      row-good S R at ps (start + length (pieceText p)) (2 + k) (held-right S start (pieceText p) (piecesText ps) h)
+          (held-at R _ _ rest e (held-right R (further at k) (pieceRow start p) rest g)),
+    )
+
+-- ---- rows
+
+pub pieces-long : (start : ℕ) (ps : List Piece) → length (piecesRow start ps) ≡ 2 * length ps
+unfolding piecesRow
+pieces-long start [] = refl
+pieces-long start (p ∷ ps) =
+    simp length-append (omega (arith, row-two start p, pieces-long (start + length (pieceText p)) ps))
+
+-- each row passes P, from row i on, of w numbers each
+abbrev pub EachRow : {A : Type 0} → (ℕ → A → Type 0) → ℕ → ℕ → List A → Type 0
+EachRow P w i [] = Unit
+EachRow P w i (x ∷ xs) = P (w * i) x × EachRow P w (i + 1) xs
+
+module _ {A : Type 0} (f : A → List Piece) (w : ℕ) (wide : (x : A) (start : ℕ) → length (piecesRow start (f x)) ≡ w) where
+  pub rows-long : (start : ℕ) (xs : List A) → length (rowsOf f start xs) ≡ w * length xs
+  unfolding rowsOf
+  rows-long start [] = simp unary-clauses
+  rows-long start (x ∷ xs) =
+      let n : ℕ = start + length (piecesText (f x)) in
+      rw (length-append (piecesRow start (f x)) (rowsOf f n xs), wide x start, rows-long n xs) (simp unary-clauses (add-comm w (w * length xs)))
+
+  pub rows-good :
+      (S R : List ℕ) (xs : List A) (start i : ℕ) → Held S start (textsOf f xs) → Held R (w * i) (rowsOf f start xs) →
+      EachRow (λ at x. AllGood S R at 0 (f x)) w i xs
+  unfolding textsOf rowsOf
+  rows-good S R [] start i h k = tt
+  rows-good S R (x ∷ xs) start i h k =
+      let row : List ℕ = piecesRow start (f x) in
+      let n : ℕ = start + length (piecesText (f x)) in
+      let e : w * i + length row ≡ w * (i + 1) = rw (wide x start) (simp unary-clauses) in (
+        row-good S R (w * i) (f x) start 0 (held-left S start (piecesText (f x)) (textsOf f xs) h) (held-left R (w * i) row (rowsOf f n xs) k),
+        rows-good S R xs n (i + 1) (held-right S start (piecesText (f x)) (textsOf f xs) h)
+            (held-at R _ _ (rowsOf f n xs) e (held-right R (w * i) row (rowsOf f n xs) k)),
+      )
+
+module _ {A : Type 0} (P : ℕ → A → Type 0) (w : ℕ) where
+  pub rows-read : (g : ℕ → A) → ((at : ℕ) (x : A) → P at x → g at ≡ x) → (i : ℕ) (xs : List A) → EachRow P w i xs → rowsFrom g w i (length xs) ≡ xs
+  unfolding rowsFrom
+  rows-read g one i [] h = refl
+  rows-read g one i (x ∷ xs) h = rw (one (w * i) x (h .0), rows-read g one (i + 1) xs (h .1))
+
+  pub rows-fine : (g : ℕ → Bool) → ((at : ℕ) (x : A) → P at x → g at ≡ true) → (i : ℕ) (xs : List A) → EachRow P w i xs → rowsFine g w i (length xs) ≡ true
+  unfolding rowsFine
+  rows-fine g one i [] h = refl
+  rows-fine g one i (x ∷ xs) h = rw (one (w * i) x (h .0)) (rows-fine g one (i + 1) xs (h .1))

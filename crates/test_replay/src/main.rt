@@ -1,0 +1,35 @@
+// Runs the stored answers of the files in data/ again, and prints how many there are of each kind and how many differ. oracle/README.md says how each file was made.
+
+fn replay_file(name: &[u8], counts: &mut [usize]) {
+    let mut s = app_rooms::out_room();
+    let fd = os::open_read(name);
+    let n = io::read_full(fd, &mut s);
+    libc::close(fd);
+    test_stored::replay_all(name, &s[..n], counts);
+}
+
+fn replay_rust(counts: &mut [usize]) {
+    replay_file(b"rust-read.txt", counts);
+    replay_file(b"rust-write.txt", counts);
+    test_stored_lines::say_source(b"the Rust", counts);
+}
+
+fn replay_vectors(counts: &mut [usize]) {
+    replay_file(b"vectors-read.txt", counts);
+    replay_file(b"vectors-write-1.txt", counts);
+    replay_file(b"vectors-write-2.txt", counts);
+    test_stored_lines::say_source(b"vectors", counts);
+}
+
+fn replay_numbers(counts: &mut [usize]) {
+    replay_file(b"numbers.txt", counts);
+    test_stored_lines::say_source(b"numbers that neither has", counts);
+}
+
+fn main() {
+    let mut counts = [0usize; 32];
+    replay_rust(&mut counts);
+    replay_vectors(&mut counts);
+    replay_numbers(&mut counts);
+    test_stored_lines::say_counts(&counts);
+}

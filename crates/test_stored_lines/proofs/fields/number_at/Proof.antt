@@ -1,0 +1,20 @@
+-- Past the end of a list stands 0.
+use borrow.Author.Needs.{needs}
+use Rattle.test_stored_lines.specs.Compared.{past-end}
+use Rattle.test_stored_lines.proofs.fields.number_at.Statement.{statement}
+use Rattle.test_stored_lines.proofs.fields.number_at.Tie as tie
+
+mul-result : tie.Need-mul-result
+mul-result c = search needs
+
+shared-slice-read-result : tie.Need-shared-slice-read-result
+shared-slice-read-result c = search needs
+
+returns : tie.Need-returns
+returns c = search needs
+
+returns-2 : tie.Need-returns-2
+returns-2 c = search (past-end, needs)
+
+pub number-at-spec : {M : Type 1} → statement M
+number-at-spec = tie.close (tie.spec mul-result shared-slice-read-result returns returns-2)

@@ -1,0 +1,183 @@
+// One stored reading: the slice is read again, and the number, what is told with it and all of each room are held against what is stored.
+use api_told::tell_read;
+use test_stored_lines::Checked;
+use test_stored_lines::among;
+use test_stored_lines::count_answer;
+use test_stored_lines::lent;
+use test_stored_lines::number_at;
+use test_stored_lines::number_room;
+use test_stored_lines::same_numbers;
+use test_stored_lines::take_numbers;
+use test_stored_lines::take_text;
+
+fn and_then(so_far: Checked, next: usize, same: bool) -> Checked {
+    if same {
+        return Checked {
+            next: next,
+            same: so_far.same,
+        };
+    }
+    Checked {
+        next: next,
+        same: false,
+    }
+}
+
+// The whole room holds the text that the next field says, and nothing else.
+fn text_as_stored(s: &[u8], so_far: Checked, room: &[u8]) -> Checked {
+    let mut stored = io::buffer();
+    let field = take_text(s, so_far.next, &mut stored);
+    and_then(so_far, field.next, base_keys::same_text(&stored, room))
+}
+
+fn numbers_as_stored(s: &[u8], so_far: Checked, room: &[usize]) -> Checked {
+    let mut stored = number_room();
+    let field = take_numbers(s, so_far.next, &mut stored);
+    and_then(so_far, field.next, same_numbers(&stored, room))
+}
+
+fn rooms_as_stored(
+    s: &[u8],
+    so_far: Checked,
+    texts: &[u8],
+    references: &[usize],
+    comments: &[usize],
+    features: &[usize],
+    qualifiers: &[usize],
+    letters: &[u8],
+) -> Checked {
+    let a = text_as_stored(s, so_far, texts);
+    let b = numbers_as_stored(s, a, references);
+    let c = numbers_as_stored(s, b, comments);
+    let d = numbers_as_stored(s, c, features);
+    let e = numbers_as_stored(s, d, qualifiers);
+    text_as_stored(s, e, letters)
+}
+
+// The number is one of those that may be answered, and what is told with it is as stored.
+fn answer_as_stored(
+    s: &[u8],
+    at: usize,
+    number: usize,
+    told: &[usize],
+    counts: &mut [usize],
+) -> Checked {
+    let mut permitted = number_room();
+    let field = take_numbers(s, at, &mut permitted);
+    count_answer(counts, number_at(&permitted, 0), field.count);
+    let so_far = Checked {
+        next: field.next,
+        same: among(&permitted, field.count, number),
+    };
+    numbers_as_stored(s, so_far, told)
+}
+
+// Reads into as much of each room as the call lends.
+fn read_lent(
+    input: &[u8],
+    call: &[usize],
+    n: usize,
+    texts: &mut [u8],
+    references: &mut [usize],
+    comments: &mut [usize],
+    features: &mut [usize],
+    qualifiers: &mut [usize],
+    letters: &mut [u8],
+    told: &mut [usize],
+) -> usize {
+    let a = lent(call, n, 1, texts.len());
+    let b = lent(call, n, 2, references.len());
+    let c = lent(call, n, 3, comments.len());
+    let d = lent(call, n, 4, features.len());
+    let e = lent(call, n, 5, qualifiers.len());
+    let f = lent(call, n, 6, letters.len());
+    let at = number_at(call, 0);
+    let answer = read_flat::read(
+        input,
+        at,
+        &mut texts[0..a],
+        &mut references[0..b],
+        &mut comments[0..c],
+        &mut features[0..d],
+        &mut qualifiers[0..e],
+        &mut letters[0..f],
+    );
+    tell_read(told, at, answer)
+}
+
+// Reads the slice at the place that the call names.
+fn read_input(
+    s: &[u8],
+    at: usize,
+    input: &[u8],
+    call: &[usize],
+    n: usize,
+    counts: &mut [usize],
+) -> Checked {
+    let mut texts = io::buffer();
+    let mut references = number_room();
+    let mut comments = number_room();
+    let mut features = number_room();
+    let mut qualifiers = number_room();
+    let mut letters = io::buffer();
+    let mut told = number_room();
+    let number = read_lent(
+        input,
+        call,
+        n,
+        &mut texts,
+        &mut references,
+        &mut comments,
+        &mut features,
+        &mut qualifiers,
+        &mut letters,
+        &mut told,
+    );
+    let answered = answer_as_stored(s, at, number, &told, counts);
+    rooms_as_stored(
+        s,
+        answered,
+        &texts,
+        &references,
+        &comments,
+        &features,
+        &qualifiers,
+        &letters,
+    )
+}
+
+// The first n bytes are the slice to read.
+fn read_part(
+    s: &[u8],
+    at: usize,
+    input: &[u8],
+    part: usize,
+    call: &[usize],
+    n: usize,
+    counts: &mut [usize],
+) -> Checked {
+    if input.len() < part {
+        return Checked {
+            next: at,
+            same: false,
+        };
+    }
+    read_input(s, at, &input[0..part], call, n, counts)
+}
+
+// The reading whose fields start there.
+pub fn replay_reading(s: &[u8], at: usize, counts: &mut [usize]) -> Checked {
+    let mut input = io::buffer();
+    let mut call = number_room();
+    let slice = take_text(s, at, &mut input);
+    let asked = take_numbers(s, slice.next, &mut call);
+    read_part(
+        s,
+        asked.next,
+        &input,
+        slice.count,
+        &call,
+        asked.count,
+        counts,
+    )
+}

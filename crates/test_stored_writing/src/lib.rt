@@ -1,0 +1,272 @@
+// One stored writing: the table is written again by both writers, and their numbers, values and all of the slice are held against what is stored.
+use api_head::head_from;
+use api_told::tell_written;
+use spec_format::Head;
+use spec_format::WriteAnswer;
+use test_stored_lines::Checked;
+use test_stored_lines::count_answer;
+use test_stored_lines::lent;
+use test_stored_lines::number_at;
+use test_stored_lines::number_room;
+use test_stored_lines::take_numbers;
+use test_stored_lines::take_text;
+
+// Writes by one of the two writers, as the call says: width, truncation, escaping.
+fn write_by(
+    keeping: bool,
+    out: &mut [u8],
+    texts: &[u8],
+    references: &[usize],
+    comments: &[usize],
+    features: &[usize],
+    qualifiers: &[usize],
+    letters: &[u8],
+    head: Head,
+    call: &[usize],
+) -> WriteAnswer {
+    let width = number_at(call, 0);
+    let truncate = number_at(call, 1) != 0;
+    let escape = number_at(call, 2) != 0;
+    if keeping {
+        return write_flat::keep(
+            out,
+            texts,
+            references,
+            comments,
+            features,
+            qualifiers,
+            letters,
+            head,
+            width,
+            truncate,
+            escape,
+        );
+    }
+    write_flat::write(
+        out,
+        texts,
+        references,
+        comments,
+        features,
+        qualifiers,
+        letters,
+        head,
+        width,
+        truncate,
+        escape,
+    )
+}
+
+// The slice afterwards is as stored: the bytes with 0, else untouched.
+fn slice_as_stored(number: usize, out: &[u8], bytes: &[u8]) -> bool {
+    if number == 0 {
+        return base_keys::same_text(out, bytes);
+    }
+    let untouched = io::buffer();
+    base_keys::same_text(out, &untouched)
+}
+
+// A writer's number and value are those that stand in `stored` from `from` on, and the slice is as stored.
+fn answer_as_stored(
+    stored: &[usize],
+    from: usize,
+    number: usize,
+    value: usize,
+    out: &[u8],
+    bytes: &[u8],
+) -> bool {
+    if 2 < from {
+        return false;
+    }
+    if number != number_at(stored, from) {
+        return false;
+    }
+    if value != number_at(stored, from + 1) {
+        return false;
+    }
+    slice_as_stored(number, out, bytes)
+}
+
+// Writes into as much of the slice as the call lends.
+fn write_lent(
+    keeping: bool,
+    out: &mut [u8],
+    texts: &[u8],
+    references: &[usize],
+    comments: &[usize],
+    features: &[usize],
+    qualifiers: &[usize],
+    letters: &[u8],
+    head: &[usize],
+    call: &[usize],
+    n: usize,
+    told: &mut [usize],
+) -> usize {
+    let length = lent(call, n, 3, out.len());
+    let answer = write_by(
+        keeping,
+        &mut out[0..length],
+        texts,
+        references,
+        comments,
+        features,
+        qualifiers,
+        letters,
+        head_from(head),
+        call,
+    );
+    tell_written(told, answer)
+}
+
+// One writer, whose number and value stand in `stored` from `from` on.
+fn written_as_stored(
+    keeping: bool,
+    from: usize,
+    texts: &[u8],
+    references: &[usize],
+    comments: &[usize],
+    features: &[usize],
+    qualifiers: &[usize],
+    letters: &[u8],
+    head: &[usize],
+    call: &[usize],
+    n: usize,
+    stored: &[usize],
+    bytes: &[u8],
+) -> bool {
+    let mut out = io::buffer();
+    let mut told = number_room();
+    let number = write_lent(
+        keeping,
+        &mut out,
+        texts,
+        references,
+        comments,
+        features,
+        qualifiers,
+        letters,
+        head,
+        call,
+        n,
+        &mut told,
+    );
+    answer_as_stored(stored, from, number, number_at(&told, 0), &out, bytes)
+}
+
+// Both writers.
+fn both_as_stored(
+    texts: &[u8],
+    references: &[usize],
+    comments: &[usize],
+    features: &[usize],
+    qualifiers: &[usize],
+    letters: &[u8],
+    head: &[usize],
+    call: &[usize],
+    n: usize,
+    stored: &[usize],
+    bytes: &[u8],
+) -> bool {
+    let plain = written_as_stored(
+        false,
+        0,
+        texts,
+        references,
+        comments,
+        features,
+        qualifiers,
+        letters,
+        head,
+        call,
+        n,
+        stored,
+        bytes,
+    );
+    let keeping = written_as_stored(
+        true,
+        2,
+        texts,
+        references,
+        comments,
+        features,
+        qualifiers,
+        letters,
+        head,
+        call,
+        n,
+        stored,
+        bytes,
+    );
+    if plain {
+        return keeping;
+    }
+    false
+}
+
+// The call and what is stored of it: the two writers' numbers and values, and the bytes.
+fn write_table(
+    s: &[u8],
+    at: usize,
+    texts: &[u8],
+    references: &[usize],
+    comments: &[usize],
+    features: &[usize],
+    qualifiers: &[usize],
+    letters: &[u8],
+    counts: &mut [usize],
+) -> Checked {
+    let mut head = number_room();
+    let mut call = number_room();
+    let mut stored = number_room();
+    let mut bytes = io::buffer();
+    let heads = take_numbers(s, at, &mut head);
+    let asked = take_numbers(s, heads.next, &mut call);
+    let numbers = take_numbers(s, asked.next, &mut stored);
+    let text = take_text(s, numbers.next, &mut bytes);
+    count_answer(counts, number_at(&stored, 0), 1);
+    count_answer(counts, number_at(&stored, 2), 1);
+    let same = both_as_stored(
+        texts,
+        references,
+        comments,
+        features,
+        qualifiers,
+        letters,
+        &head,
+        &call,
+        asked.count,
+        &stored,
+        &bytes,
+    );
+    Checked {
+        next: text.next,
+        same: same,
+    }
+}
+
+// The writing whose fields start there.
+pub fn replay_writing(s: &[u8], at: usize, counts: &mut [usize]) -> Checked {
+    let mut texts = io::buffer();
+    let mut references = number_room();
+    let mut comments = number_room();
+    let mut features = number_room();
+    let mut qualifiers = number_room();
+    let mut letters = io::buffer();
+    let a = take_text(s, at, &mut texts);
+    let b = take_numbers(s, a.next, &mut references);
+    let c = take_numbers(s, b.next, &mut comments);
+    let d = take_numbers(s, c.next, &mut features);
+    let e = take_numbers(s, d.next, &mut qualifiers);
+    let f = take_text(s, e.next, &mut letters);
+    write_table(
+        s,
+        f.next,
+        &texts,
+        &references,
+        &comments,
+        &features,
+        &qualifiers,
+        &letters,
+        counts,
+    )
+}

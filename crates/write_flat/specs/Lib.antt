@@ -1,0 +1,3 @@
+-- What the writers answer, and what follows from that.
+pub mod Bound
+pub mod Writer

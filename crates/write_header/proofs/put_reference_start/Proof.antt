@@ -1,0 +1,54 @@
+-- Three texts of the row.
+use Rattle.spec_format.specs.Rooms.{referenceIn}
+use Rattle.write_header.specs.Header.{referenceStart}
+use Rattle.base_pen.specs.Pen.{writes-append}
+use borrow.Author.Needs.{needs}
+use native.Mathlib.Omega.{arith}
+use Rattle.write_header.proofs.put_reference_start.Statement.{statement}
+use Rattle.write_header.proofs.put_reference_start.Tie as tie
+
+slice-aggregate-put-row : tie.Need-slice-aggregate-put-row
+slice-aggregate-put-row c = search needs
+
+put-row-requires : tie.Need-put-row-requires
+put-row-requires c κs = (search needs, record { small = c .before .before .before .before .before .pre .0; row = omega (arith, c .before .before .before .before .before .pre .1); inside = c .before .before .before .before .before .pre .2 .text }, c .before .before .before .before .before .pre .3, c .before .before .before .before .before .pre .4)
+
+slice-aggregate-put-row-maybe : tie.Need-slice-aggregate-put-row-maybe
+slice-aggregate-put-row-maybe c = search needs
+
+add-put-row-maybe : tie.Need-add-put-row-maybe
+add-put-row-maybe c = search needs
+
+put-row-maybe-requires : tie.Need-put-row-maybe-requires
+put-row-maybe-requires c κs = (search needs, record { small = c .before .before .before .before .before .before .before .before .before .before .pre .0; row = omega (arith, c .before .before .before .before .before .before .before .before .before .before .pre .1); inside = c .before .before .before .before .before .before .before .before .before .before .pre .2 .authors }, c .before .before .before .before .before .before .before .before .before .before .pre .3, c .before .before .before .before .before .before .before .before .before .before .pre .4)
+
+slice-aggregate-put-row-maybe-2 : tie.Need-slice-aggregate-put-row-maybe-2
+slice-aggregate-put-row-maybe-2 c = search needs
+
+add-put-row-maybe-2 : tie.Need-add-put-row-maybe-2
+add-put-row-maybe-2 c = search needs
+
+put-row-maybe-requires-2 : tie.Need-put-row-maybe-requires-2
+put-row-maybe-requires-2 c κs = (search needs, record { small = c .before .before .before .before .before .before .before .before .before .before .before .before .before .before .before .pre .0; row = omega (arith, c .before .before .before .before .before .before .before .before .before .before .before .before .before .before .before .pre .1); inside = c .before .before .before .before .before .before .before .before .before .before .before .before .before .before .before .pre .2 .consrtm }, c .before .before .before .before .before .before .before .before .before .before .before .before .before .before .before .pre .3, c .before .before .before .before .before .before .before .before .before .before .before .before .before .before .before .pre .4)
+
+same-length : tie.Need-same-length
+same-length c = search needs
+
+returns : tie.Need-returns
+unfolding referenceStart referenceIn
+returns c = writes-append (writes-append (c .before .before .before .before .before .before .before .before .before .before .before .before .put-row .ensures) (c .before .before .before .before .before .before .before .put-row-maybe .ensures)) (c .before .before .put-row-maybe2 .ensures)
+
+pub put-reference-start-spec : {M : Type 1} → statement M
+put-reference-start-spec =
+    tie.close
+    (tie.spec
+    slice-aggregate-put-row
+    put-row-requires
+    slice-aggregate-put-row-maybe
+    add-put-row-maybe
+    put-row-maybe-requires
+    slice-aggregate-put-row-maybe-2
+    add-put-row-maybe-2
+    put-row-maybe-requires-2
+    same-length
+    returns)

@@ -1,0 +1,46 @@
+-- By whether there is a source.
+use Rattle.base_pen.specs.Pen.{writes-nil, writes-append}
+use borrow.Author.Needs.{needs}
+use Rattle.write_header.proofs.put_source.Statement.{statement}
+use Rattle.write_header.proofs.put_source.Tie as tie
+
+enum-told : tie.Need-enum-told
+enum-told c = search needs
+
+enum-known-source : tie.Need-enum-known-source
+enum-known-source c = search needs
+
+slice-aggregate-put-span : tie.Need-slice-aggregate-put-span
+slice-aggregate-put-span c = search needs
+
+put-span-requires : tie.Need-put-span-requires
+put-span-requires c κs = (search needs, record { small = c .before .before .before .before .before .before .before .pre .0; inside = (rw (c .before .before .before .source .given .1) at (c .before .before .before .before .before .before .before .pre .1)) .0 }, c .before .before .before .before .before .before .before .pre .2, c .before .before .before .before .before .before .before .pre .3)
+
+slice-aggregate-put-maybe : tie.Need-slice-aggregate-put-maybe
+slice-aggregate-put-maybe c = search needs
+
+put-maybe-requires : tie.Need-put-maybe-requires
+put-maybe-requires c κs = (search needs, c .before .before .before .before .before .before .before .before .before .before .before .before .pre .0, (rw (c .before .before .before .before .before .before .before .before .source .given .1) at (c .before .before .before .before .before .before .before .before .before .before .before .before .pre .1)) .1, c .before .before .before .before .before .before .before .before .before .before .before .before .pre .2, c .before .before .before .before .before .before .before .before .before .before .before .before .pre .3)
+
+returns : tie.Need-returns
+returns c = rw (c .enum-told .given .1) writes-nil
+
+same-length : tie.Need-same-length
+same-length c = search needs
+
+returns-2 : tie.Need-returns-2
+returns-2 c = rw (c .before .before .before .before .before .before .before .before .before .before .before .source .given .1) (writes-append (c .before .before .before .before .before .before .before .put-span .ensures) (c .before .before .put-maybe .ensures))
+
+pub put-source-spec : {M : Type 1} → statement M
+put-source-spec =
+    tie.close
+    (tie.spec
+    enum-told
+    enum-known-source
+    slice-aggregate-put-span
+    put-span-requires
+    slice-aggregate-put-maybe
+    put-maybe-requires
+    returns
+    same-length
+    returns-2)

@@ -1,0 +1,53 @@
+// The writers on feature rows that are structs: one entry point, which answers as the writers on flat numbers do.
+use base_rows::Feature;
+use base_rows::fetch_row;
+use spec_format::Head;
+use spec_format::How;
+use spec_format::WriteAnswer;
+use write_record_turns::start;
+use write_record_turns::step;
+ghost use Rattle.write_record_parts.specs.Split.{rowsRooms};
+ghost use Rattle.spec_contracts.specs.Writes.{WriteAnswered};
+
+// By the keeping rules or plainly, as `how` says. The loop only fetches the row that is next and makes a turn with it.
+pub fn write_rows(
+    out: &mut [u8],
+    texts: &[u8],
+    references: &[usize],
+    comments: &[usize],
+    rows: &[Feature],
+    qualifiers: &[usize],
+    letters: &[u8],
+    head: Head,
+    how: How,
+) -> WriteAnswer
+    ensures { λ r. ⌜ WriteAnswered how (rowsRooms (now (texts .entry)) (now (references .entry)) (now (comments .entry)) (now (qualifiers .entry)) (now (letters .entry)) (now (rows .entry))) head (now (out .entry)) (now (out .exit)) r ⌝ }
+{
+    let mut s = start(
+        rows.len(),
+        texts,
+        references,
+        comments,
+        qualifiers,
+        letters,
+        head,
+        how,
+    );
+    while s.going {
+        let fetched = fetch_row(rows, s.row);
+        let next = step(
+            out,
+            s,
+            fetched,
+            texts,
+            references,
+            comments,
+            qualifiers,
+            letters,
+            head,
+            how,
+        );
+        s = next;
+    }
+    s.answer
+}

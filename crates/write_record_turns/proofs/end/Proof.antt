@@ -1,0 +1,27 @@
+-- What stands behind the features ends the record.
+use Rattle.write_record_turns.specs.Turns.{ends-done}
+use Prim.Native.Nat.{_-_}
+use denote.Ref.{now}
+use borrow.Author.Needs.{needs}
+use Rattle.write_record_turns.proofs.end.Statement.{statement}
+use Rattle.write_record_turns.proofs.end.Tie as tie
+
+without-rows-requires : tie.Need-without-rows-requires
+without-rows-requires c κs = search needs
+
+put-after-requires : tie.Need-put-after-requires
+put-after-requires c κs = rw (c .without-rows .ensures) (c .before .before .before .before .before .pre)
+
+ended-requires : tie.Need-ended-requires
+ended-requires c κs = search needs
+
+same-length : tie.Need-same-length
+same-length c = search needs
+
+returns : tie.Need-returns
+returns c = rw (c .ended .ensures) (ends-done (now (c .before .before .before .before .before .before .before .before .before .args .texts)) (now (c .before .before .before .before .before .before .before .before .before .args .letters)) (c .before .before .before .before .before .before .before .before .before .args .head) (c .before .before .before .before .before .before .before .before .before .args .how) (c .before .before .before .before .before .before .before .before .before .args .s) (now (c .before .before .before .before .before .before .before .before .before .args .out)) (rw (c .before .before .before .before .without-rows .ensures) at (c .before .before .before .put-after .ensures)))
+
+pub end-spec : {M : Type 1} → statement M
+end-spec =
+    tie.close
+    (tie.spec without-rows-requires put-after-requires ended-requires same-length returns)

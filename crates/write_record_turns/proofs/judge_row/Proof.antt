@@ -1,0 +1,68 @@
+-- By whether another row may follow this one.
+use Rattle.write_record_turns.specs.Turns.{row-fit, judge-wrong, judge-goes}
+use Prim.Native.Nat.{_-_}
+use denote.Ref.{now}
+use borrow.Author.Needs.{needs}
+use Rattle.write_record_turns.proofs.judge_row.Statement.{statement}
+use Rattle.write_record_turns.proofs.judge_row.Tie as tie
+
+row-next-requires : tie.Need-row-next-requires
+row-next-requires c κs = search needs
+
+enum-known-next : tie.Need-enum-known-next
+enum-known-next c = search needs
+
+enum-told : tie.Need-enum-told
+enum-told c = search needs
+
+refused-requires : tie.Need-refused-requires
+refused-requires c κs = search needs
+
+returns : tie.Need-returns
+returns c = rw (c .refused .ensures) (judge-wrong (now (c .before .before .before .before .before .before .args .texts)) (now (c .before .before .before .before .before .before .args .qualifiers)) (c .before .before .before .before .before .before .args .how) (c .before .before .before .before .before .before .args .s) (c .before .before .before .before .before .before .args .row) _ (c .before .before .before .row-next .ensures) (c .before .enum-told .given .1))
+
+row-passes-requires : tie.Need-row-passes-requires
+row-passes-requires c κs = (c .before .before .before .before .before .before .pre .1, (row-fit (now (c .before .before .before .before .before .before .args .texts)) (now (c .before .before .before .before .before .before .args .qualifiers)) (c .before .before .before .before .before .before .args .row) (c .before .before .before .before .before .before .args .s .from) _ _ (c .before .before .before .before .before .before .pre .0) (c .before .before .before .row-next .ensures) (c .before .next .given .1)))
+
+both-requires : tie.Need-both-requires
+both-requires c κs = search needs
+
+row-kept-requires : tie.Need-row-kept-requires
+row-kept-requires c κs = (c .before .before .before .before .before .before .before .before .pre .1, (row-fit (now (c .before .before .before .before .before .before .before .before .args .texts)) (now (c .before .before .before .before .before .before .before .before .args .qualifiers)) (c .before .before .before .before .before .before .before .before .args .row) (c .before .before .before .before .before .before .before .before .args .s .from) _ _ (c .before .before .before .before .before .before .before .before .pre .0) (c .before .before .before .before .before .row-next .ensures) (c .before .before .before .next .given .1)))
+
+both-requires-2 : tie.Need-both-requires-2
+both-requires-2 c κs = search needs
+
+slice-aggregate-put-row : tie.Need-slice-aggregate-put-row
+slice-aggregate-put-row c = search needs
+
+put-row-requires : tie.Need-put-row-requires
+put-row-requires c κs = ((row-fit (now (c .before .before .before .before .before .before .before .before .before .before .before .args .texts)) (now (c .before .before .before .before .before .before .before .before .before .before .before .args .qualifiers)) (c .before .before .before .before .before .before .before .before .before .before .before .args .row) (c .before .before .before .before .before .before .before .before .before .before .before .args .s .from) _ _ (c .before .before .before .before .before .before .before .before .before .before .before .pre .0) (c .before .before .before .before .before .before .before .before .row-next .ensures) (c .before .before .before .before .before .before .next .given .1)), c .before .before .before .before .before .before .before .before .before .before .before .pre .1, c .before .before .before .before .before .before .before .before .before .before .before .pre .2)
+
+add-staged : tie.Need-add-staged
+add-staged c = search needs
+
+staged-requires : tie.Need-staged-requires
+staged-requires c κs = search needs
+
+returns-2 : tie.Need-returns-2
+returns-2 c = rw (c .staged .ensures) (judge-goes (now (c .before .before .before .before .before .before .before .before .before .before .before .before .before .before .before .args .texts)) (now (c .before .before .before .before .before .before .before .before .before .before .before .before .before .before .before .args .qualifiers)) (c .before .before .before .before .before .before .before .before .before .before .before .before .before .before .before .args .how) (c .before .before .before .before .before .before .before .before .before .before .before .before .before .before .before .args .s) (c .before .before .before .before .before .before .before .before .before .before .before .before .before .before .before .args .row) _ (c .before .before .before .before .before .before .before .before .before .before .before .before .row-next .ensures) _ _ _ _ (c .before .before .before .before .before .before .before .before .before .before .next .given .1) (c .before .before .before .before .before .before .before .both .ensures) (c .before .before .before .before .before .before .before .before .row-passes .ensures) (c .before .before .before .before .before .both2 .ensures) (c .before .before .before .before .before .before .row-kept .ensures) (c .before .before .before .put-row .ensures))
+
+pub judge-row-spec : {M : Type 1} → statement M
+judge-row-spec =
+    tie.close
+    (tie.spec
+    row-next-requires
+    enum-known-next
+    enum-told
+    refused-requires
+    returns
+    row-passes-requires
+    both-requires
+    row-kept-requires
+    both-requires-2
+    slice-aggregate-put-row
+    put-row-requires
+    add-staged
+    staged-requires
+    returns-2)

@@ -1,0 +1,157 @@
+-- What the writers on rows of structs answer: what the writers on flat numbers do. A call, its table, and the answer that is due.
+use Prim.Native.Nat.{ℕ, _+_, _-_, _≤_}
+use mathlib.Core.Path.{_≡_, refl, sym, _∙_}
+use mathlib.Core.Bool.{Bool, true, false, _&&_, not}
+use mathlib.Core.List.{List, [], _++_}
+use native.Mathlib.Omega.{arith}
+use lib.Dec.{leb}
+use lib.ListN.{length}
+use borrow.Author.Tests.{le-leb, not-true, not-false}
+use Rattle.spec_format.specs.Answers.{room, noRule, keepingRules, writeAnswer, plainAnswer, keepingAnswer, sliceAfter}
+use Rattle.spec_format.specs.Bytes.{pick, each}
+use Rattle.spec_format.specs.Keeping.{keeps}
+use Rattle.spec_format.specs.Rooms.{Rooms, rowsFrom, tableOf, featuresFine, roomsFine, roomsIn}
+use Rattle.spec_format.specs.WellFormed.{widthFine, wellFormed}
+use Rattle.spec_format.specs.Write.{featureLines, written}
+use Rattle.spec_format.specs.declared.Head.{Head}
+use Rattle.spec_format.specs.declared.Unwritten.the-variants as unwritten
+use Rattle.spec_format.specs.declared.WriteAnswer.{WriteAnswer}
+use Rattle.spec_format.specs.declared.WriteAnswer.the-variants as answer
+use Rattle.base_rows.specs.declared.Feature.{Feature}
+use Rattle.write_record_parts.specs.Parts.{noRows, afterParts}
+use Rattle.write_record_parts.specs.Split.{rowsRooms, featureAt, rooms-split}
+use Rattle.spec_format.specs.declared.How.{How}
+use Rattle.judge_verdict.specs.Verdicts.{Passed}
+use Rattle.write_flat.specs.Writer.{answered}
+use Rattle.judge_verdict.specs.declared.Verdict.the-variants as verdict
+use Rattle.spec_format.specs.Impossible.{impossible}
+use Rattle.spec_contracts.specs.Writes.{AnsweredBy, WriteAnswered}
+
+-- ---- a call but for its rows
+
+pub record Asking : Type 0 where
+  pub texts : List ℕ
+  pub references : List ℕ
+  pub comments : List ℕ
+  pub qualifiers : List ℕ
+  pub letters : List ℕ
+  pub head : Head
+  pub how : How
+
+abbrev pub asking : List ℕ → List ℕ → List ℕ → List ℕ → List ℕ → Head → How → Asking
+asking t rf cm q l h how = record { texts = t; references = rf; comments = cm; qualifiers = q; letters = l; head = h; how = how }
+
+abbrev pub rowsOf : Asking → List Feature → Rooms
+rowsOf a rows = rowsRooms (a .texts) (a .references) (a .comments) (a .qualifiers) (a .letters) rows
+
+abbrev pub restOf : Asking → Rooms
+restOf a = roomsIn (a .texts) (a .references) (a .comments) [] (a .qualifiers) (a .letters)
+
+-- the record that is to be written, and what of it comes from row i on
+abbrev pub textOf : Asking → List Feature → List ℕ
+textOf a rows = written (a .how .width) (a .how .truncate) (a .how .escape) (tableOf (rowsOf a rows) (a .head))
+
+unfoldable pub textFrom : Asking → List Feature → ℕ → List ℕ
+textFrom a rows i =
+    each (featureLines (a .how .width)) (rowsFrom (featureAt (a .texts) (a .qualifiers) rows) 6 i (a .head .features - i)) ++
+    afterParts (a .texts) (a .letters) (noRows (a .head)) (a .how .width)
+
+-- ---- the answer that is due, lent a slice of n bytes
+
+abbrev ruleOf : Bool → ℕ → Bool → Bool → Rooms → Head → Bool
+ruleOf true W truncate escape r h = keepingRules W truncate escape r h
+ruleOf false W truncate escape r h = noRule W truncate escape r h
+
+unfoldable pub due : Asking → List Feature → ℕ → WriteAnswer
+due a rows n = writeAnswer (ruleOf (a .how .keeping)) (a .how .width) (a .how .truncate) (a .how .escape) (rowsOf a rows) (a .head) n
+
+answered-by : (keeping : Bool) (W : ℕ) (truncate escape : Bool) (r : Rooms) (h : Head) (old new : List ℕ) (x : WriteAnswer)
+    → x ≡ writeAnswer (ruleOf keeping) W truncate escape r h (length old) → new ≡ sliceAfter x (written W truncate escape (tableOf r h)) old
+    → AnsweredBy keeping W truncate escape r h old new x
+unfolding plainAnswer keepingAnswer
+answered-by true W truncate escape r h old new x e s = record { is = e; slice = s }
+answered-by false W truncate escape r h old new x e s = record { is = e; slice = s }
+
+module _ (a : Asking) (rows : List Feature) (old new : List ℕ) (x : WriteAnswer) where
+  pub answers : x ≡ due a rows (length old) → new ≡ sliceAfter x (textOf a rows) old → WriteAnswered (a .how) (rowsOf a rows) (a .head) old new x
+  unfolding due
+  answers e s = answered-by (a .how .keeping) (a .how .width) (a .how .truncate) (a .how .escape) (rowsOf a rows) (a .head) old new x e s
+
+-- ---- 12 and 10
+
+module _ (a : Asking) (rows : List Feature) (n : ℕ) where
+  pub due-width : (b : Bool) → b ≡ widthFine (a .how .width) → not b ≡ true → answer.Refused unwritten.BadWidth ≡ due a rows n
+  unfolding due
+  due-width b e t = rw (← e, not-true b t)
+
+  due-rooms : widthFine (a .how .width) ≡ true → roomsFine (rowsOf a rows) (a .head) ≡ false → answer.Refused unwritten.BadRooms ≡ due a rows n
+  unfolding due
+  due-rooms w e = rw (w, e)
+
+  rooms-are : (x y z f : Bool) → roomsFine (restOf a) (noRows (a .head)) ≡ x → leb (length rows) 16777216 ≡ y → leb (a .head .features) (length rows) ≡ z
+      → featuresFine (rowsOf a rows) 0 0 (a .head .features) ≡ f → roomsFine (rowsOf a rows) (a .head) ≡ (x && (y && (z && f)))
+  rooms-are x y z f e g i j =
+      rooms-split (a .texts) (a .references) (a .comments) (a .qualifiers) (a .letters) rows (a .head) ∙ rw (e, g, i, j)
+
+  -- number 10 of the rest; of the number of rows; of a row
+  pub due-rest : (b c : Bool) → b ≡ widthFine (a .how .width) → not b ≡ false → c ≡ roomsFine (restOf a) (noRows (a .head)) → not c ≡ true
+      → answer.Refused unwritten.BadRooms ≡ due a rows n
+  due-rest b c e t f u = due-rooms (sym e ∙ not-false b t) (rooms-are false _ _ _ (sym f ∙ not-true c u) refl refl refl)
+
+  pub due-many : (b c d : Bool) → b ≡ widthFine (a .how .width) → not b ≡ false → c ≡ roomsFine (restOf a) (noRows (a .head)) → not c ≡ false
+      → d ≡ (leb (length rows) 16777216 && leb (a .head .features) (length rows)) → not d ≡ true
+      → answer.Refused unwritten.BadRooms ≡ due a rows n
+  due-many b c d e t f u g v =
+      due-rooms (sym e ∙ not-false b t)
+      (rooms-are true _ _ _ (sym f ∙ not-false c u) refl refl refl ∙ go (leb (length rows) 16777216) (leb (a .head .features) (length rows)) _ (sym g ∙ not-true d v))
+    where
+      go : (y z w : Bool) → (y && z) ≡ false → (y && (z && w)) ≡ false
+      go true true w h = absurd (true-false h)
+        where
+          true-false : true ≡ false → ⊥
+          true-false k = impossible cc
+      go true false w h = refl
+      go false z w h = refl
+
+-- ---- the call got past 12 and past 10 of all but the rows
+
+pub record Asked (a : Asking) (rows : List Feature) : Type 0 where
+  pub passed : Passed (a .how .width) (restOf a) (noRows (a .head))
+  pub few : length rows ≤ 16777216
+  pub enough : a .head .features ≤ length rows
+
+width-is : (W : ℕ) → 60 ≤ W → W ≤ 132 → widthFine W ≡ true
+width-is W l u = rw (le-leb 60 W l, le-leb W 132 u)
+
+module _ (a : Asking) (rows : List Feature) (k : Asked a rows) where
+  rooms-by-rows : (f : Bool) → featuresFine (rowsOf a rows) 0 0 (a .head .features) ≡ f → roomsFine (rowsOf a rows) (a .head) ≡ f
+  rooms-by-rows f e =
+      rooms-are a rows 0 true true true f (k .passed .rooms) (le-leb (length rows) 16777216 (k .few)) (le-leb (a .head .features) (length rows) (k .enough)) e
+
+  pub asked-rooms : featuresFine (rowsOf a rows) 0 0 (a .head .features) ≡ true → roomsFine (rowsOf a rows) (a .head) ≡ true
+  asked-rooms e = rooms-by-rows true e
+
+  pub due-row : (n : ℕ) → featuresFine (rowsOf a rows) 0 0 (a .head .features) ≡ false → answer.Refused unwritten.BadRooms ≡ due a rows n
+  due-row n e = due-rooms a rows n (width-is (a .how .width) (k .passed .narrowest) (k .passed .widest)) (rooms-by-rows false e)
+
+  -- past 10 too: what is due then by the verdict on 11 and 13
+  pub due-verdict : (n : ℕ) (f g : Bool) → featuresFine (rowsOf a rows) 0 0 (a .head .features) ≡ true
+      → wellFormed (a .how .width) (a .how .truncate) (a .how .escape) (tableOf (rowsOf a rows) (a .head)) ≡ f
+      → keeps (a .how .width) (a .how .truncate) (a .how .escape) (tableOf (rowsOf a rows) (a .head)) ≡ g
+      → due a rows n ≡ answered (pick f (pick (a .how .keeping) (pick g verdict.Fine (verdict.Not unwritten.NotKept)) verdict.Fine) (verdict.Not unwritten.NoLayout)) (room n (length (textOf a rows)))
+  unfolding due
+  due-verdict n f g e p q =
+      rw (width-is (a .how .width) (k .passed .narrowest) (k .passed .widest), asked-rooms e, p) (go (a .how .keeping) f q)
+    where
+      go : (keeping f : Bool) → keeps (a .how .width) (a .how .truncate) (a .how .escape) (tableOf (rowsOf a rows) (a .head)) ≡ g →
+          pick f (pick (ruleOf keeping (a .how .width) (a .how .truncate) (a .how .escape) (rowsOf a rows) (a .head)) (room n (length (textOf a rows)))
+          (answer.Refused unwritten.NotKept)) (answer.Refused unwritten.NoLayout) ≡
+          answered (pick f (pick keeping (pick g verdict.Fine (verdict.Not unwritten.NotKept)) verdict.Fine) (verdict.Not unwritten.NoLayout)) (room n (length (textOf a rows)))
+      go keeping false q = refl
+      go false true q = refl
+      go true true q = rw q (by-kept g)
+        where
+          by-kept : (g : Bool) → pick g (room n (length (textOf a rows))) (answer.Refused unwritten.NotKept) ≡
+              answered (pick g verdict.Fine (verdict.Not unwritten.NotKept)) (room n (length (textOf a rows)))
+          by-kept true = refl
+          by-kept false = refl

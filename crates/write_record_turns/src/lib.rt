@@ -1,0 +1,260 @@
+// The turns of the writers on feature rows that are structs. The rows are gone through twice, in one loop: first each is judged and measured, then,
+// where the record is to be written, each is put. What a turn does is decided by a state that is passed by value, so the loop itself only fetches rows.
+use base_arith::both;
+use base_rows::Feature;
+use base_rows::Fetched;
+use judge_header::Rule;
+use judge_rooms::Next;
+use judge_rooms::rooms_fine;
+use judge_verdict::Verdict;
+use judge_verdict::width_fine;
+use spec_format::Head;
+use spec_format::How;
+use spec_format::MOST;
+use spec_format::Unwritten;
+use spec_format::WriteAnswer;
+use write_feature_row::put_row;
+use write_feature_row::row_kept;
+use write_feature_row::row_next;
+use write_feature_row::row_passes;
+use write_record_parts::put_after;
+use write_record_parts::put_before;
+use write_record_parts::rest_verdict;
+use write_record_parts::without_rows;
+ghost use mathlib.Core.Path.{_≡_};
+ghost use mathlib.Core.List.{[]};
+ghost use Prim.Native.Nat.{_≤_};
+ghost use lib.ListN.{length};
+ghost use Rattle.judge_feature.specs.Rules.{FeatureKnown};
+ghost use Rattle.base_rows.specs.Rows.{numbers};
+ghost use Rattle.base_rows.specs.declared.Feature.{Feature};
+ghost use Rattle.write_record_parts.specs.Parts.{noRows, AfterKnown};
+ghost use Rattle.judge_verdict.specs.Verdicts.{Passed};
+ghost use Rattle.write_record_turns.specs.Answered.{asking};
+ghost use Rattle.write_record_turns.specs.Turns.{endedState, stagedState, Starts, Judges, Decides, Puts, Ends, Steady, Steps};
+ghost use Rattle.spec_format.specs.Rooms.{roomsIn};
+
+// How far the work has come.
+pub struct State {
+    // There is more to do; where there is not, the answer stands.
+    pub going: bool,
+    // Rows are put; before that they are judged and measured.
+    pub putting: bool,
+    // The row that is next.
+    pub row: usize,
+    // The place reached in the record.
+    pub at: usize,
+    // Where the qualifiers of that row may start.
+    pub from: usize,
+    // No row so far has what number 11, number 13 is given for.
+    pub fine: bool,
+    pub kept: bool,
+    pub answer: WriteAnswer,
+}
+
+fn ended(answer: WriteAnswer) -> State
+    ensures { λ r. ⌜ r ≡ endedState answer ⌝ }
+{
+    State {
+        going: false,
+        putting: false,
+        row: 0,
+        at: 0,
+        from: 0,
+        fine: true,
+        kept: true,
+        answer: answer,
+    }
+}
+
+fn refused(why: Unwritten) -> State
+    ensures { λ r. ⌜ r ≡ endedState (WriteAnswer.Refused why) ⌝ }
+{
+    ended(WriteAnswer::Refused(why))
+}
+
+fn staged(putting: bool, row: usize, at: usize, from: usize, fine: bool, kept: bool) -> State
+    ensures { λ r. ⌜ r ≡ stagedState putting row at from fine kept ⌝ }
+{
+    let none = WriteAnswer::Done(0);
+    State {
+        going: true,
+        putting: putting,
+        row: row,
+        at: at,
+        from: from,
+        fine: fine,
+        kept: kept,
+        answer: none,
+    }
+}
+
+// Number 12, or number 10 of all but the rows; else the work begins, with what stands before the features.
+pub fn start(
+    rows: usize,
+    texts: &[u8],
+    references: &[usize],
+    comments: &[usize],
+    qualifiers: &[usize],
+    letters: &[u8],
+    head: Head,
+    how: How,
+) -> State
+    ensures { λ r. ⌜ Starts rows (asking (now (texts .entry)) (now (references .entry)) (now (comments .entry)) (now (qualifiers .entry)) (now (letters .entry)) head how) r ⌝ }
+{
+    if !width_fine(how.width) {
+        return refused(Unwritten::BadWidth);
+    }
+    let rest = without_rows(head);
+    if !rooms_fine(texts, references, comments, &[], qualifiers, letters, rest) {
+        return refused(Unwritten::BadRooms);
+    }
+    if !both(rows <= MOST, head.features <= rows) {
+        return refused(Unwritten::BadRooms);
+    }
+    let at = put_before(
+        &mut [],
+        texts,
+        references,
+        comments,
+        rest,
+        head.features,
+        how,
+    );
+    staged(false, 0, at, 0, true, true)
+}
+
+// A row is judged and measured.
+fn judge_row(s: State, row: Feature, texts: &[u8], qualifiers: &[usize], how: How) -> State
+    requires { ⌜ (length (now texts) ≤ 16777216) × (60 ≤ how .width) × (how .width ≤ 132) × (s .row ≤ 16777216) ⌝ }
+    ensures { λ r. ⌜ Judges (now (texts .entry)) (now (qualifiers .entry)) how s (Fetched.Row row) r ⌝ }
+{
+    let width = how.width;
+    let Next::From(next) = row_next(row, texts, qualifiers, s.from) else {
+        return refused(Unwritten::BadRooms);
+    };
+    let fine = both(
+        s.fine,
+        row_passes(Rule::Fine(width), row, texts, qualifiers),
+    );
+    let kept = both(s.kept, row_kept(how.keeping, width, row, texts, qualifiers));
+    let at = put_row(&mut [], s.at, row, texts, qualifiers, width);
+    staged(false, s.row + 1, at, next, fine, kept)
+}
+
+fn judge_fetched(s: State, fetched: Fetched, texts: &[u8], qualifiers: &[usize], how: How) -> State
+    requires { ⌜ (length (now texts) ≤ 16777216) × (60 ≤ how .width) × (how .width ≤ 132) × (s .row ≤ 16777216) ⌝ }
+    ensures { λ r. ⌜ Judges (now (texts .entry)) (now (qualifiers .entry)) how s fetched r ⌝ }
+{
+    match fetched {
+        Fetched::Outside => refused(Unwritten::BadRooms),
+        Fetched::Row(row) => judge_row(s, row, texts, qualifiers, how),
+    }
+}
+
+fn put_fetched(
+    out: &mut [u8],
+    s: State,
+    fetched: Fetched,
+    texts: &[u8],
+    qualifiers: &[usize],
+    how: How,
+) -> State
+    requires { ⌜ ((x : Feature) → fetched ≡ Fetched.Row x → FeatureKnown (now texts) (numbers x) (now qualifiers) 0) × (60 ≤ how .width) × (how .width ≤ 132) × (s .row ≤ 16777216) ⌝ }
+    ensures { λ r. ⌜ Puts (now (texts .entry)) (now (qualifiers .entry)) how s fetched (now (out .entry)) r (now (out .exit)) ⌝ }
+{
+    match fetched {
+        Fetched::Outside => refused(Unwritten::BadRooms),
+        Fetched::Row(row) => {
+            let at = put_row(out, s.at, row, texts, qualifiers, how.width);
+            staged(true, s.row + 1, at, 0, true, true)
+        }
+    }
+}
+
+// The rows are judged: number 11, 13 or 6; else what stands before the features is put.
+fn decide(
+    out: &mut [u8],
+    s: State,
+    texts: &[u8],
+    references: &[usize],
+    comments: &[usize],
+    qualifiers: &[usize],
+    letters: &[u8],
+    head: Head,
+    how: How,
+) -> State
+    requires { ⌜ Passed (how .width) (roomsIn (now texts) (now references) (now comments) [] (now qualifiers) (now letters)) (noRows head) ⌝ }
+    ensures { λ r. ⌜ Decides (asking (now (texts .entry)) (now (references .entry)) (now (comments .entry)) (now (qualifiers .entry)) (now (letters .entry)) head how) s (now (out .entry)) r (now (out .exit)) ⌝ }
+{
+    let rest = without_rows(head);
+    let verdict = rest_verdict(
+        s.fine,
+        s.kept,
+        texts,
+        references,
+        comments,
+        qualifiers,
+        letters,
+        rest,
+        how,
+    );
+    match verdict {
+        Verdict::Not(why) => refused(why),
+        Verdict::Fine => {
+            let n = put_after(&mut [], s.at, texts, letters, rest, how.width);
+            if out.len() < n {
+                return ended(WriteAnswer::Room(n));
+            }
+            let at = put_before(out, texts, references, comments, rest, head.features, how);
+            staged(true, 0, at, 0, true, true)
+        }
+    }
+}
+
+// The rows are put: what stands behind them is put too.
+fn end(out: &mut [u8], s: State, texts: &[u8], letters: &[u8], head: Head, how: How) -> State
+    requires { ⌜ AfterKnown (now texts) (now letters) (noRows head) (how .width) ⌝ }
+    ensures { λ r. ⌜ Ends (now (texts .entry)) (now (letters .entry)) head how s (now (out .entry)) r (now (out .exit)) ⌝ }
+{
+    let n = put_after(out, s.at, texts, letters, without_rows(head), how.width);
+    ended(WriteAnswer::Done(n))
+}
+
+// One turn, with the row that is next.
+pub fn step(
+    out: &mut [u8],
+    s: State,
+    fetched: Fetched,
+    texts: &[u8],
+    references: &[usize],
+    comments: &[usize],
+    qualifiers: &[usize],
+    letters: &[u8],
+    head: Head,
+    how: How,
+) -> State
+    requires { ⌜ Steady (asking (now texts) (now references) (now comments) (now qualifiers) (now letters) head how) s fetched ⌝ }
+    ensures { λ r. ⌜ Steps (asking (now (texts .entry)) (now (references .entry)) (now (comments .entry)) (now (qualifiers .entry)) (now (letters .entry)) head how) s fetched (now (out .entry)) r (now (out .exit)) ⌝ }
+{
+    if s.row < head.features {
+        if s.putting {
+            return put_fetched(out, s, fetched, texts, qualifiers, how);
+        }
+        return judge_fetched(s, fetched, texts, qualifiers, how);
+    }
+    if s.putting {
+        return end(out, s, texts, letters, head, how);
+    }
+    decide(
+        out,
+        s,
+        texts,
+        references,
+        comments,
+        qualifiers,
+        letters,
+        head,
+        how,
+    )
+}
