@@ -14,7 +14,7 @@ use Rattle.spec_loops.specs.Shrinks.{feature-small}
 use Rattle.scan_bytes.specs.Places.{part}
 use Rattle.scan_bytes.specs.Parts.{length-part}
 use Rattle.base_pen.specs.Pen.{Wrote, Writes, wrote-append}
-use Rattle.filling.specs.Filling.{Filling, filling-start, filling-as, filling-step, filling-end, filling-bound, wrote-as}
+use Rattle.base_pen.specs.Filling.{Filling, filling-start, filling-as, filling-step, filling-end, filling-bound, wrote-as}
 use Rattle.read_feature_joined.specs.Views.{Valued}
 use Rattle.read_feature_joined.specs.declared.Value.{Value}
 use Rattle.read_feature_joined.specs.declared.Value.the-variants as value

@@ -14,7 +14,7 @@ use Rattle.spec_format.specs.Rooms.{piecesText, piecesRow, qualifierPieces, tex
 use Rattle.scan_bytes.specs.Places.{part}
 use Rattle.scan_bytes.specs.Parts.{length-part}
 use Rattle.base_pen.specs.Pen.{Wrote, Writes, wrote-append}
-use Rattle.filling.specs.Filling.{Filling, filling-start, filling-as, filling-step, filling-end, filling-bound}
+use Rattle.base_pen.specs.Filling.{Filling, filling-start, filling-as, filling-step, filling-end, filling-bound}
 use Rattle.read_feature_value.specs.Reads.{readText, Placed}
 use Rattle.read_feature_qualifiers.specs.Reads.{qualifierIn, ValueStands, QualifierRead}
 use Rattle.read_feature_qualifiers.specs.Texts.{absent-text, with-text, texts-more, texts-none}

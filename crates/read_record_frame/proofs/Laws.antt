@@ -14,7 +14,7 @@ use Rattle.spec_format.specs.Record.{most}
 use Rattle.spec_format.specs.Rooms.{perhaps, pieceText, piecesText, headPieces, referencePieces, commentPieces, textsOf, rowsOf, featureText, referencesAt, commentsAt, featuresAt, contigAt, layout, sizes, roomsIn}
 use Rattle.spec_rooms.specs.LayoutLengths.{Lengths, layout-lengths}
 use Rattle.base_pen.specs.Pen.{Wrote, Writes, writes-nil, sets-append, wrote-append}
-use Rattle.filling.specs.Filling.{wrote-as}
+use Rattle.base_pen.specs.Filling.{wrote-as}
 use Rattle.read_letters.specs.Runs.{sifted}
 use Rattle.read_field_entry.specs.declared.Entry.{Entry}
 use Rattle.read_field_text.specs.Texts as entry
