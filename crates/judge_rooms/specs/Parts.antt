@@ -6,7 +6,7 @@ use mathlib.Core.List.{List, []}
 use lib.ListN.{length, getD}
 use lib.Dec.{eqb}
 use Rattle.spec_format.specs.Bytes.{pick}
-use Rattle.spec_format.specs.Rooms.{Rooms, rowTextFine, qualifiersFine}
+use Rattle.spec_format.specs.Rooms.{Rooms, rowTextFine, qualifiersFine, roomsIn}
 use Rattle.judge_rooms.specs.declared.Next.{Next}
 use Rattle.judge_rooms.specs.declared.Next.the-variants as next
 
