@@ -6,16 +6,15 @@ use mathlib.Core.Logic.{_↔_}
 use mathlib.Core.Path.{_≡_, refl, sym, ap, _∙_}
 use lib.Dec.{leb}
 use lib.ListN.{length, take}
-use Rattle.spec_format.specs.Answers.{room, writeAnswer, plainAnswer, keepingAnswer, sliceAfter, number}
+use Rattle.spec_format.specs.Answers.{room, noRule, keepingRules, writeAnswer, plainAnswer, keepingAnswer, sliceAfter, number}
 use Rattle.spec_format.specs.Bytes.{pick}
 use Rattle.spec_format.specs.Keeping.{keeps}
 use Rattle.spec_format.specs.Rooms.{Rooms, tableOf, roomsFine, sizes, fits}
-use Rattle.spec_format.specs.WellFormed.{wellFormed}
+use Rattle.spec_format.specs.WellFormed.{widthFine, wellFormed}
 use Rattle.spec_format.specs.Write.{written}
 use Rattle.spec_format.specs.declared.Head.{Head}
 use Rattle.spec_format.specs.declared.How.{How}
 use Rattle.spec_format.specs.declared.Length.the-variants as given
-use Rattle.spec_format.specs.declared.Unwritten.{Unwritten}
 use Rattle.spec_format.specs.declared.Unwritten.the-variants as unwritten
 use Rattle.spec_format.specs.declared.WriteAnswer.{WriteAnswer}
 use Rattle.spec_format.specs.declared.WriteAnswer.the-variants as answer
@@ -36,10 +35,15 @@ counts-room m n = go (leb n m)
     go true = refl
     go false = refl
 
--- a test that may refuse changes no count
-counts-or : (b : Bool) (a : WriteAnswer) (why : Unwritten) (n : ℕ) → Counts a n → Counts (pick b a (answer.Refused why)) n
-counts-or true a why n h = h
-counts-or false a why n h = tt
+-- the four tests before it change no count
+counts-four : (a b c d : Bool) (x : WriteAnswer) (n : ℕ) → Counts x n →
+    Counts (pick a (pick b (pick c (pick d x (answer.Refused unwritten.NotKept)) (answer.Refused unwritten.NoLayout)) (answer.Refused unwritten.BadRooms))
+    (answer.Refused unwritten.BadWidth)) n
+counts-four false b c d x n h = tt
+counts-four true false c d x n h = tt
+counts-four true true false d x n h = tt
+counts-four true true true false x n h = tt
+counts-four true true true true x n h = h
 
 -- ---- any answer but number 0 leaves the slice as it was
 
@@ -58,13 +62,15 @@ module _ (W : ℕ) (truncate escape : Bool) (r : Rooms) (h : Head) (old : List �
 
   counts : (kept : ℕ → Bool → Bool → Rooms → Head → Bool) → Counts (writeAnswer kept W truncate escape r h (length old)) (length (written W truncate escape (tableOf r h)))
   counts kept =
-      counts-or _ _ _ _ (counts-or _ _ _ _ (counts-or _ _ _ _ (counts-or _ _ _ _ (counts-room (length old) (length (written W truncate escape (tableOf r h)))))))
+      let n : ℕ = length (written W truncate escape (tableOf r h)) in
+      counts-four (widthFine W) (roomsFine r h) (wellFormed W truncate escape (tableOf r h)) (kept W truncate escape r h) (room (length old) n) n
+      (counts-room (length old) n)
 
   by-counted : (keeping : Bool) (a : WriteAnswer) (new : List ℕ) → AnsweredBy keeping W truncate escape r h old new a →
       Counts a (length (written W truncate escape (tableOf r h)))
   unfolding plainAnswer keepingAnswer
-  by-counted true a new p = rw (p .is) (counts _)
-  by-counted false a new p = rw (p .is) (counts _)
+  by-counted true a new p = rw (p .is) (counts keepingRules)
+  by-counted false a new p = rw (p .is) (counts noRule)
 
   by-untouched : (keeping : Bool) (a : WriteAnswer) (new : List ℕ) → AnsweredBy keeping W truncate escape r h old new a → (number a ≡ 0 → ⊥) → new ≡ old
   by-untouched true a new p n = p .slice ∙ unchanged a (written W truncate escape (tableOf r h)) old n
