@@ -1,4 +1,4 @@
-/* Vilggodan: GenBank records read and written, by proved code. Link target/staticlib/libboundary.a, which `rt staticlib boundary` makes (x86-64 Linux).
+/* Vilggodan: GenBank records read and written, by proved code. Link target/staticlib/libvilggodan.a, which `api/build` makes (x86-64 Linux).
  *
  * A slice is passed as a pointer and then a length, which counts elements. Pointers are never NULL, also where the length is 0, and slices that are
  * written to overlap no other. Nothing else is asked of the arguments: every call ends and has an answer, and changes nothing but what is said here.

@@ -5,7 +5,7 @@ use crate::table::{Rooms, ROWS};
 #[repr(C)]
 struct Feature([usize; ROWS[2]]);
 
-#[link(name = "boundary", kind = "static")]
+#[link(name = "api_boundary", kind = "static")]
 extern "C" {
     fn vilggodan_read(
         s: *const u8, s_length: usize, at: usize, texts: *mut u8, texts_length: usize, references: *mut usize, references_length: usize, comments: *mut usize,

@@ -1,7 +1,7 @@
 """States answers as equations about the definitions of crates/spec_format, and lets antt compute them.
 
 Each statement is closed by `refl`, so antt accepts it exactly if the definition computes to the answer. The statements stand in
-throw-away crates above a copy of `format`, in a temporary folder.
+throw-away crates above a copy of `spec_format`, in a temporary folder.
 """
 import os
 import pathlib
@@ -87,13 +87,13 @@ def writes_not(width, truncate, escape, table):
 # ---- the definitions
 
 def _needed():
-    """`format` and what it stands on, each with its line of crates.txt."""
+    """`spec_format` and what it stands on, each with its line of crates.txt."""
     lines = {}
     for line in (REPOSITORY / "crates.txt").read_text().splitlines():
         name, colon, rest = line.split("#")[0].partition(":")
         if colon:
             lines[name.strip()] = rest
-    wanted, found = ["format"], {}
+    wanted, found = ["spec_format"], {}
     while wanted:
         name = wanted.pop()
         if name not in found:
@@ -107,7 +107,7 @@ def _unfoldable():
     wanted, texts = ["Record", "Write", "WellFormed", "Keeping"], {}
     while wanted:
         module = wanted.pop()
-        path = REPOSITORY / "crates" / "format" / "specs" / (module + ".antt")
+        path = REPOSITORY / "crates" / "spec_format" / "specs" / (module + ".antt")
         if module not in texts and path.exists():
             texts[module] = path.read_text()
             wanted += re.findall(r"^use Rattle\.spec_format\.specs\.(\w+)", texts[module], re.M)
@@ -144,7 +144,7 @@ class Prover:
         (crate / "specs" / "Answers.antt").write_text("\n".join(text))
 
     def _check(self, crates):
-        listed = ["%s:%s" % item for item in self.needed.items()] + ["%s: format" % name for name in crates]
+        listed = ["%s:%s" % item for item in self.needed.items()] + ["%s: spec_format" % name for name in crates]
         (self.folder / "crates.txt").write_text("\n".join(listed) + "\n")
         return subprocess.run(["rt", "check"] + list(crates), cwd=self.folder, env=dict(os.environ, RT_CUT="0"),
                               stdout=subprocess.PIPE, stderr=subprocess.STDOUT, text=True)

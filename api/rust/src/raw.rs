@@ -1,4 +1,4 @@
-//! The exported functions of `libboundary.a`, as api/vilggodan.h has them: a slice is a pointer and a length.
+//! The exported functions of `libvilggodan.a`, as api/vilggodan.h has them: a slice is a pointer and a length.
 
 /// A text in the room of texts.
 #[repr(C)]
