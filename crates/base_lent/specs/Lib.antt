@@ -1,0 +1,2 @@
+-- Short names for contracts.
+pub mod Lent
