@@ -51,12 +51,13 @@ madeOf p kind start location run =
     }
 
 -- kind, location and qualifiers one after the other
-module _ (f : Feature) (p : Reached) (t₀ m₁ m₂ t₁ q₀ q₁ : List ℕ) (start stop : ℕ) (run : Run) where
+module _ (f : Feature) (p : Reached) (t₀ m₁ m₂ t₁ q₀ q₁ : List ℕ) (start stop : ℕ) (run : Run) (kind long : ℕ) where
   put-all : Writes t₀ (p .text) (f .kind) m₁ start → Writes m₁ start (f .location) m₂ stop
       → PutTwo (textsOf qualifierPieces (f .qualifiers)) (rowsOf qualifierPieces stop (f .qualifiers)) m₂ stop t₁ (run .text) q₀ (p .qualifier) q₁ (run .row)
-      → run .count ≡ length (f .qualifiers) → p .text + length (featureText f) < 2 ^ 64 → p .qualifier + length (underOf (p .text) f) < 2 ^ 64
-      → FeatureWrote p f t₀ t₁ q₀ q₁ (madeOf p (length (f .kind)) start (length (f .location)) run)
-  put-all w u v counted a c =
+      → kind ≡ length (f .kind) → long ≡ length (f .location) → run .count ≡ length (f .qualifiers)
+      → p .text + length (featureText f) < 2 ^ 64 → p .qualifier + length (underOf (p .text) f) < 2 ^ 64
+      → FeatureWrote p f t₀ t₁ q₀ q₁ (madeOf p kind start long run)
+  put-all w u v kind-long long-is counted a c =
       let g = whole-text f in
       let n = whole-length f in
       let y : Wrote t₀ (p .text) (f .kind) m₁ start = w .fit (omega arith) in
@@ -68,7 +69,7 @@ module _ (f : Feature) (p : Reached) (t₀ m₁ m₂ t₁ q₀ q₁ : List ℕ) 
       v .fit (omega arith) (subst (λ (m : ℕ). p .qualifier + length (rowsOf qualifierPieces m (f .qualifiers)) < 2 ^ 64) h c) in
       record {
         texts = wrote-as (sym g) (wrote-append (wrote-append y z) (k .texts));
-        row = rw (d, counted) (sym (row-is (p .text) (p .count) f));
+        row = rw (kind-long, d, long-is, counted) (sym (row-is (p .text) (p .count) f));
         qualifiers = subst (λ (m : ℕ). Wrote q₀ (p .qualifier) (rowsOf qualifierPieces m (f .qualifiers)) q₁ (run .row)) (sym h) (k .rows);
       }
 
@@ -96,8 +97,8 @@ module _ (s : List ℕ) (p : Reached) (first end′ location long rest : ℕ) (r
             qualifiers = qualifiersIn s (location - p .at) rest;
           }
 
-      kind-long : length (part first end′ s) ≡ end′ - first
-      kind-long = let a = h .kind in let b = h .gap in let c = h .ahead in let d = h .within in length-part s first end′ (omega arith) (omega arith)
+      kind-long : end′ - first ≡ length (part first end′ s)
+      kind-long = let a = h .kind in let b = h .gap in let c = h .ahead in let d = h .within in sym (length-part s first end′ (omega arith) (omega arith))
 
       go : (o : Ans Unit) → end (fitTurn (qualifier (location - p .at))) (drop rest s) ≡ o
           → RowThen s p
@@ -106,7 +107,7 @@ module _ (s : List ℕ) (p : Reached) (first end′ location long rest : ℕ) (r
           t₀ t₁ q₀ q₁ (madeOf p (end′ - first) start long run)
       go (Got tt z) e =
           record {
-            fit = λ a b. rw (← kind-long, h .sized) (put-all f p t₀ m₁ m₂ t₁ q₀ q₁ start stop run w u (k .put) (k .counted) a b);
+            fit = put-all f p t₀ m₁ m₂ t₁ q₀ q₁ start stop run (end′ - first) long w u (k .put) kind-long (h .sized) (k .counted);
             counted = ap (λ (n : ℕ). p .count + n) (k .counted);
             ended = k .ended z e;
           }

@@ -42,12 +42,11 @@ pub record QualifiersPut (s : List ℕ) (at indent : ℕ) (t₀ : List ℕ) (pla
 
 -- ---- all features of a record, which others put one by one
 
--- the n features fs stand from `at` on, and the places after their texts and rows are ones that a usize can hold
+-- the n features fs stand from `at` on, and the places after their texts and their qualifiers' rows are ones that a usize can hold
 pub record Fits (s : List ℕ) (at n place : ℕ) (fs : List Feature) : Type 0 where
   pub within : at ≤ length s
   pub counted : n ≡ length fs
   pub texts : place + length (each featureText fs) < 2 ^ 64
-  pub features : length (featureRows place 0 fs) < 2 ^ 64
   pub qualifiers : length (qualifierRows place fs) < 2 ^ 64
 
 pub record FeaturesPut (place : ℕ) (fs : List Feature) (t₀ t₁ f₀ f₁ q₀ q₁ : List ℕ) (r : ℕ) : Type 0 where

@@ -76,7 +76,6 @@ module _ (s : List ℕ) (p : Plan) (h : Ready s p) where
         counted = h .stands .rest .middle .read .count;
         texts =
             rw (← parts .features, e) (omega (arith, small .head, small .reference-texts, small .comment-texts, small .feature-texts, h .most));
-        features = rw (← parts .features, e) (omega (arith, lengths .features, small .features, h .most));
         qualifiers = rw (← parts .features, e) (omega (arith, lengths .qualifiers, small .qualifiers, h .most));
       }
 

@@ -47,14 +47,13 @@ none-left : (s : List ℕ) → featuresIn (drop (length s) s) ≡ []
 none-left s = rw (drop-length s) none-of-none
 
 none-fits : (s : List ℕ) → Fits s (length s) 0 0 (featuresIn (drop (length s) s))
-unfolding featureRows qualifierRows
+unfolding qualifierRows
 none-fits s =
     rw (none-left s)
     (record {
       within = omega arith;
       counted = refl;
       texts = omega arith;
-      features = omega arith;
       qualifiers = omega arith;
     })
 
