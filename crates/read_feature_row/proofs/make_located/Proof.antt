@@ -24,7 +24,12 @@ add-t26 : tie.Need-add-t26
 add-t26 c = omega (arith, c .before .before .before .before .before .before .before .before .before .before .before .before .before .before .before .before .before .before .before .before .pre .0 .next)
 
 add-t29 : tie.Need-add-t29
-add-t29 c = omega (arith, c .before .before .before .before .before .before .before .before .before .before .before .before .before .before .before .before .before .before .before .before .before .good, c .before .before .before .before .before .before .before .before .before .before .before .before .before .before .before .before .before .before .before .before .before .fits, count-fits _ _ _ _ _ _ _ (c .before .before .before .before .before .before .before .before .before .before .before .before .before .before .before .before .before .before .before .before .before .pre .0) (c .before .before .before .before .before .before .before .before .before .before .before .before .before .before .before .before .before .before .before .before .before .pre .1) (c .before .before .before .before .before .before .put-qualifiers .ensures))
+add-t29 c =
+    let good = c .before .before .before .before .before .before .before .before .before .before .before .before .before .before .before .before .before .before .before .before .before .good in
+    let fits = c .before .before .before .before .before .before .before .before .before .before .before .before .before .before .before .before .before .before .before .before .before .fits in
+    let pre = c .before .before .before .before .before .before .before .before .before .before .before .before .before .before .before .before .before .before .before .before .before .pre in
+    let put-qualifiers = c .before .before .before .before .before .before .put-qualifiers .ensures in
+    omega (arith, good, fits, count-fits _ _ _ _ _ _ _ (pre .0) (pre .1) put-qualifiers)
 
 same-length : tie.Need-same-length
 same-length c = search needs
@@ -33,7 +38,12 @@ same-length-2 : tie.Need-same-length-2
 same-length-2 c = search needs
 
 returns : tie.Need-returns
-returns c = located-made _ _ _ _ _ _ _ (c .before .before .before .before .before .before .before .before .before .before .before .before .before .before .before .before .before .before .before .before .before .pre .0) (c .before .before .before .before .before .before .before .before .before .before .before .before .before .before .before .before .before .before .before .before .before .pre .1) _ _ _ _ _ _ _ _ _ (c .before .before .before .before .before .before .before .before .before .before .before .before .before .before .before .put-part .ensures) (c .before .before .before .before .before .before .before .before .before .before .before .put-bare .ensures) (c .before .before .before .before .before .before .put-qualifiers .ensures)
+returns c =
+    let pre = c .before .before .before .before .before .before .before .before .before .before .before .before .before .before .before .before .before .before .before .before .before .pre in
+    let put-part = c .before .before .before .before .before .before .before .before .before .before .before .before .before .before .before .put-part .ensures in
+    let put-bare = c .before .before .before .before .before .before .before .before .before .before .before .put-bare .ensures in
+    let put-qualifiers = c .before .before .before .before .before .before .put-qualifiers .ensures in
+    located-made _ _ _ _ _ _ _ (pre .0) (pre .1) _ _ _ _ _ _ _ _ _ put-part put-bare put-qualifiers
 
 pub make-located-spec : {M : Type 1} → statement M
 make-located-spec =
