@@ -1,20 +1,15 @@
--- What a made row is: with its six numbers stored in its place, the feature is put as it would be into flat rooms.
-use Prim.Native.Nat.{ℕ, _+_, _*_, _≤_, _<_, _^_}
+-- What a made row is: its numbers are those that the feature has in flat rooms, and the feature's texts and its qualifiers' rows are put.
+use Prim.Native.Nat.{ℕ, _+_, _≤_, _<_, _^_}
 use mathlib.Core.Path.{_≡_}
-use mathlib.Core.List.{List}
-use lib.ListN.{length}
-use lib.Seq.{sets}
+use mathlib.Core.List.{List, [], _∷_, _++_}
+use lib.ListN.{length, drop}
 use Rattle.spec_format.specs.Table.{Feature}
-use Rattle.spec_format.specs.Readers.{Ans}
-use Rattle.read_feature_texts.specs.Puts.{FeaturePut}
-use Rattle.read_feature_texts.specs.declared.Pens.{Pens}
+use Rattle.spec_format.specs.Readers.{Ans, Got, No, Cut}
+use Rattle.spec_format.specs.Rooms.{piecesText, piecesRow, featurePieces, qualifierPieces, rowsOf, featureText}
+use Rattle.base_pen.specs.Pen.{Wrote}
 use Rattle.base_rows.specs.Rows.{numbers}
 use Rattle.read_feature_row.specs.declared.Reached.{Reached}
 use Rattle.read_feature_row.specs.declared.Made.{Made}
-
--- the same places where rows are flat
-abbrev pub pensAt : Reached → Pens
-pensAt p = record { at = p .at; text = p .text; feature = 6 * p .row; qualifier = p .qualifier; count = p .count }
 
 -- a feature may be asked for
 pub record Ahead (s : List ℕ) (p : Reached) : Type 0 where
@@ -22,7 +17,40 @@ pub record Ahead (s : List ℕ) (p : Reached) : Type 0 where
   pub within : p .at ≤ length s
   pub next : p .row + 1 < 2 ^ 64
 
--- whatever room f₀ has the row's numbers stored
+-- where none starts
+abbrev pub noRow : Reached → Made
+noRow p =
+    record {
+      row = record { kind = record { start = 0; length = 0 }; location = record { start = 0; length = 0 }; first = 0; count = 0 };
+      reached = record { at = p .at; text = p .text; row = p .row + 1; qualifier = p .qualifier; count = p .count };
+    }
+
+-- a feature's row, and the rows of its qualifiers, as they are in flat rooms
+abbrev pub rowOf : ℕ → ℕ → Feature → List ℕ
+rowOf at q f = piecesRow at (featurePieces f) ++ q ∷ length (f .qualifiers) ∷ []
+
+abbrev pub underOf : ℕ → Feature → List ℕ
+underOf at f = rowsOf qualifierPieces (at + length (piecesText (featurePieces f))) (f .qualifiers)
+
+pub record FeatureWrote (p : Reached) (f : Feature) (t₀ t₁ q₀ q₁ : List ℕ) (r : Made) : Type 0 where
+  pub texts : Wrote t₀ (p .text) (featureText f) t₁ (r .reached .text)
+  pub row : numbers (r .row) ≡ rowOf (p .text) (p .count) f
+  pub qualifiers : Wrote q₀ (p .qualifier) (underOf (p .text) f) q₁ (r .reached .qualifier)
+
+-- the feature f was put, where the places after it are ones that a usize can hold, and z is left to be read
+pub record FeatureMade (s : List ℕ) (p : Reached) (f : Feature) (z t₀ t₁ q₀ q₁ : List ℕ) (r : Made) : Type 0 where
+  pub fit :
+      p .text + length (featureText f) < 2 ^ 64 → p .qualifier + length (underOf (p .text) f) < 2 ^ 64 → FeatureWrote p f t₀ t₁ q₀ q₁ r
+  pub counted : r .reached .count ≡ p .count + length (f .qualifiers)
+  pub ended : z ≡ drop (r .reached .at) s
+
+abbrev pub RowThen : List ℕ → Reached → Ans Feature → List ℕ → List ℕ → List ℕ → List ℕ → Made → Type 0
+RowThen s p (Got f z) t₀ t₁ q₀ q₁ r = FeatureMade s p f z t₀ t₁ q₀ q₁ r
+RowThen s p No t₀ t₁ q₀ q₁ r = Unit
+RowThen s p Cut t₀ t₁ q₀ q₁ r = Unit
+
 pub record RowMade (s : List ℕ) (p : Reached) (o : Ans Feature) (t₀ t₁ q₀ q₁ : List ℕ) (r : Made) : Type 0 where
-  pub put : (f₀ : List ℕ) → FeaturePut s (pensAt p) o t₀ t₁ f₀ (sets f₀ (6 * p .row) (numbers (r .row))) q₀ q₁ (pensAt (r .reached))
+  pub there : RowThen s p o t₀ t₁ q₀ q₁ r
   pub next : r .reached .row ≡ p .row + 1
+  pub few : r .reached .count ≤ r .reached .at
+  pub within : r .reached .at ≤ length s

@@ -1,10 +1,15 @@
-// One feature put into lent rooms, but for its row, which is made as a struct, by value: whoever stores it needs no flat numbers.
+// One feature of feature_table.rs put into lent rooms, but for its row, which is made as a struct, by value: whoever stores it needs no flat numbers.
 use base_rows::Feature;
-use read_feature_texts::Pens;
+use read_feature_joined::Value;
+use read_feature_names::Kind;
 use spec_format::Span;
-ghost use Rattle.spec_format.specs.Features.{feature};
-ghost use lib.ListN.{drop};
-ghost use Rattle.read_feature_row.specs.Makes.{Ahead, RowMade};
+ghost use mathlib.Core.Path.{_≡_};
+ghost use Prim.Native.Nat.{_+_, _-_, _≤_, _<_, _^_};
+ghost use lib.ListN.{length, drop};
+ghost use Rattle.spec_format.specs.Features.{featureFrom, feature};
+ghost use Rattle.scan_bytes.specs.Places.{part};
+ghost use Rattle.read_feature_table.specs.Reads.{Located, featureRest};
+ghost use Rattle.read_feature_row.specs.Makes.{noRow, Ahead, RowMade};
 
 // Where reading goes on; where the next text goes; which row is the next; where the next qualifier's row goes; and how many qualifiers were put.
 pub struct Reached {
@@ -20,43 +25,128 @@ pub struct Made {
     pub reached: Reached,
 }
 
-// The feature that starts where reading goes on: its texts and its qualifiers' rows are put, and its own row is made.
-pub fn put_row(s: &[u8], texts: &mut [u8], qualifiers: &mut [usize], reached: Reached) -> Made
-    requires { ⌜ Ahead (now s) reached ⌝ }
-    ensures { λ r. ⌜ RowMade (now (s .entry)) reached (feature (drop (reached .at) (now (s .entry)))) (now (texts .entry)) (now (texts .exit)) (now (qualifiers .entry)) (now (qualifiers .exit)) r ⌝ }
+// Where no feature starts: its row's turn is over all the same.
+fn no_row(reached: Reached) -> Made
+    requires { ⌜ reached .row + 1 < 2 ^ 64 ⌝ }
+    ensures { λ r. ⌜ r ≡ noRow reached ⌝ }
 {
-    let mut six = [0usize; 6];
-    let pens = Pens {
-        at: reached.at,
-        text: reached.text,
-        feature: 0,
-        qualifier: reached.qualifier,
-        count: reached.count,
-    };
-    let after = read_feature_texts::put_feature(s, texts, &mut six, qualifiers, pens);
-    let kind = Span {
-        start: six[0],
-        length: six[1],
-    };
-    let location = Span {
-        start: six[2],
-        length: six[3],
+    let none = Span {
+        start: 0,
+        length: 0,
     };
     let row = Feature {
-        kind: kind,
-        location: location,
-        first: six[4],
-        count: six[5],
+        kind: none,
+        location: none,
+        first: 0,
+        count: 0,
     };
     let next = Reached {
-        at: after.at,
-        text: after.text,
+        at: reached.at,
+        text: reached.text,
         row: reached.row + 1,
-        qualifier: after.qualifier,
-        count: after.count,
+        qualifier: reached.qualifier,
+        count: reached.count,
     };
     Made {
         row: row,
         reached: next,
+    }
+}
+
+// A feature whose kind and location are scanned.
+fn make_located(
+    s: &[u8],
+    first: usize,
+    end: usize,
+    location: usize,
+    long: usize,
+    rest: usize,
+    texts: &mut [u8],
+    qualifiers: &mut [usize],
+    reached: Reached,
+) -> Made
+    requires { ⌜ Ahead (now s) reached × Located (now s) (reached .at) first end location long rest ⌝ }
+    ensures { λ r. ⌜ RowMade (now (s .entry)) reached (featureRest (now (s .entry)) (reached .at) first end location rest) (now (texts .entry)) (now (texts .exit)) (now (qualifiers .entry)) (now (qualifiers .exit)) r ⌝ }
+{
+    let indent = location - reached.at;
+    let place = reached.text;
+    let start = base_pen::put_part(texts, place, s, first, end);
+    let stop = read_feature_bare::put_bare(s, location, indent, texts, start);
+    let run = read_feature_texts::put_qualifiers(
+        s,
+        rest,
+        indent,
+        texts,
+        stop,
+        qualifiers,
+        reached.qualifier,
+    );
+    let count = run.count;
+    let row = Feature {
+        kind: Span {
+            start: place,
+            length: end - first,
+        },
+        location: Span {
+            start: start,
+            length: long,
+        },
+        first: reached.count,
+        count: count,
+    };
+    let next = Reached {
+        at: run.next,
+        text: run.text,
+        row: reached.row + 1,
+        qualifier: run.row,
+        count: reached.count + count,
+    };
+    Made {
+        row: row,
+        reached: next,
+    }
+}
+
+// A feature whose kind is scanned.
+fn make_kinded(
+    s: &[u8],
+    first: usize,
+    end: usize,
+    location: usize,
+    texts: &mut [u8],
+    qualifiers: &mut [usize],
+    reached: Reached,
+) -> Made
+    requires { ⌜ Ahead (now s) reached × (reached .at < first) × (first < end) × (end < location) × (location ≤ length (now s)) ⌝ }
+    ensures { λ r. ⌜ RowMade (now (s .entry)) reached (featureFrom (location - reached .at) (part first end (now (s .entry))) (drop location (now (s .entry)))) (now (texts .entry)) (now (texts .exit)) (now (qualifiers .entry)) (now (qualifiers .exit)) r ⌝ }
+{
+    match read_feature_bare::location_at(s, location, location - reached.at) {
+        Value::Got { length, next } => make_located(
+            s,
+            first,
+            end,
+            location,
+            length,
+            next,
+            texts,
+            qualifiers,
+            reached,
+        ),
+        Value::No => no_row(reached),
+        Value::Cut => no_row(reached),
+    }
+}
+
+// The feature that starts where reading goes on: its texts and its qualifiers' rows are put, and its own row is made. No word of the rooms where none starts there.
+pub fn make_row(s: &[u8], texts: &mut [u8], qualifiers: &mut [usize], reached: Reached) -> Made
+    requires { ⌜ Ahead (now s) reached ⌝ }
+    ensures { λ r. ⌜ RowMade (now (s .entry)) reached (feature (drop (reached .at) (now (s .entry)))) (now (texts .entry)) (now (texts .exit)) (now (qualifiers .entry)) (now (qualifiers .exit)) r ⌝ }
+{
+    match read_feature_names::kind_at(s, reached.at) {
+        Kind::Got { first, end, next } => {
+            make_kinded(s, first, end, next, texts, qualifiers, reached)
+        }
+        Kind::No => no_row(reached),
+        Kind::Cut => no_row(reached),
     }
 }

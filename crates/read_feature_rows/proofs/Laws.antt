@@ -1,46 +1,154 @@
--- The loop over rows: it goes as the loop over flat rows does, with `flat rows` for the features' room.
+-- The loop over features: what was put and what is still to be put are the whole. The rows' room is told by its flat numbers.
 use Prim.Native.Nat.{ℕ, _+_, _-_, _*_, _≤_, _<_, _^_}
 use native.Mathlib.Omega.{arith}
-use mathlib.Core.Path.{_≡_, sym, subst}
-use mathlib.Core.List.{List}
+use mathlib.Core.Path.{_≡_, refl, sym, ap, subst, _∙_}
+use mathlib.Core.List.{List, [], _∷_, _++_}
 use lib.ListN.{length, drop, set}
-use lib.Seq.{sets, length-sets}
+use Rattle.spec_format.specs.Bytes.{each}
+use Rattle.spec_format.specs.Table as table
+use Rattle.spec_format.specs.Readers.{Ans, Got, No, Cut}
 use Rattle.spec_format.specs.Features.{feature}
+use Rattle.spec_format.specs.Rooms.{piecesRow, featureText, featureRows, qualifierRows}
+use Rattle.spec_loops.specs.Loops.{try-members-more, try-members-no, try-members-cut}
+use Rattle.spec_loops.specs.Shrinks.{feature-small}
+use Rattle.base_pen.specs.Pen.{Wrote}
+use Rattle.base_pen.specs.Filling.{Filling, filling-start, filling-as, filling-step, filling-end, filling-bound}
+use Rattle.base_rows.specs.declared.Feature.{Feature}
+use Rattle.base_rows.specs.Rows.{flat}
+use Rattle.base_rows.specs.Flat.{flat-set}
 use Rattle.read_feature_table.specs.Reads.{featuresIn}
 use Rattle.read_feature_texts.specs.Puts.{Fits, FeaturesPut}
-use Rattle.read_feature_texts.proofs.Features.{Going, going-none, going-on, going-done}
-use Rattle.base_rows.specs.declared.Feature.{Feature}
-use Rattle.base_rows.specs.Rows.{numbers, flat}
-use Rattle.base_rows.specs.Flat.{flat-set}
 use Rattle.read_feature_row.specs.declared.Reached.{Reached}
 use Rattle.read_feature_row.specs.declared.Made.{Made}
-use Rattle.read_feature_row.specs.Makes.{pensAt, Ahead, RowMade}
+use Rattle.read_feature_row.specs.Makes.{rowOf, underOf, Ahead, FeatureMade, RowThen, RowMade}
+
+-- ---- the rows of the first feature, and those of the others
+
+rows-more : (at q : ℕ) (f : table.Feature) (fs : List table.Feature)
+    → featureRows at q (f ∷ fs) ≡ rowOf at q f ++ featureRows (at + length (featureText f)) (q + length (f .qualifiers)) fs
+unfolding featureRows
+rows-more at q f fs = refl
+
+under-more : (at : ℕ) (f : table.Feature) (fs : List table.Feature) → qualifierRows at (f ∷ fs) ≡ underOf at f ++ qualifierRows (at + length (featureText f)) fs
+unfolding qualifierRows
+under-more at f fs = refl
+
+rows-none : (at q : ℕ) → featureRows at q [] ≡ []
+unfolding featureRows
+rows-none at q = refl
+
+under-none : (at : ℕ) → qualifierRows at [] ≡ []
+unfolding qualifierRows
+under-none at = refl
+
+row-long : (at q : ℕ) (f : table.Feature) → length (rowOf at q f) ≡ 6
+unfolding piecesRow
+row-long at q f = refl
+
+no-more : (fs : List table.Feature) → length fs ≡ 0 → fs ≡ []
+no-more [] e = refl
+no-more (f ∷ fs) e = absurd (omega arith)
+
+-- ---- three rooms that are being filled
+
+-- the features fs are still to be put, of all
+pub record ThreeFilling (place : ℕ) (all : List table.Feature) (t₀ : List ℕ) (l₀ : List Feature) (q₀ t : List ℕ) (l : List Feature) (q : List ℕ) (p : Reached) (fs : List table.Feature) : Type 0 where
+  pub texts : Filling t₀ place (each featureText all) t (p .text) (each featureText fs)
+  pub rows : Filling (flat l₀) 0 (featureRows place 0 all) (flat l) (6 * p .row) (featureRows (p .text) (p .count) fs)
+  pub qualifiers : Filling q₀ 0 (qualifierRows place all) q (p .qualifier) (qualifierRows (p .text) fs)
+
+module _ {place : ℕ} {all : List table.Feature} {t₀ : List ℕ} {l₀ : List Feature} {q₀ : List ℕ} (a : place + length (each featureText all) < 2 ^ 64) (b : length (qualifierRows place all) < 2 ^ 64)
+    {t : List ℕ} {l : List Feature} {q : List ℕ} {p : Reached} (x : table.Feature) (fs : List table.Feature) {z s t′ q′ : List ℕ} {m : Made} where
+  three-step : ThreeFilling place all t₀ l₀ q₀ t l q p (x ∷ fs) → FeatureMade s p x z t t′ q q′ m → m .reached .row ≡ p .row + 1
+      → ThreeFilling place all t₀ l₀ q₀ t′ (set l (p .row) (m .row)) q′ (m .reached) fs
+  three-step h w n =
+      let g = filling-as (rows-more (p .text) (p .count) x fs) (h .rows) in
+      let k = filling-as (under-more (p .text) x fs) (h .qualifiers) in
+      let v = w .fit (filling-bound (featureText x) (each featureText fs) (h .texts) a) (filling-bound (underOf (p .text) x) _ k (omega arith)) in
+      let d : p .text + length (featureText x) ≡ m .reached .text = sym (v .texts .to) in
+      let c : p .count + length (x .qualifiers) ≡ m .reached .count = sym (w .counted) in
+      let r : Wrote (flat l) (6 * p .row) (rowOf (p .text) (p .count) x) (flat (set l (p .row) (m .row))) (6 * m .reached .row) =
+      record { is = rw (← v .row) (flat-set l (p .row) (m .row)); to = omega (arith, n, row-long (p .text) (p .count) x) } in
+      record {
+        texts = filling-step (h .texts) (v .texts);
+        rows = rw (← d, ← c) (filling-step g r);
+        qualifiers = rw (← d) (filling-step k (v .qualifiers));
+      }
+
+-- ---- the loop
 
 abbrev pub reachedFrom : ℕ → ℕ → Reached
 reachedFrom at place = record { at = at; text = place; row = 0; qualifier = 0; count = 0 }
 
 -- the features up to p's row are put, of n from `at` on
-abbrev pub Storing : List ℕ → ℕ → ℕ → ℕ → List ℕ → List Feature → List ℕ → List ℕ → List Feature → List ℕ → Reached → Type 0
-Storing s at n place t₀ rs q₀ t l q p = Going s at n place t₀ (flat rs) q₀ t (flat l) q (pensAt p) (p .row)
+pub record Storing (s : List ℕ) (at n place : ℕ) (t₀ : List ℕ) (l₀ : List Feature) (q₀ t : List ℕ) (l : List Feature) (q : List ℕ) (p : Reached) : Type 0 where
+  pub within : p .at ≤ length s
+  pub few : p .count ≤ p .at
+  pub texts-long : length t ≡ length t₀
+  pub qualifiers-long : length q ≡ length q₀
+  pub left : n ≡ p .row + length (featuresIn (drop (p .at) s))
+  pub three : ThreeFilling place (featuresIn (drop at s)) t₀ l₀ q₀ t l q p (featuresIn (drop (p .at) s))
 
-module _ (s : List ℕ) (at n place : ℕ) (t₀ : List ℕ) (rs : List Feature) (q₀ : List ℕ) (h : Fits s at n place (featuresIn (drop at s))) where
-  pub storing-none : Storing s at n place t₀ rs q₀ t₀ rs q₀ (reachedFrom at place)
-  storing-none = going-none s at n place t₀ (flat rs) q₀ h
+module _ (s : List ℕ) (at n place : ℕ) (t₀ : List ℕ) (l₀ : List Feature) (q₀ : List ℕ) (h : Fits s at n place (featuresIn (drop at s))) where
+  pub storing-none : Storing s at n place t₀ l₀ q₀ t₀ l₀ q₀ (reachedFrom at place)
+  storing-none =
+      let e = h .counted in
+      record {
+        within = h .within;
+        few = omega arith;
+        texts-long = refl;
+        qualifiers-long = refl;
+        left = omega arith;
+        three = record { texts = filling-start; rows = filling-start; qualifiers = filling-start };
+      }
 
-  module _ (t : List ℕ) (l : List Feature) (q : List ℕ) (p : Reached) (g : Storing s at n place t₀ rs q₀ t l q p) where
+  module _ (t : List ℕ) (l : List Feature) (q : List ℕ) (p : Reached) (g : Storing s at n place t₀ l₀ q₀ t l q p) where
     pub storing-ahead : p .row < n → n < 2 ^ 64 → Ahead s p
     storing-ahead less m = record { few = g .few; within = g .within; next = omega arith }
 
     pub storing-on : (t′ q′ : List ℕ) (m : Made) → p .row < n → RowMade s p (feature (drop (p .at) s)) t t′ q q′ m →
-        length t′ ≡ length t → length q′ ≡ length q → Storing s at n place t₀ rs q₀ t′ (set l (p .row) (m .row)) q′ (m .reached)
+        length t′ ≡ length t → length q′ ≡ length q → Storing s at n place t₀ l₀ q₀ t′ (set l (p .row) (m .row)) q′ (m .reached)
     storing-on t′ q′ m less w a b =
-        subst (λ (k : ℕ). Going s at n place t₀ (flat rs) q₀ t′ (flat (set l (p .row) (m .row))) q′ (pensAt (m .reached)) k) (sym (w .next))
-        (rw (flat-set l (p .row) (m .row))
-        (going-on s at n place t₀ (flat rs) q₀ h t (flat l) q (pensAt p) (p .row) g t′ (sets (flat l) (6 * p .row) (numbers (m .row))) q′ (pensAt (m .reached)) less
-        (w .put (flat l)) a (length-sets (flat l) (6 * p .row) (numbers (m .row))) b))
+        let d = turn (feature (drop (p .at) s)) refl (w .there) in
+        record {
+          within = w .within;
+          few = w .few;
+          texts-long = a ∙ g .texts-long;
+          qualifiers-long = b ∙ g .qualifiers-long;
+          left = d .0;
+          three = d .1;
+        }
+      where
+        none : featuresIn (drop (p .at) s) ≡ [] → ⊥
+        none e = let u : length (featuresIn (drop (p .at) s)) ≡ 0 = ap length e in let v = g .left in omega arith
 
-    pub storing-all : n ≤ p .row → FeaturesPut place (featuresIn (drop at s)) t₀ t (flat rs) (flat l) q₀ q (p .text)
-    storing-all over = going-done s at n place t₀ (flat rs) q₀ h t (flat l) q (pensAt p) (p .row) g over
+        turn : (o : Ans table.Feature) → feature (drop (p .at) s) ≡ o → RowThen s p o t t′ q q′ m
+            → (n ≡ m .reached .row + length (featuresIn (drop (m .reached .at) s)))
+            × ThreeFilling place (featuresIn (drop at s)) t₀ l₀ q₀ t′ (set l (p .row) (m .row)) q′ (m .reached) (featuresIn (drop (m .reached .at) s))
+        turn (Got x z) e v =
+            let fs : List table.Feature = featuresIn (drop (m .reached .at) s) in
+            let k : featuresIn (drop (p .at) s) ≡ x ∷ fs =
+            try-members-more feature feature-small (drop (p .at) s) x z e ∙ ap (λ (r : List ℕ). x ∷ featuresIn r) (v .ended) in
+            let u : length (featuresIn (drop (p .at) s)) ≡ length (x ∷ fs) = ap length k in
+            let j = g .left in let i = w .next in (
+              omega arith,
+              three-step (h .texts) (h .qualifiers) x fs
+                  (subst (λ (r : List table.Feature). ThreeFilling place (featuresIn (drop at s)) t₀ l₀ q₀ t l q p r) k (g .three)) v i,
+            )
+        turn No e v = absurd (none (try-members-no feature (drop (p .at) s) e))
+        turn Cut e v = absurd (none (try-members-cut feature (drop (p .at) s) e))
+
+    pub storing-all : n ≤ p .row → FeaturesPut place (featuresIn (drop at s)) t₀ t (flat l₀) (flat l) q₀ q (p .text)
+    storing-all over =
+        let j = g .left in
+        let m : featuresIn (drop (p .at) s) ≡ [] = no-more (featuresIn (drop (p .at) s)) (omega arith) in
+        let d : ThreeFilling place (featuresIn (drop at s)) t₀ l₀ q₀ t l q p [] =
+        subst (λ (r : List table.Feature). ThreeFilling place (featuresIn (drop at s)) t₀ l₀ q₀ t l q p r) m (g .three) in
+        record {
+          texts = filling-end (d .texts);
+          features = filling-end (filling-as (rows-none (p .text) (p .count)) (d .rows)) .is;
+          qualifiers = filling-end (filling-as (under-none (p .text)) (d .qualifiers)) .is;
+        }
 
 -- a turn brings the end nearer
 pub nearer : (n k j : ℕ) → j ≡ k + 1 → k < n → n - j < n - k

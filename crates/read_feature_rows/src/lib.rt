@@ -1,4 +1,4 @@
-// Features put into lent rooms as `read_feature_texts::put_features` does, but with their own rows as structs.
+// The features of a record put into lent rooms, one after the other, with their own rows as structs.
 use base_rows::Feature;
 use read_feature_row::Reached;
 ghost use lib.ListN.{drop};
@@ -27,7 +27,7 @@ pub fn store_rows(
         count: 0,
     };
     while reached.row < n {
-        let made = read_feature_row::put_row(s, texts, qualifiers, reached);
+        let made = read_feature_row::make_row(s, texts, qualifiers, reached);
         base_rows::store_row(rows, reached.row, made.row);
         reached = made.reached;
     }

@@ -1,3 +1,2 @@
 -- The laws that the proofs cite.
-pub mod Qualifiers
-pub mod Features
+mod Qualifiers

@@ -2,20 +2,19 @@
 use Prim.Native.Nat.{ℕ, _+_, _≤_, _<_, _^_}
 use mathlib.Core.Path.{_≡_}
 use mathlib.Core.Bool.{Bool}
-use mathlib.Core.List.{List, [], _∷_, _++_}
+use mathlib.Core.List.{List}
 use lib.ListN.{length, drop}
 use lib.Seq.{sets}
 use Rattle.spec_format.specs.Bytes.{each}
 use Rattle.spec_format.specs.Table.{Feature}
-use Rattle.spec_format.specs.Readers.{Ans, Got, No, Cut, fitTurn, end}
+use Rattle.spec_format.specs.Readers.{Got, fitTurn, end}
 use Rattle.spec_format.specs.Features.{qualifier}
-use Rattle.spec_format.specs.Rooms.{piecesText, piecesRow, featurePieces, qualifierPieces, textsOf, rowsOf, featureText, featureRows, qualifierRows}
+use Rattle.spec_format.specs.Rooms.{qualifierPieces, textsOf, rowsOf, featureText, featureRows, qualifierRows}
 use Rattle.base_pen.specs.Pen.{Wrote}
 use Rattle.read_feature_qualifiers.specs.Reads.{ValueStands}
 use Rattle.read_feature_qualifiers.specs.Turns.{qualifiersIn}
 use Rattle.read_feature_qualifiers.specs.declared.ValueAt.{ValueAt}
 use Rattle.read_feature_texts.specs.declared.Run.{Run}
-use Rattle.read_feature_texts.specs.declared.Pens.{Pens}
 
 -- ---- qualifiers
 
@@ -41,47 +40,13 @@ pub record QualifiersPut (s : List ℕ) (at indent : ℕ) (t₀ : List ℕ) (pla
   pub few : r .count + at ≤ r .next
   pub within : r .next ≤ length s
 
--- ---- features
+-- ---- all features of a record, which others put one by one
 
-pub record WroteThree (text rows under t₀ t₁ f₀ f₁ q₀ q₁ : List ℕ) (p r : Pens) : Type 0 where
-  pub texts : Wrote t₀ (p .text) text t₁ (r .text)
-  pub features : Wrote f₀ (p .feature) rows f₁ (r .feature)
-  pub qualifiers : Wrote q₀ (p .qualifier) under q₁ (r .qualifier)
-
-pub record PutThree (text rows under t₀ t₁ f₀ f₁ q₀ q₁ : List ℕ) (p r : Pens) : Type 0 where
-  pub fit :
-      p .text + length text < 2 ^ 64 → p .feature + length rows < 2 ^ 64 → p .qualifier + length under < 2 ^ 64 →
-      WroteThree text rows under t₀ t₁ f₀ f₁ q₀ q₁ p r
-
--- a feature's row, and the rows of its qualifiers
-abbrev pub rowOf : ℕ → ℕ → Feature → List ℕ
-rowOf at q f = piecesRow at (featurePieces f) ++ q ∷ length (f .qualifiers) ∷ []
-
-abbrev pub underOf : ℕ → Feature → List ℕ
-underOf at f = rowsOf qualifierPieces (at + length (piecesText (featurePieces f))) (f .qualifiers)
-
--- the feature f was put, and z is left to be read
-pub record FeatureThere (s : List ℕ) (p : Pens) (f : Feature) (z t₀ t₁ f₀ f₁ q₀ q₁ : List ℕ) (r : Pens) : Type 0 where
-  pub put : PutThree (featureText f) (rowOf (p .text) (p .count) f) (underOf (p .text) f) t₀ t₁ f₀ f₁ q₀ q₁ p r
-  pub counted : r .count ≡ p .count + length (f .qualifiers)
-  pub ended : z ≡ drop (r .at) s
-
-abbrev pub FeatureThen : List ℕ → Pens → Ans Feature → List ℕ → List ℕ → List ℕ → List ℕ → List ℕ → List ℕ → Pens → Type 0
-FeatureThen s p (Got f z) t₀ t₁ f₀ f₁ q₀ q₁ r = FeatureThere s p f z t₀ t₁ f₀ f₁ q₀ q₁ r
-FeatureThen s p No t₀ t₁ f₀ f₁ q₀ q₁ r = Unit
-FeatureThen s p Cut t₀ t₁ f₀ f₁ q₀ q₁ r = Unit
-
-pub record FeaturePut (s : List ℕ) (p : Pens) (o : Ans Feature) (t₀ t₁ f₀ f₁ q₀ q₁ : List ℕ) (r : Pens) : Type 0 where
-  pub there : FeatureThen s p o t₀ t₁ f₀ f₁ q₀ q₁ r
-  pub few : r .count ≤ r .at
-  pub within : r .at ≤ length s
-
--- the n features fs stand from `at` on, and the places after their texts and rows are ones that a usize can hold
+-- the n features fs stand from `at` on, and the places after their texts and their qualifiers' rows are ones that a usize can hold
 pub record Fits (s : List ℕ) (at n place : ℕ) (fs : List Feature) : Type 0 where
   pub within : at ≤ length s
   pub counted : n ≡ length fs
   pub texts : place + length (each featureText fs) < 2 ^ 64
-  pub features : length (featureRows place 0 fs) < 2 ^ 64
   pub qualifiers : length (qualifierRows place fs) < 2 ^ 64
 
 pub record FeaturesPut (place : ℕ) (fs : List Feature) (t₀ t₁ f₀ f₁ q₀ q₁ : List ℕ) (r : ℕ) : Type 0 where

@@ -1,19 +1,17 @@
--- The laws of the puts: what each asks for, and that together they leave the table's layout.
-use Prim.Native.Nat.{ℕ, suc, _+_, _≤_, _<_, _^_}
-use native.Mathlib.Nat.{add-zero, add-suc, suc-add}
+-- The laws of the puts: what each asks for, and that together they leave the table's layout but for its features.
+use Prim.Native.Nat.{ℕ, _+_, _≤_, _<_, _^_}
 use native.Mathlib.Omega.{arith}
 use mathlib.Core.Bool.{false}
-use mathlib.Core.Path.{_≡_, refl, sym, ap, subst, _∙_}
-use mathlib.Core.List.{List, [], _∷_, _++_, append-assoc}
-use lib.ListN.{length, drop, set, length-append}
-use lib.Seq.{sets, set-comm}
-use Rattle.spec_format.specs.Bytes.{is, bytes, each}
-use Rattle.spec_format.specs.Table.{Table}
+use mathlib.Core.Path.{_≡_, ap, subst, _∙_}
+use mathlib.Core.List.{List}
+use lib.ListN.{length, drop}
+use lib.Seq.{sets}
+use Rattle.spec_format.specs.Bytes.{is, bytes}
 use Rattle.spec_format.specs.Header.{fieldText, every, textIn, referenceIn}
 use Rattle.spec_format.specs.Record.{most}
-use Rattle.spec_format.specs.Rooms.{perhaps, pieceText, piecesText, headPieces, referencePieces, commentPieces, textsOf, rowsOf, featureText, referencesAt, commentsAt, featuresAt, contigAt, layout, sizes, roomsIn}
+use Rattle.spec_format.specs.Rooms.{perhaps, pieceText, piecesText, headPieces, referencePieces, commentPieces, textsOf, rowsOf, referencesAt, commentsAt, featuresAt, contigAt, layout, sizes}
 use Rattle.spec_rooms.specs.LayoutLengths.{Lengths, layout-lengths}
-use Rattle.base_pen.specs.Pen.{Wrote, Writes, writes-nil, sets-append, wrote-append}
+use Rattle.base_pen.specs.Pen.{Wrote, Writes, writes-nil, wrote-append}
 use Rattle.base_pen.specs.Filling.{wrote-as}
 use Rattle.read_letters.specs.Runs.{sifted}
 use Rattle.read_field_entry.specs.declared.Entry.{Entry}
@@ -22,17 +20,15 @@ use Rattle.read_field_optional.specs.declared.MayEntry.{MayEntry}
 use Rattle.read_field_optional.specs.declared.MayEntry.the-variants as may
 use Rattle.read_field_optional.specs.Fields.{Stands, MayStand}
 use Rattle.read_field_all.specs.Gathered.{fieldsAt}
-use Rattle.read_feature_table.specs.Reads.{featuresIn}
 use Rattle.read_record_middle.specs.Middles.{contigIn}
 use Rattle.read_record_head.specs.Texts.{headText, HeadGets}
 use Rattle.read_record_head.specs.Stands.{HeadStands, head-gets, head-text, text-small}
 use Rattle.read_field_rows.specs.Puts.{Laid}
-use Rattle.read_feature_texts.specs.Puts.{Fits, FeaturesPut}
 use Rattle.read_record_plan.specs.declared.Plan.{Plan}
-use Rattle.read_record_plan.specs.Plans.{planTable}
+use Rattle.read_record_plan.specs.Plans.{planTable, Ready}
 use Rattle.read_record_plan.specs.Parts.{TableParts, table-parts, SmallParts, small-parts}
-use Rattle.read_record_frame.specs.Heads.{plan-head}
-use Rattle.read_record_frame.specs.Fills.{ContigStands, Ready, headerText, HeaderFilled, AroundFilled, Filled}
+use Rattle.read_record_sizes.specs.Heads.{plan-head}
+use Rattle.read_record_frame.specs.Fills.{ContigStands, header-long, HeaderFilled, AroundFilled}
 
 -- ---- CONTIG
 
@@ -55,36 +51,6 @@ module _ (s : List ℕ) (contig : MayEntry) (h : ContigStands s contig) where
     contig-put l m place r w = rw e w
 
 pub ruleset joining = (contig-absent, contig-within, contig-gets, contig-put)
-
--- ---- the store's texts, where a gap is filled last
-
-set-before : (y l : List ℕ) (i j a : ℕ) → i < j → set (sets l j y) i a ≡ sets (set l i a) j y
-set-before [] l i j a h = refl
-set-before (b ∷ y) l i j a h =
-    set-before y (set l j b) i (suc j) a (omega arith) ∙ ap (λ (m : List ℕ). sets m (suc j) y) (set-comm l j i b a (λ e. omega arith))
-
--- x before a y that is there already
-sets-before : (x y l : List ℕ) (i : ℕ) → sets (sets l (i + length x) y) i x ≡ sets l i (x ++ y)
-sets-before [] y l i = rw (add-zero i)
-sets-before (a ∷ x) y l i =
-    ap (λ (m : List ℕ). sets m (suc i) x) (set-before y l i (i + suc (length x)) a (omega arith)) ∙
-    rw (add-suc i (length x), ← (suc-add i (length x))) (sets-before x y (set l i a) (suc i))
-
-header-long : (t : Table) → 0 + length (headerText t) ≡ featuresAt t
-header-long t =
-    let H : List ℕ = piecesText (headPieces t) in
-    let R : List ℕ = textsOf referencePieces (t .references) in
-    let C : List ℕ = textsOf commentPieces (t .comments) in
-    omega (arith, length-append H R, length-append (H ++ R) C)
-
-gap-filled : (t : Table) (t₀ t₁ t₂ : List ℕ) → t₁ ≡ sets (sets t₀ 0 (headerText t)) (contigAt t) (pieceText (perhaps (t .contig))) →
-    t₂ ≡ sets t₁ (featuresAt t) (each featureText (t .features)) → t₂ ≡ sets t₀ 0 (layout t .texts)
-unfolding layout
-gap-filled t t₀ t₁ t₂ e f =
-    let F : List ℕ = each featureText (t .features) in
-    let C : List ℕ = pieceText (perhaps (t .contig)) in
-    f ∙ ap (λ (l : List ℕ). sets l (featuresAt t) F) e ∙ sets-before F C (sets t₀ 0 (headerText t)) (featuresAt t) ∙
-    rw (← header-long t, sets-append (headerText t) (F ++ C) t₀ 0) (ap (sets t₀ 0) (sym (append-assoc (headerText t) F C)))
 
 -- ---- LOCUS and the header
 
@@ -156,25 +122,10 @@ module _ (s : List ℕ) (p : Plan) (h : Ready s p) where
             comments = k .rows;
           }
 
-  -- ---- features and CONTIG
-
-  pub features-fit : (place : ℕ) → place ≡ featuresAt (planTable s p) →
-      Fits s (p .rest .«features_at») (p .rest .features .count) place (featuresIn (drop (p .rest .«features_at») s))
-  unfolding layout sizes
-  features-fit place e =
-      record {
-        within = h .stands .rest .middle .tabled;
-        counted = h .stands .rest .middle .read .count;
-        texts =
-            rw (← parts .features, e) (omega (arith, small .head, small .reference-texts, small .comment-texts, small .feature-texts, h .most));
-        features = rw (← parts .features, e) (omega (arith, lengths .features, small .features, h .most));
-        qualifiers = rw (← parts .features, e) (omega (arith, lengths .qualifiers, small .qualifiers, h .most));
-      }
+  -- ---- all but the features
 
   pub contig-ready : ContigStands s (p .rest .contig)
   contig-ready = record { stands = h .stands .rest .middle .contig }
-
-  -- ---- all but the features
 
   module _ (t₀ t₁ r₀ r₁ c₀ c₁ : List ℕ) (a : ℕ) (x : HeaderFilled (planTable s p) t₀ t₁ r₀ r₁ c₀ c₁ a) where
     third-place : a ≡ featuresAt (planTable s p)
@@ -202,23 +153,4 @@ module _ (s : List ℕ) (p : Plan) (h : Ready s p) where
           letters = m .is;
         }
 
-  -- ---- all of it
-
-  pub all-filled : (t₀ t₁ t₂ r₀ r₁ c₀ c₁ f₀ f₁ q₀ q₁ l₀ l₁ : List ℕ) (a z : ℕ) → AroundFilled (planTable s p) t₀ t₁ r₀ r₁ c₀ c₁ l₀ l₁ a →
-      FeaturesPut a (featuresIn (drop (p .rest .«features_at») s)) t₁ t₂ f₀ f₁ q₀ q₁ z →
-      Filled (planTable s p) (roomsIn t₀ r₀ c₀ f₀ q₀ l₀) (roomsIn t₂ r₁ c₁ f₁ q₁ l₁)
-  unfolding layout
-  all-filled t₀ t₁ t₂ r₀ r₁ c₀ c₁ f₀ f₁ q₀ q₁ l₀ l₁ a z x y =
-      let k : FeaturesPut (featuresAt (planTable s p)) (planTable s p .features) t₁ t₂ f₀ f₁ q₀ q₁ z = rw (parts .features, ← x .gap) y in
-      record {
-        texts = gap-filled (planTable s p) t₀ t₁ t₂ (x .texts) (k .texts .is);
-        references = x .references;
-        comments = x .comments;
-        features = k .features;
-        qualifiers = k .qualifiers;
-        letters = x .letters;
-      }
-
 pub ruleset around = (contig-ready, letters-within, gap-bound, around-filled)
-
-pub ruleset filling = (features-fit, all-filled)

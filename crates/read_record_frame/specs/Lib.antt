@@ -1,3 +1,2 @@
--- The definitions that the contracts cite, and the head of a plan's table.
+-- The definitions that the contracts cite.
 pub mod Fills
-pub mod Heads

@@ -1,11 +1,11 @@
-// A record whose places and counts are known, put into the lent rooms: texts, rows and letters, each in the table's own order.
+// All of a planned record but its features, put into the lent rooms: texts, rows and letters, each in the table's own order.
 use read_field_optional::MayEntry;
 use read_record_plan::Plan;
-ghost use Rattle.spec_format.specs.Rooms.{perhaps, pieceText, roomsIn};
+ghost use Rattle.spec_format.specs.Rooms.{perhaps, pieceText};
 ghost use Rattle.base_pen.specs.Pen.{Writes};
 ghost use Rattle.read_record_middle.specs.Middles.{contigIn};
-ghost use Rattle.read_record_plan.specs.Plans.{planTable};
-ghost use Rattle.read_record_frame.specs.Fills.{ContigStands, Ready, HeaderFilled, AroundFilled, Filled};
+ghost use Rattle.read_record_plan.specs.Plans.{planTable, Ready};
+ghost use Rattle.read_record_frame.specs.Fills.{ContigStands, HeaderFilled, AroundFilled};
 
 // CONTIG's text, where there is one.
 fn put_contig(s: &[u8], contig: MayEntry, texts: &mut [u8], place: usize) -> usize
@@ -61,26 +61,4 @@ pub fn fill_around(
     put_contig(s, contig, texts, place + counts.bytes);
     read_letters::put_letters(s, at, letters, 0);
     place
-}
-
-// The whole record.
-pub fn fill(
-    s: &[u8],
-    plan: Plan,
-    texts: &mut [u8],
-    references: &mut [usize],
-    comments: &mut [usize],
-    features: &mut [usize],
-    qualifiers: &mut [usize],
-    letters: &mut [u8],
-)
-    requires { ⌜ Ready (now s) plan ⌝ }
-    ensures { λ r. ⌜ Filled (planTable (now (s .entry)) plan) (roomsIn (now (texts .entry)) (now (references .entry)) (now (comments .entry)) (now (features .entry)) (now (qualifiers .entry)) (now (letters .entry))) (roomsIn (now (texts .exit)) (now (references .exit)) (now (comments .exit)) (now (features .exit)) (now (qualifiers .exit)) (now (letters .exit))) ⌝ }
-{
-    let rest = plan.rest;
-    let at = rest.features_at;
-    let counts = rest.features;
-    let n = counts.count;
-    let place = fill_around(s, plan, texts, references, comments, letters);
-    read_feature_texts::put_features(s, at, n, texts, place, features, qualifiers);
 }

@@ -6,7 +6,7 @@ use lib.ListN.{length, drop}
 use Rattle.spec_format.specs.Readers.{whileFits}
 use Rattle.spec_format.specs.Table.{Locus, Table}
 use Rattle.spec_format.specs.Header.{Field, headerField}
-use Rattle.spec_format.specs.Record.{Outcome, Read, Not, withLetters, middle, tableFrom, afterHeader, header}
+use Rattle.spec_format.specs.Record.{Outcome, Read, Not, most, withLetters, middle, tableFrom, afterHeader, header}
 use Rattle.spec_format.specs.Rooms.{mayLength}
 use Rattle.spec_format.specs.declared.Length.{Length}
 use Rattle.spec_format.specs.declared.Length.the-variants as bases
@@ -69,6 +69,11 @@ pub record PlanStands (s : List ℕ) (p : Plan) : Type 0 where
   pub headed : p .«header_at» ≤ length s
   pub header : Gathered s (p .«header_at») (fieldsAt (drop (p .«header_at») s)) (p .header)
   pub rest : RestStands s (p .rest)
+
+-- the plan of a record in a slice that may be read
+pub record Ready (s : List ℕ) (p : Plan) : Type 0 where
+  pub stands : PlanStands s p
+  pub most : length s ≤ most
 
 pub record PlanIs (s : List ℕ) (o : Outcome) (p : Plan) : Type 0 where
   pub is : o ≡ Read (planTable s p) (drop (p .rest .place) s)

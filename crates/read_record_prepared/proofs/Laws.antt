@@ -23,13 +23,13 @@ use Rattle.read_feature_texts.specs.Puts.{Fits, FeaturesPut}
 use Rattle.read_record_plan.specs.declared.Plan.{Plan}
 use Rattle.read_record_plan.specs.declared.PlanAt.{PlanAt}
 use Rattle.read_record_plan.specs.declared.PlanAt.the-variants as plan
-use Rattle.read_record_plan.specs.Plans.{planTable, Plans}
-use Rattle.read_record_frame.specs.Fills.{Ready, AroundFilled}
-use Rattle.read_record_frame.proofs.Laws.{features-fit, all-filled}
-use Rattle.read_record_sizes.specs.Sizing.{sizesIn, headPlan, fitsIn}
-use Rattle.read_flat.proofs.Laws.{refused-long, refused-beyond, refused-end, refused-plan, answered, answer-room, answer-done}
+use Rattle.read_record_plan.specs.Plans.{planTable, Ready, Plans}
+use Rattle.read_record_frame.specs.Fills.{AroundFilled}
+use Rattle.read_record_sizes.specs.Sizing.{sizesIn, fitsIn}
 use Rattle.read_record_prepared.specs.declared.Prepared.{Prepared}
 use Rattle.read_record_prepared.specs.Prepares.{noRows, allRows, Planned, Prepares}
+use Rattle.read_record_prepared.proofs.Answers.{refused-long, refused-beyond, refused-end, refused-plan, answered}
+use Rattle.read_record_prepared.proofs.Filled.{features-fit, laid-over, answer-room, answer-done}
 use Rattle.spec_contracts.specs.Reads.{Answered}
 
 -- ---- no feature
@@ -47,14 +47,13 @@ none-left : (s : List ℕ) → featuresIn (drop (length s) s) ≡ []
 none-left s = rw (drop-length s) none-of-none
 
 none-fits : (s : List ℕ) → Fits s (length s) 0 0 (featuresIn (drop (length s) s))
-unfolding featureRows qualifierRows
+unfolding qualifierRows
 none-fits s =
     rw (none-left s)
     (record {
       within = omega arith;
       counted = refl;
       texts = omega arith;
-      features = omega arith;
       qualifiers = omega arith;
     })
 
@@ -125,8 +124,8 @@ module _ (s : List ℕ) (p : Plan) (h : Ready s p) (t₀ r₀ c₀ : List ℕ) (
       subst (λ (y : Prepared). Planned s p t₀ t₁ r₀ r₁ c₀ c₁ rows qualifiers l₀ l₁ y) (sym e)
       (record {
         answers = λ t₂ f₀ f₁ q₀ q₁ z u v y.
-            answer-done s p h (roomsIn t₀ r₀ c₀ f₀ q₀ l₀) n b k (fits-rooms f₀ q₀ u v) (roomsIn t₂ r₁ c₁ f₁ q₁ l₁) (headPlan p) w
-            (all-filled s p h t₀ t₁ t₂ r₀ r₁ c₀ c₁ f₀ f₁ q₀ q₁ l₀ l₁ a z d y) refl;
+            answer-done s p h (roomsIn t₀ r₀ c₀ f₀ q₀ l₀) n b k (fits-rooms f₀ q₀ u v) (roomsIn t₂ r₁ c₁ f₁ q₁ l₁) w
+            (laid-over s p h t₀ t₁ t₂ r₀ r₁ c₀ c₁ f₀ f₁ q₀ q₁ l₀ l₁ a z d y);
         fits = features-fit s p h a (d .gap);
       })
 

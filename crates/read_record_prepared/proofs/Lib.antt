@@ -1,2 +1,4 @@
 -- The laws that the proofs cite.
-pub mod Laws
+mod Answers
+mod Filled
+mod Laws

@@ -3,16 +3,22 @@ use Prim.Native.Nat.{ℕ, _*_}
 use mathlib.Core.Path.{_≡_}
 use mathlib.Core.List.{List}
 use lib.ListN.{length, drop}
+use Rattle.spec_format.specs.Record.{Read}
+use Rattle.spec_format.specs.Rooms.{Rooms, answerOf, roomsOf, roomsIn}
 use Rattle.spec_format.specs.declared.ReadAnswer.{ReadAnswer}
 use Rattle.spec_format.specs.declared.ReadAnswer.the-variants as answer
 use Rattle.read_feature_table.specs.Reads.{featuresIn}
 use Rattle.read_feature_texts.specs.Puts.{Fits, FeaturesPut}
 use Rattle.read_record_plan.specs.declared.Plan.{Plan}
-use Rattle.read_flat.specs.Reads.{Answering}
+use Rattle.read_record_plan.specs.Plans.{planTable}
 use Rattle.read_record_sizes.specs.Sizing.{headPlan}
 use Rattle.read_record_prepared.specs.declared.Prepared.{Prepared}
-use Rattle.spec_format.specs.Rooms.{roomsIn}
 use Rattle.spec_contracts.specs.Reads.{Answered}
+
+-- the answer to the record that a plan stands for, and the rooms afterwards
+pub record Answering (s : List ℕ) (p : Plan) (old new : Rooms) (r : ReadAnswer) : Type 0 where
+  pub is : r ≡ answerOf (length s) old (Read (planTable s p) (drop (p .rest .place) s))
+  pub rooms : new ≡ roomsOf old (Read (planTable s p) (drop (p .rest .place) s))
 
 -- of a slice that ends at `end`
 abbrev pub noRows : ℕ → ReadAnswer → Prepared

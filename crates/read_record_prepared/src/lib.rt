@@ -7,7 +7,7 @@ use spec_format::Unread;
 ghost use mathlib.Core.Path.{_≡_};
 ghost use Prim.Native.Nat.{_*_, _<_, _^_};
 ghost use lib.ListN.{length};
-ghost use Rattle.read_record_frame.specs.Fills.{Ready};
+ghost use Rattle.read_record_plan.specs.Plans.{Ready};
 ghost use Rattle.read_record_sizes.specs.Sizing.{contigPlace};
 ghost use Rattle.read_record_prepared.specs.Prepares.{noRows, allRows, Planned, Prepares};
 

@@ -6,23 +6,31 @@ ghost use mathlib.Core.Path.{_≡_};
 ghost use Prim.Native.Nat.{_<_, _^_};
 ghost use Rattle.read_record_sizes.specs.Sizing.{contigPlace, textsPlan, sizesIn, headPlan, fitsIn};
 
-// How much of each room a record takes.
-pub fn sizes_of(plan: Plan) -> Sizes
-    requires { ⌜ textsPlan plan < 2 ^ 64 ⌝ }
-    ensures { λ r. ⌜ r ≡ sizesIn plan ⌝ }
+// Where CONTIG's text starts in the store: after all other texts.
+fn contig_place(plan: Plan) -> usize
+    requires { ⌜ contigPlace plan < 2 ^ 64 ⌝ }
+    ensures { λ r. ⌜ r ≡ contigPlace plan ⌝ }
 {
     let locus = plan.locus;
     let fields = plan.header;
     let rest = plan.rest;
     let counts = rest.features;
-    let contig = rest.contig;
     let head = read_record_head::head_bytes(locus, fields);
+    head + fields.reference_bytes + fields.comment_bytes + counts.bytes
+}
+
+// How much of each room a record takes.
+pub fn sizes_of(plan: Plan) -> Sizes
+    requires { ⌜ textsPlan plan < 2 ^ 64 ⌝ }
+    ensures { λ r. ⌜ r ≡ sizesIn plan ⌝ }
+{
+    let fields = plan.header;
+    let rest = plan.rest;
+    let counts = rest.features;
+    let contig = rest.contig;
+    let place = contig_place(plan);
     Sizes {
-        texts: head
-            + fields.reference_bytes
-            + fields.comment_bytes
-            + counts.bytes
-            + read_field_optional::may_length(contig),
+        texts: place + read_field_optional::may_length(contig),
         references: fields.references,
         comments: fields.comments,
         features: counts.count,
@@ -41,8 +49,7 @@ pub fn head_in(plan: Plan) -> Head
     let rest = plan.rest;
     let counts = rest.features;
     let contig = rest.contig;
-    let head = read_record_head::head_bytes(locus, fields);
-    let place = head + fields.reference_bytes + fields.comment_bytes + counts.bytes;
+    let place = contig_place(plan);
     read_record_head::head_of(locus, fields, counts.count, place, contig, rest.letters)
 }
 

@@ -1,4 +1,4 @@
--- `store_rows` meets its contract: a walk of its MIR, by hand. A turn calls `put_row` on the bytes, texts and qualifiers, and `store_row` on the rows. Each room is lent again for a lifetime of that call, and comes back.
+-- `store_rows` meets its contract: a walk of its MIR, by hand. A turn calls `make_row` on the bytes, texts and qualifiers, and `store_row` on the rows. Each room is lent again for a lifetime of that call, and comes back.
 -- The invariant: `Storing` of the place reached and of the rooms as they are.
 -- Assumes nothing.
 use mathlib.Core.Path.{_≡_, refl, ap, subst, _∙_}
@@ -63,10 +63,10 @@ use Rattle.read_feature_row.proofs.Reached as R
 use Rattle.read_feature_row.proofs.Reached.Laws as R′
 use Rattle.read_feature_row.proofs.Made as K
 use Rattle.read_feature_row.proofs.Made.Laws as K′
-use Rattle.read_feature_row.proofs.put_row as row
-use Rattle.read_feature_row.proofs.put_row.Symbol as row-def
-use Rattle.read_feature_row.proofs.put_row.Symbol.{name as #read-feature-row·put-row}
-use Rattle.read_feature_row.proofs.put_row.Met as row-thm
+use Rattle.read_feature_row.proofs.make_row as row
+use Rattle.read_feature_row.proofs.make_row.Symbol as row-def
+use Rattle.read_feature_row.proofs.make_row.Symbol.{name as #read-feature-row·make-row}
+use Rattle.read_feature_row.proofs.make_row.Met as row-thm
 use Rattle.read_feature_rows.proofs.Laws.{reachedFrom, Storing, storing-none, storing-ahead, storing-on, storing-all, nearer}
 use Rattle.read_feature_rows.proofs.store_rows.Key.{name as #read-feature-rows·store-rows}
 use Rattle.read_feature_rows.proofs.store_rows as f
@@ -95,7 +95,7 @@ storing = seq (assign (place 15 []) (addrOf (place 6 (field 0 ∷ deref T′.mir
     (assign (place 8 []) (rvOpd (copy (place 9 (field 1 ∷ [])))))))
 
 abbrev making : Body
-making = seq (call #read-feature-row·put-row (copy (place 1 []) ∷ copy (place 12 []) ∷ copy (place 14 []) ∷ copy (place 8 []) ∷ []) (place 9 [])) storing
+making = seq (call #read-feature-row·make-row (copy (place 1 []) ∷ copy (place 12 []) ∷ copy (place 14 []) ∷ copy (place 8 []) ∷ []) (place 9 [])) storing
 
 abbrev more : Body
 more = seq (assign (place 11 []) (addrOf (place 4 (field 0 ∷ deref (tyInt w8) ∷ []))))
@@ -109,8 +109,8 @@ testing = seq (cond (copy (place 10 [])) skip (exit 1)) more
 
 module _ {M : Type 1} (𝓤 : URA M) (H : Heap 𝓤) (A : Atoms 𝓤) (mem : Memory → SProp 𝓤) (run : Routine → Fun 𝓤) where
   -- the contracts that the proof cites
-  abbrev PutRow : Contract 𝓤
-  PutRow = tripleOf 𝓤 H A row.signature (row.spec 𝓤 H A mem run)
+  abbrev MakeRow : Contract 𝓤
+  MakeRow = tripleOf 𝓤 H A row.signature (row.spec 𝓤 H A mem run)
 
   abbrev Store : Contract 𝓤
   Store = tripleOf 𝓤 H A put.signature (put.spec 𝓤 H A mem run)
@@ -201,18 +201,18 @@ module _ {M : Type 1} (𝓤 : URA M) (H : Heap 𝓤) (A : Atoms 𝓤) (W : Given
       owned ! usize (Is usize) (uint-makes 𝓤 H A W w64) n _ (refl, gn) $ fjoin ! $ owned ! usize (Is usize) (uint-makes 𝓤 H A W w64) from-at _ (refl, ga) $ fjoin ! $ move ! (1 ∷ 0 ∷ []) $ fjoin ! $ frame ! $
       owned ! usize (Is usize) (uint-makes 𝓤 H A W w64) r _ (refl, gr) $ done !
 
-  -- the call of `put_row`, for the lifetimes ν of texts and μ of qualifiers, under the names δ and ε
+  -- the call of `make_row`, for the lifetimes ν of texts and μ of qualifiers, under the names δ and ε
   abbrev row-lfts : ℕ → ℕ → Lft × (Lft × (Lft × Unit {0}))
   row-lfts ν μ = (κ₀, (ν ∷ [], (μ ∷ [], tt)))
 
   abbrev row-args : GName → List ℕ → GName → List ℕ → Reached → RefT (List ℕ) × (RefT (List ℕ) × (RefT (List ℕ) × (Reached × Unit {0})))
   row-args δ t ε q p = (w, (x₁ δ t, (x₃ ε q, (p, tt))))
 
-  abbrev to-row : ℕ → ℕ → GName → List ℕ → GName → List ℕ → Reached → PutRow 𝓤 H A mem run .Ghost
+  abbrev to-row : ℕ → ℕ → GName → List ℕ → GName → List ℕ → Reached → MakeRow 𝓤 H A mem run .Ghost
   to-row ν μ δ t ε q p = ((row-lfts ν μ, (q₀, (fullShare, (fullShare, tt))), tt, row-args δ t ε q p, (v₀ ∷ [], (v₁ ∷ [], (v₃ ∷ [], (reach p ∷ [], tt))))), tt)
 
   goes-row : (ν μ : ℕ) (δ : GName) (t : List ℕ) (ε : GName) (q : List ℕ) (p : Reached) → Is R.the-row p (reach p ∷ []) → Ahead (w .now) p
-      → ent 𝓤 (⋆ 𝓤 H A (‵ (flft κ₀ q₀) ∷ ‵ (flft (ν ∷ []) fullShare) ∷ ‵ (flft (μ ∷ []) fullShare) ∷ ‵ Bytes ∷ ‵ (LentTexts ν δ t) ∷ ‵ (LentQualifiers μ ε q) ∷ [])) (PutRow 𝓤 H A mem run .pre (to-row ν μ δ t ε q p))
+      → ent 𝓤 (⋆ 𝓤 H A (‵ (flft κ₀ q₀) ∷ ‵ (flft (ν ∷ []) fullShare) ∷ ‵ (flft (μ ∷ []) fullShare) ∷ ‵ Bytes ∷ ‵ (LentTexts ν δ t) ∷ ‵ (LentQualifiers μ ε q) ∷ [])) (MakeRow 𝓤 H A mem run .pre (to-row ν μ δ t ε q p))
   goes-row ν μ δ t ε q p gr e =
       qed W (‵ (flft κ₀ q₀) ∷ ‵ (flft (ν ∷ []) fullShare) ∷ ‵ (flft (μ ∷ []) fullShare) ∷ ‵ Bytes ∷ ‵ (LentTexts ν δ t) ∷ ‵ (LentQualifiers μ ε q) ∷ []) ∵ says ! e $
       nothing ! $ move ! (3 ∷ 0 ∷ []) $ join ! $ move ! (2 ∷ 0 ∷ []) $ join ! $ move ! (1 ∷ 0 ∷ []) $ join ! $ frame ! $
@@ -256,7 +256,7 @@ module _ {M : Type 1} (𝓤 : URA M) (H : Heap 𝓤) (A : Atoms 𝓤) (W : Given
   start-is : Is R.the-row start (reach start ∷ [])
   start-is = LL.owes R.the-type R′.the-laws start ((refl, ga), ((refl, gp), ((refl, lit< tt), ((refl, lit< tt), ((refl, lit< tt), tt)))))
 
-  module _ (𝓣 : Tables 𝓤 H) (known-row : Triple 𝓤 (𝓣 .C #read-feature-row·put-row) (PutRow 𝓤 H A mem run)) (known-put : Triple 𝓤 (𝓣 .C #base-rows·store-row) (Store 𝓤 H A mem run)) (l₀ l₁ l₂ l₃ l₄ l₅ l₆ l₇ l₈ l₉ l₁₀ l₁₁ l₁₂ l₁₃ l₁₄ l₁₅ l₁₆ : ℕ) where
+  module _ (𝓣 : Tables 𝓤 H) (known-row : Triple 𝓤 (𝓣 .C #read-feature-row·make-row) (MakeRow 𝓤 H A mem run)) (known-put : Triple 𝓤 (𝓣 .C #base-rows·store-row) (Store 𝓤 H A mem run)) (l₀ l₁ l₂ l₃ l₄ l₅ l₆ l₇ l₈ l₉ l₁₀ l₁₁ l₁₂ l₁₃ l₁₄ l₁₅ l₁₆ : ℕ) where
     abbrev C : Calls 𝓤 H
     C = 𝓣 .C
 
@@ -367,9 +367,9 @@ module _ {M : Type 1} (𝓤 : URA M) (H : Heap 𝓤) (A : Atoms 𝓤) (W : Given
         use2 W (later (some (λ (ε : GName). ‵ (LentQualifiers μ ε (i .q)) ⊛ ‵ (KeptQualifiers μ ε (i .q))))) (lends-again usize κ₃ (μ ∷ []) q₃ γ₃ b₃ o₃ 𝓤 H A W (named 3) (named 3) (i .q) (length qs) e₃) $ await ! tt $ pick ! (λ ε. split ! $
         -- [qualifiers lent; what is kept of them; μ's token; texts lent; what is kept of them; ν's token; κ₂'s; rows; κ₀'s; bytes; …]
         move ! (9 ∷ []) $ use1 W (‵ Bytes ⊛ ‵ Bytes) (shr-slice-copy 𝓤 H A W (named 0) κ₀ u8 .twice w (v₀ ∷ [])) $ split ! $
-        move ! (10 ∷ 7 ∷ 4 ∷ 0 ∷ 5 ∷ 2 ∷ []) $ group ! 6 $ use1 W (raw (PutRow 𝓤 H A mem run .pre (to-row ν μ δ (i .t) ε (i .q) p))) (goes-row ν μ δ (i .t) ε (i .q) p (i .gr) (storing-ahead (w .now) from-at n pl ts rs qs fit (i .t) (i .l) (i .q) p (i .stored) less gn)) $
+        move ! (10 ∷ 7 ∷ 4 ∷ 0 ∷ 5 ∷ 2 ∷ []) $ group ! 6 $ use1 W (raw (MakeRow 𝓤 H A mem run .pre (to-row ν μ δ (i .t) ε (i .q) p))) (goes-row ν μ δ (i .t) ε (i .q) p (i .gr) (storing-ahead (w .now) from-at n pl ts rs qs fit (i .t) (i .l) (i .q) p (i .stored) less gn)) $
         -- [pre; bytes; what is kept of qualifiers; of texts; κ₂'s token; rows; _16 at 6; _15 at 8; _14 at 10; _13 at 12; _12 at 14; _11 at 16; _10 at 18; _9 at 20; _8 at 22; …; _1 at 36; _0 at 38]
-        calls-at ! fm (PutRow 𝓤 H A mem run) known-row (to-row ν μ δ (i .t) ε (i .q) p) (and-then ! (load ! (from ! (stop !)) (look ! 36 refl)) (and-then ! (load ! (from ! (stop !)) (look ! 14 refl)) (and-then ! (load ! (from ! (stop !)) (look ! 10 refl)) (and-then ! (load ! (from ! (stop !)) (look ! 22 refl)) (no-more !))))) (λ u.
+        calls-at ! fm (MakeRow 𝓤 H A mem run) known-row (to-row ν μ δ (i .t) ε (i .q) p) (and-then ! (load ! (from ! (stop !)) (look ! 36 refl)) (and-then ! (load ! (from ! (stop !)) (look ! 14 refl)) (and-then ! (load ! (from ! (stop !)) (look ! 10 refl)) (and-then ! (load ! (from ! (stop !)) (look ! 22 refl)) (no-more !))))) (λ u.
         use1 W (later (some (λ (m : Made). ((‵ (flft κ₀ q₀) ⊛ ‵ (flft (ν ∷ []) fullShare) ⊛ ‵ (flft (μ ∷ []) fullShare) ⊛ ‵ ftrue) ⊛ ‵ (K.the-row .own m (u ∷ []))) ⊛ raw (ensured 𝓤 H A row.ended (row.clauses 𝓤 H A mem run) (row-lfts ν μ) (row-args δ (i .t) ε (i .q) p) tt m)))) (id⊢ 𝓤 _) $ await ! tt $ pick ! (λ m.
         split ! $ move ! (1 ∷ []) $ use1 W (some (λ (ws : Unit {0} × (List ℕ × (List ℕ × (Unit {0} × Unit {0})))). ‵ (lasts row.ended (row-lfts ν μ) (row-args δ (i .t) ε (i .q) p) ws) ⊛ raw (fact 𝓤 (Says p (i .t) (ws .1 .0) (i .q) (ws .1 .1 .0) m)))) (id⊢ 𝓤 _) $ pick ! (λ ws.
         split ! $ move ! (1 ∷ []) $ heard ! (Says p (i .t) (ws .1 .0) (i .q) (ws .1 .1 .0) m) (λ e.
@@ -430,7 +430,7 @@ module _ {M : Type 1} (𝓤 : URA M) (H : Heap 𝓤) (A : Atoms 𝓤) (W : Given
         -- [κ₃'s token; κ₂'s; κ₁'s; κ₀'s; qualifiers; rows; texts; bytes; …]
         move ! (2 ∷ 6 ∷ 1 ∷ 5 ∷ 0 ∷ 4 ∷ 3 ∷ 7 ∷ []) $ first ! $ blocks ! $ loops ! 𝓣 Nearer Nearer-wf At turns (record { p = start; t = ts; l = rs; q = qs; gr = start-is; len = refl; stored = storing-none (w .now) from-at n pl ts rs qs fit })
 
-  walk : (𝓣 : Tables 𝓤 H) (known-row : Triple 𝓤 (𝓣 .C #read-feature-row·put-row) (PutRow 𝓤 H A mem run)) (known-put : Triple 𝓤 (𝓣 .C #base-rows·store-row) (Store 𝓤 H A mem run))
+  walk : (𝓣 : Tables 𝓤 H) (known-row : Triple 𝓤 (𝓣 .C #read-feature-row·make-row) (MakeRow 𝓤 H A mem run)) (known-put : Triple 𝓤 (𝓣 .C #base-rows·store-row) (Store 𝓤 H A mem run))
       → ent 𝓤 (onEntry 𝓤 H A f.signature (κ₀, (κ₁, (κ₂, (κ₃, tt)))) (q₀, (q₁, (q₂, (q₃, tt)))) a at) (WpFn 𝓤 H (𝓣 .C) (𝓣 .Λ) code.function (v₀ ∷ vint w64 from-at ∷ vint w64 n ∷ v₁ ∷ vint w64 pl ∷ v₂ ∷ v₃ ∷ []) Post)
   walk 𝓣 known-row known-put =
       qed W ((‵ (flft κ₀ q₀) ⊛ ‵ (flft κ₁ q₁) ⊛ ‵ (flft κ₂ q₂) ⊛ ‵ (flft κ₃ q₃) ⊛ ‵ ftrue) ∷ ‵ (owns (ShrSlice (named 0) κ₀ u8 ∷ usize ∷ usize ∷ MutSlice (named 1) κ₁ u8 ∷ usize ∷ MutSlice (named 2) κ₂ T.the-row ∷ MutSlice (named 3) κ₃ usize ∷ []) a at) ∷ []) ∵
@@ -439,7 +439,7 @@ module _ {M : Type 1} (𝓤 : URA M) (H : Heap 𝓤) (A : Atoms 𝓤) (W : Given
       pass1 ! (init ! 30 refl (tt, (tt, (record { fits = fits₀ }, tt)))) $ pass1 ! (init ! 28 refl (tt, record { fits = ga })) $ pass1 ! (init ! 26 refl (tt, record { fits = gn })) $ pass1 ! (init ! 24 refl (tt, (tt, (record { fits = room₁ .0 }, tt)))) $ pass1 ! (init ! 22 refl (tt, record { fits = gp })) $ pass1 ! (init ! 20 refl (tt, (tt, (record { fits = room₂ .0 }, tt)))) $ pass1 ! (init ! 18 refl (tt, (tt, (record { fits = room₃ .0 }, tt)))) $ pass0 ! $
       begins 𝓣 known-row known-put l₀ l₁ l₂ l₃ l₄ l₅ l₆ l₇ l₈ l₉ l₁₀ l₁₁ l₁₂ l₁₃ l₁₄ l₁₅ l₁₆)))))))))))))))))
 
-module _ {M : Type 1} (𝓤 : URA M) (H : Heap 𝓤) (A : Atoms 𝓤) (W : Given 𝓤 H A) (mem : Memory → SProp 𝓤) (run : Routine → Fun 𝓤) (𝓣 : Tables 𝓤 H) (known-row : Triple 𝓤 (𝓣 .C #read-feature-row·put-row) (PutRow 𝓤 H A mem run)) (known-put : Triple 𝓤 (𝓣 .C #base-rows·store-row) (Store 𝓤 H A mem run)) where
+module _ {M : Type 1} (𝓤 : URA M) (H : Heap 𝓤) (A : Atoms 𝓤) (W : Given 𝓤 H A) (mem : Memory → SProp 𝓤) (run : Routine → Fun 𝓤) (𝓣 : Tables 𝓤 H) (known-row : Triple 𝓤 (𝓣 .C #read-feature-row·make-row) (MakeRow 𝓤 H A mem run)) (known-put : Triple 𝓤 (𝓣 .C #base-rows·store-row) (Store 𝓤 H A mem run)) where
   store-rows-walks : Walks 𝓤 H A f.ended stayed (WpFn 𝓤 H (𝓣 .C) (𝓣 .Λ) code.function) (f.clauses 𝓤 H A mem run)
   store-rows-walks = walked 𝓤 H A f.ended stayed (f.clauses 𝓤 H A mem run) (WpFn 𝓤 H (𝓣 .C) (𝓣 .Λ) code.function)
       (λ κs. (slice-vals, (uint-vals w64, (uint-vals w64, (slice-vals, (uint-vals w64, (slice-vals, (slice-vals, tt))))))))
@@ -462,5 +462,5 @@ store-rows-spec 𝓤 H 𝓜 𝓖 𝓡 =
     entered 𝓤 H (tripleOf 𝓤 H (𝓖 .A) f.signature (f.spec 𝓤 H (𝓖 .A) (𝓜 .mem) (𝓡 .run)))
     (tables 𝓤 H 𝓜 𝓡 code.env .C) (tables 𝓤 H 𝓜 𝓡 code.env .Λ) #read-feature-rows·store-rows code.function (code.unfolded 𝓤 H 𝓜 𝓡)
     (store-rows-meets 𝓤 H (𝓖 .A) (givenOf 𝓤 H 𝓜 𝓖) (𝓜 .mem) (𝓡 .run) (tablesOf 𝓤 H 𝓜 (tables 𝓤 H 𝓜 𝓡 code.env))
-    (cited 𝓤 H (PutRow 𝓤 H (𝓖 .A) (𝓜 .mem) (𝓡 .run)) 𝓜 𝓡 code.env #read-feature-row·put-row row-def.routine code.calls-read-feature-row·put-row (row-thm.met 𝓤 H 𝓜 𝓖 𝓡))
+    (cited 𝓤 H (MakeRow 𝓤 H (𝓖 .A) (𝓜 .mem) (𝓡 .run)) 𝓜 𝓡 code.env #read-feature-row·make-row row-def.routine code.calls-read-feature-row·make-row (row-thm.met 𝓤 H 𝓜 𝓖 𝓡))
     (cited 𝓤 H (Store 𝓤 H (𝓖 .A) (𝓜 .mem) (𝓡 .run)) 𝓜 𝓡 code.env #base-rows·store-row put-def.routine code.calls-base-rows·store-row (put-thm.met 𝓤 H 𝓜 𝓖 𝓡)))

@@ -12,10 +12,19 @@ put-perhaps-requires : tie.Need-put-perhaps-requires
 put-perhaps-requires c κs = search needs
 
 put-perhaps-requires-2 : tie.Need-put-perhaps-requires-2
-put-perhaps-requires-2 c κs = (c .before .before .before .before .before .before .before .before .before .before .before .before .before .before .before .before .before .before .before .before .pre .0 .pubmed, record { text = omega (arith, c .before .before .before .before .before .before .before .before .before .before .before .before .before .put-always .ensures .text, c .before .before .before .before .before .before .put-perhaps .ensures .text, c .before .before .before .before .before .before .before .before .before .before .before .before .before .before .before .before .before .before .before .before .pre .1 .text); row = omega (arith, c .before .before .before .before .before .before .before .before .before .before .before .before .before .put-always .ensures .row, c .before .before .before .before .before .before .put-perhaps .ensures .row, c .before .before .before .before .before .before .before .before .before .before .before .before .before .before .before .before .before .before .before .before .pre .1 .row) })
+put-perhaps-requires-2 c κs =
+    let pre = c .before .before .before .before .before .before .before .before .before .before .before .before .before .before .before .before .before .before .before .before .pre in
+    let put-always = c .before .before .before .before .before .before .before .before .before .before .before .before .before .put-always .ensures in
+    let put-perhaps = c .before .before .before .before .before .before .put-perhaps .ensures in
+    (pre .0 .pubmed, record { text = omega (arith, put-always .text, put-perhaps .text, pre .1 .text); row = omega (arith, put-always .row, put-perhaps .row, pre .1 .row) })
 
 put-perhaps-requires-3 : tie.Need-put-perhaps-requires-3
-put-perhaps-requires-3 c κs = (c .before .before .before .before .before .before .before .before .before .before .before .before .before .before .before .before .before .before .before .before .before .before .before .before .before .before .before .pre .0 .remark, record { text = omega (arith, c .before .before .before .before .before .before .before .before .before .before .before .before .before .before .before .before .before .before .before .before .put-always .ensures .text, c .before .before .before .before .before .before .before .before .before .before .before .before .before .put-perhaps .ensures .text, c .before .before .before .before .before .before .put-perhaps2 .ensures .text, c .before .before .before .before .before .before .before .before .before .before .before .before .before .before .before .before .before .before .before .before .before .before .before .before .before .before .before .pre .1 .text); row = omega (arith, c .before .before .before .before .before .before .before .before .before .before .before .before .before .before .before .before .before .before .before .before .put-always .ensures .row, c .before .before .before .before .before .before .before .before .before .before .before .before .before .put-perhaps .ensures .row, c .before .before .before .before .before .before .put-perhaps2 .ensures .row, c .before .before .before .before .before .before .before .before .before .before .before .before .before .before .before .before .before .before .before .before .before .before .before .before .before .before .before .pre .1 .row) })
+put-perhaps-requires-3 c κs =
+    let pre = c .before .before .before .before .before .before .before .before .before .before .before .before .before .before .before .before .before .before .before .before .before .before .before .before .before .before .before .pre in
+    let put-always = c .before .before .before .before .before .before .before .before .before .before .before .before .before .before .before .before .before .before .before .before .put-always .ensures in
+    let put-perhaps = c .before .before .before .before .before .before .before .before .before .before .before .before .before .put-perhaps .ensures in
+    let put-perhaps2 = c .before .before .before .before .before .before .put-perhaps2 .ensures in
+    (pre .0 .remark, record { text = omega (arith, put-always .text, put-perhaps .text, put-perhaps2 .text, pre .1 .text); row = omega (arith, put-always .row, put-perhaps .row, put-perhaps2 .row, pre .1 .row) })
 
 same-length : tie.Need-same-length
 same-length c = search needs
@@ -24,7 +33,12 @@ same-length-2 : tie.Need-same-length-2
 same-length-2 c = search needs
 
 returns : tie.Need-returns
-returns c = puts-append (puts-append (puts-append (c .before .before .before .before .before .before .before .before .before .before .before .before .before .before .before .before .before .before .before .before .before .before .before .before .before .put-always .ensures) (c .before .before .before .before .before .before .before .before .before .before .before .before .before .before .before .before .before .before .put-perhaps .ensures)) (c .before .before .before .before .before .before .before .before .before .before .before .put-perhaps2 .ensures)) (c .before .before .before .before .put-perhaps3 .ensures)
+returns c =
+    let put-always = c .before .before .before .before .before .before .before .before .before .before .before .before .before .before .before .before .before .before .before .before .before .before .before .before .before .put-always .ensures in
+    let put-perhaps = c .before .before .before .before .before .before .before .before .before .before .before .before .before .before .before .before .before .before .put-perhaps .ensures in
+    let put-perhaps2 = c .before .before .before .before .before .before .before .before .before .before .before .put-perhaps2 .ensures in
+    let put-perhaps3 = c .before .before .before .before .put-perhaps3 .ensures in
+    puts-append (puts-append (puts-append put-always put-perhaps) put-perhaps2) put-perhaps3
 
 pub put-back-spec : {M : Type 1} → statement M
 put-back-spec =

@@ -13,7 +13,11 @@ enum-known-comment : tie.Need-enum-known-comment
 enum-known-comment c = search needs
 
 put-always-requires : tie.Need-put-always-requires
-put-always-requires c κs = (may-ready (now (c .before .before .before .before .before .before .before .before .args .s)) true _ _ (c .before .before .before .comment .given .1) (c .before .before .before .before .before .before .before .before .pre .0), commented-room (now (c .before .before .before .before .before .before .before .before .args .s)) true _ _ (c .before .before .before .comment .given .1) _ (c .before .before .before .before .before .before .before .before .pre .1))
+put-always-requires c κs =
+    let a = c .before .before .before .before .before .before .before .before .args in
+    let pre = c .before .before .before .before .before .before .before .before .pre in
+    let comment = c .before .before .before .comment .given .1 in
+    (may-ready (now (a .s)) true _ _ comment (pre .0), commented-room (now (a .s)) true _ _ comment _ (pre .1))
 
 returns : tie.Need-returns
 returns c = rw (c .enum-told .given .1) (puts-none _ _ _)

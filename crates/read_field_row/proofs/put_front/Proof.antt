@@ -12,7 +12,11 @@ put-perhaps-requires : tie.Need-put-perhaps-requires
 put-perhaps-requires c κs = search needs
 
 put-perhaps-requires-2 : tie.Need-put-perhaps-requires-2
-put-perhaps-requires-2 c κs = (c .before .before .before .before .before .before .before .before .before .before .before .before .before .before .before .before .before .before .before .before .pre .0 .consrtm, record { text = omega (arith, c .before .before .before .before .before .before .before .before .before .before .before .before .before .put-always .ensures .text, c .before .before .before .before .before .before .put-perhaps .ensures .text, c .before .before .before .before .before .before .before .before .before .before .before .before .before .before .before .before .before .before .before .before .pre .1 .text); row = omega (arith, c .before .before .before .before .before .before .before .before .before .before .before .before .before .put-always .ensures .row, c .before .before .before .before .before .before .put-perhaps .ensures .row, c .before .before .before .before .before .before .before .before .before .before .before .before .before .before .before .before .before .before .before .before .pre .1 .row) })
+put-perhaps-requires-2 c κs =
+    let pre = c .before .before .before .before .before .before .before .before .before .before .before .before .before .before .before .before .before .before .before .before .pre in
+    let put-always = c .before .before .before .before .before .before .before .before .before .before .before .before .before .put-always .ensures in
+    let put-perhaps = c .before .before .before .before .before .before .put-perhaps .ensures in
+    (pre .0 .consrtm, record { text = omega (arith, put-always .text, put-perhaps .text, pre .1 .text); row = omega (arith, put-always .row, put-perhaps .row, pre .1 .row) })
 
 same-length : tie.Need-same-length
 same-length c = search needs
@@ -21,7 +25,11 @@ same-length-2 : tie.Need-same-length-2
 same-length-2 c = search needs
 
 returns : tie.Need-returns
-returns c = puts-append (puts-append (c .before .before .before .before .before .before .before .before .before .before .before .before .before .before .before .before .before .before .put-always .ensures) (c .before .before .before .before .before .before .before .before .before .before .before .put-perhaps .ensures)) (c .before .before .before .before .put-perhaps2 .ensures)
+returns c =
+    let put-always = c .before .before .before .before .before .before .before .before .before .before .before .before .before .before .before .before .before .before .put-always .ensures in
+    let put-perhaps = c .before .before .before .before .before .before .before .before .before .before .before .put-perhaps .ensures in
+    let put-perhaps2 = c .before .before .before .before .put-perhaps2 .ensures in
+    puts-append (puts-append put-always put-perhaps) put-perhaps2
 
 pub put-front-spec : {M : Type 1} → statement M
 put-front-spec =

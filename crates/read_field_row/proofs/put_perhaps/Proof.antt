@@ -19,13 +19,22 @@ add-n : tie.Need-add-n
 add-n c = let w = may-ready (now (c .before .before .before .before .before .before .before .args .s)) (c .before .before .before .before .before .before .before .args .keep) _ _ (c .before .before .e .given .1) (c .before .before .before .before .before .before .before .pre .0) in omega (arith, w .small, c .before .before .before .before .before .before .before .good .0 .1)
 
 put-text-requires : tie.Need-put-text-requires
-put-text-requires c κs = (may-ready (now (c .before .before .before .before .before .before .before .before .before .args .s)) (c .before .before .before .before .before .before .before .before .before .args .keep) _ _ (c .before .before .before .before .e .given .1) (c .before .before .before .before .before .before .before .before .before .pre .0), may-room (now (c .before .before .before .before .before .before .before .before .before .args .s)) (c .before .before .before .before .before .before .before .before .before .args .keep) _ _ (c .before .before .before .before .e .given .1) _ (c .before .before .before .before .before .before .before .before .before .pre .1))
+put-text-requires c κs =
+    let a = c .before .before .before .before .before .before .before .before .before .args in
+    let pre = c .before .before .before .before .before .before .before .before .before .pre in
+    let e = c .before .before .before .before .e .given .1 in
+    (may-ready (now (a .s)) (a .keep) _ _ e (pre .0), may-room (now (a .s)) (a .keep) _ _ e _ (pre .1))
 
 same-length : tie.Need-same-length
 same-length c = search needs
 
 returns : tie.Need-returns
-returns c = rw (c .before .before .before .before .enum-told .given .1) (puts-absent _ _ _ _ _ (absent-room (now (c .before .before .before .before .before .before .before .before .before .args .s)) (c .before .before .before .before .before .before .before .before .before .args .keep) _ (c .before .before .before .before .enum-told .given .1) _ (c .before .before .before .before .before .before .before .before .before .pre .1)) (c .before .before .put-two .ensures))
+returns c =
+    let a = c .before .before .before .before .before .before .before .before .before .args in
+    let pre = c .before .before .before .before .before .before .before .before .before .pre in
+    let enum-told = c .before .before .before .before .enum-told .given .1 in
+    let put-two = c .before .before .put-two .ensures in
+    rw enum-told (puts-absent _ _ _ _ _ (absent-room (now (a .s)) (a .keep) _ enum-told _ (pre .1)) put-two)
 
 same-length-2 : tie.Need-same-length-2
 same-length-2 c = search needs
@@ -34,7 +43,12 @@ same-length-3 : tie.Need-same-length-3
 same-length-3 c = search needs
 
 returns-2 : tie.Need-returns-2
-returns-2 c = rw (c .before .before .before .before .before .before .before .before .before .e .given .1) (puts-perhaps _ _ _ _ _ _ _ _ (c .before .before .before .before .put-text .ensures) (plus-one (may-ready (now (c .before .before .before .before .before .before .before .before .before .before .before .before .before .before .args .s)) (c .before .before .before .before .before .before .before .before .before .before .before .before .before .before .args .keep) _ _ (c .before .before .before .before .before .before .before .before .before .e .given .1) (c .before .before .before .before .before .before .before .before .before .before .before .before .before .before .pre .0) .sized)))
+returns-2 c =
+    let a = c .before .before .before .before .before .before .before .before .before .before .before .before .before .before .args in
+    let pre = c .before .before .before .before .before .before .before .before .before .before .before .before .before .before .pre in
+    let e = c .before .before .before .before .before .before .before .before .before .e .given .1 in
+    let put-text = c .before .before .before .before .put-text .ensures in
+    rw e (puts-perhaps _ _ _ _ _ _ _ _ put-text (plus-one (may-ready (now (a .s)) (a .keep) _ _ e (pre .0) .sized)))
 
 pub put-perhaps-spec : {M : Type 1} → statement M
 put-perhaps-spec =

@@ -54,13 +54,25 @@ enum-known-field : tie.Need-enum-known-field Inv-loop μ-loop
 enum-known-field c = search needs
 
 put-found-requires : tie.Need-put-found-requires Inv-loop μ-loop
-put-found-requires c κs = (walking-ready (now (c .before .before .before .before .before .before .before .before .before .before .args .s)) _ _ _ _ _ _ _ _ _ (c .before .before .before .before .before .before .loop .inv .3) _ (c .before .before .before .before .before .header-field-at .ensures) _ _ (c .before .before .before .field .given .1), walking-room (now (c .before .before .before .before .before .before .before .before .before .before .args .s)) _ _ _ _ _ _ _ _ _ (c .before .before .before .before .before .before .loop .inv .3) _ (c .before .before .before .before .before .header-field-at .ensures) _ _ (c .before .before .before .field .given .1) (c .before .before .before .before .before .before .before .before .before .before .pre .1))
+put-found-requires c κs =
+    let a = c .before .before .before .before .before .before .before .before .before .before .args in
+    let pre = c .before .before .before .before .before .before .before .before .before .before .pre in
+    let header-field-at = c .before .before .before .before .before .header-field-at .ensures in
+    let loop = c .before .before .before .before .before .before .loop .inv in
+    let field = c .before .before .before .field .given .1 in
+    (walking-ready (now (a .s)) _ _ _ _ _ _ _ _ _ (loop .3) _ header-field-at _ _ field, walking-room (now (a .s)) _ _ _ _ _ _ _ _ _ (loop .3) _ header-field-at _ _ field (pre .1))
 
 loop-less : tie.Need-loop-less Inv-loop μ-loop
 loop-less c = let h = walking-known (now (c .before .before .before .before .before .before .before .before .before .before .before .before .before .before .before .args .s)) _ _ _ _ _ _ _ _ _ (c .before .before .before .before .before .before .before .before .before .before .before .loop .inv .3) _ (c .before .before .before .before .before .before .before .before .before .before .header-field-at .ensures) _ _ (c .before .before .before .before .before .before .before .before .field .given .1) in omega (arith, h .ahead, h .within)
 
 loop-again : tie.Need-loop-again Inv-loop μ-loop
-loop-again c = (walking-known (now (c .before .before .before .before .before .before .before .before .before .before .before .before .before .before .before .args .s)) _ _ _ _ _ _ _ _ _ (c .before .before .before .before .before .before .before .before .before .before .before .loop .inv .3) _ (c .before .before .before .before .before .before .before .before .before .before .header-field-at .ensures) _ _ (c .before .before .before .before .before .before .before .before .field .given .1) .within, search needs, search needs, walking-more (now (c .before .before .before .before .before .before .before .before .before .before .before .before .before .before .before .args .s)) _ _ _ _ _ _ _ _ _ (c .before .before .before .before .before .before .before .before .before .before .before .loop .inv .3) _ (c .before .before .before .before .before .before .before .before .before .before .header-field-at .ensures) _ _ (c .before .before .before .before .before .before .before .before .field .given .1) _ _ _ (c .before .before .before .before .put-found .ensures))
+loop-again c =
+    let a = c .before .before .before .before .before .before .before .before .before .before .before .before .before .before .before .args in
+    let header-field-at = c .before .before .before .before .before .before .before .before .before .before .header-field-at .ensures in
+    let loop = c .before .before .before .before .before .before .before .before .before .before .before .loop .inv in
+    let field = c .before .before .before .before .before .before .before .before .field .given .1 in
+    let put-found = c .before .before .before .before .put-found .ensures in
+    (walking-known (now (a .s)) _ _ _ _ _ _ _ _ _ (loop .3) _ header-field-at _ _ field .within, search needs, search needs, walking-more (now (a .s)) _ _ _ _ _ _ _ _ _ (loop .3) _ header-field-at _ _ field _ _ _ put-found)
 
 pub put-fields-spec : {M : Type 1} → statement M
 put-fields-spec =

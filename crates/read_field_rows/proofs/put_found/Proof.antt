@@ -9,7 +9,12 @@ comment-in-requires : tie.Need-comment-in-requires
 comment-in-requires c κs = search needs
 
 put-comment-requires : tie.Need-put-comment-requires
-put-comment-requires c κs = (rw (c .before .before .comment-in .ensures) (comment-ready (now (c .before .before .before .before .before .before .before .args .s)) (c .before .before .before .before .before .before .before .args .field) (c .before .before .before .before .before .before .before .pre .0)), comment-room (now (c .before .before .before .before .before .before .before .args .s)) _ _ _ (c .before .before .before .if1 .taken) (c .before .before .comment-in .ensures) _ (c .before .before .before .before .before .before .before .pre .1))
+put-comment-requires c κs =
+    let a = c .before .before .before .before .before .before .before .args in
+    let pre = c .before .before .before .before .before .before .before .pre in
+    let comment-in = c .before .before .comment-in .ensures in
+    let if1 = c .before .before .before .if1 in
+    (rw comment-in (comment-ready (now (a .s)) (a .field) (pre .0)), comment-room (now (a .s)) _ _ _ (if1 .taken) comment-in _ (pre .1))
 
 same-length : tie.Need-same-length
 same-length c = search needs
@@ -18,7 +23,12 @@ same-length-2 : tie.Need-same-length-2
 same-length-2 c = search needs
 
 returns : tie.Need-returns
-returns c = comment-put (now (c .before .before .before .before .before .before .before .before .before .before .before .before .args .s)) _ _ _ (c .before .before .before .before .before .before .before .before .if1 .taken) (c .before .before .before .before .before .before .before .comment-in .ensures) (c .before .before .before .before .put-comment .ensures)
+returns c =
+    let a = c .before .before .before .before .before .before .before .before .before .before .before .before .args in
+    let comment-in = c .before .before .before .before .before .before .before .comment-in .ensures in
+    let if1 = c .before .before .before .before .before .before .before .before .if1 in
+    let put-comment = c .before .before .before .before .put-comment .ensures in
+    comment-put (now (a .s)) _ _ _ (if1 .taken) comment-in put-comment
 
 put-if-reference-requires : tie.Need-put-if-reference-requires
 put-if-reference-requires c κs = (c .before .before .before .before .before .before .pre .0, rw (c .before .before .if1 .left) at (c .before .before .before .before .before .before .pre .1))

@@ -10,7 +10,11 @@ enum-known-field : tie.Need-enum-known-field
 enum-known-field c = search needs
 
 put-reference-requires : tie.Need-put-reference-requires
-put-reference-requires c κs = (reference-entries (now (c .before .before .before .before .before .before .before .before .args .s)) _ _ _ (c .before .before .before .field .given .1) (c .before .before .before .before .before .before .before .before .pre .0), reference-room (now (c .before .before .before .before .before .before .before .before .args .s)) _ _ _ (c .before .before .before .field .given .1) _ (c .before .before .before .before .before .before .before .before .pre .1))
+put-reference-requires c κs =
+    let a = c .before .before .before .before .before .before .before .before .args in
+    let pre = c .before .before .before .before .before .before .before .before .pre in
+    let field = c .before .before .before .field .given .1 in
+    (reference-entries (now (a .s)) _ _ _ field (pre .0), reference-room (now (a .s)) _ _ _ field _ (pre .1))
 
 enum-told : tie.Need-enum-told
 enum-told c = search needs

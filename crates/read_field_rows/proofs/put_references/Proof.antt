@@ -10,7 +10,10 @@ use Rattle.read_field_rows.proofs.put_references.Statement.{statement}
 use Rattle.read_field_rows.proofs.put_references.Tie as tie
 
 put-fields-requires : tie.Need-put-fields-requires
-put-fields-requires c κs = (c .before .before .before .before .before .pre .0, laid-room referenceIn referencePieces (fieldsAt (drop (c .before .before .before .before .before .args .at) (now (c .before .before .before .before .before .args .s)))) _ (c .before .before .before .before .before .pre .1) (c .before .before .before .before .before .pre .2))
+put-fields-requires c κs =
+    let a = c .before .before .before .before .before .args in
+    let pre = c .before .before .before .before .before .pre in
+    (pre .0, laid-room referenceIn referencePieces (fieldsAt (drop (a .at) (now (a .s)))) _ (pre .1) (pre .2))
 
 same-length : tie.Need-same-length
 same-length c = search needs
@@ -19,7 +22,10 @@ same-length-2 : tie.Need-same-length-2
 same-length-2 c = search needs
 
 returns : tie.Need-returns
-returns c = laid referenceIn referencePieces (fieldsAt (drop (c .before .before .before .before .before .before .before .before .before .before .args .at) (now (c .before .before .before .before .before .before .before .before .before .before .args .s)))) _ _ _ _ _ _ (c .before .before .before .before .put-fields .ensures)
+returns c =
+    let a = c .before .before .before .before .before .before .before .before .before .before .args in
+    let put-fields = c .before .before .before .before .put-fields .ensures in
+    laid referenceIn referencePieces (fieldsAt (drop (a .at) (now (a .s)))) _ _ _ _ _ _ put-fields
 
 pub put-references-spec : {M : Type 1} → statement M
 put-references-spec = tie.close (tie.spec put-fields-requires same-length same-length-2 returns)

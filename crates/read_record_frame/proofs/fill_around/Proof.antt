@@ -29,7 +29,12 @@ same-length-4 : tie.Need-same-length-4
 same-length-4 c = search needs
 
 returns : tie.Need-returns
-returns c = around-filled _ _ (c .before .before .before .before .before .before .before .before .before .before .before .before .before .before .before .before .before .before .before .before .before .before .before .before .before .before .pre) _ _ _ _ _ _ _ (c .before .before .before .before .before .before .before .before .before .before .before .before .before .before .before .fill-header .ensures) _ _ _ _ _ (c .before .before .before .before .before .before .put-contig .ensures) (c .before .before .put-letters .ensures)
+returns c =
+    let pre = c .before .before .before .before .before .before .before .before .before .before .before .before .before .before .before .before .before .before .before .before .before .before .before .before .before .before .pre in
+    let fill-header = c .before .before .before .before .before .before .before .before .before .before .before .before .before .before .before .fill-header .ensures in
+    let put-contig = c .before .before .before .before .before .before .put-contig .ensures in
+    let put-letters = c .before .before .put-letters .ensures in
+    around-filled _ _ pre _ _ _ _ _ _ _ fill-header _ _ _ _ _ put-contig put-letters
 
 pub fill-around-spec : {M : Type 1} → statement M
 fill-around-spec =

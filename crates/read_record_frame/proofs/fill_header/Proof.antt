@@ -15,11 +15,14 @@ put-references-requires c κs = (
 )
 
 put-comments-requires : tie.Need-put-comments-requires
-put-comments-requires c κs = (
-  header-within _ _ (c .before .before .before .before .before .before .before .before .before .before .before .before .before .before .before .before .before .before .pre),
-  comments-texts _ _ (c .before .before .before .before .before .before .before .before .before .before .before .before .before .before .before .before .before .before .pre) _ _ _ (c .before .before .before .before .before .before .before .before .before .before .before .put-head .ensures) _ _ _ _ (c .before .before .before .before .before .before .put-references .ensures),
-  comments-rows _ _ (c .before .before .before .before .before .before .before .before .before .before .before .before .before .before .before .before .before .before .pre) _ _ _ (c .before .before .before .before .before .before .before .before .before .before .before .put-head .ensures) _ _ _ _ (c .before .before .before .before .before .before .put-references .ensures),
-)
+put-comments-requires c κs =
+    let pre = c .before .before .before .before .before .before .before .before .before .before .before .before .before .before .before .before .before .before .pre in
+    let put-head = c .before .before .before .before .before .before .before .before .before .before .before .put-head .ensures in
+    let put-references = c .before .before .before .before .before .before .put-references .ensures in (
+      header-within _ _ pre,
+      comments-texts _ _ pre _ _ _ put-head _ _ _ _ put-references,
+      comments-rows _ _ pre _ _ _ put-head _ _ _ _ put-references,
+    )
 
 same-length : tie.Need-same-length
 same-length c = search needs
@@ -31,7 +34,12 @@ same-length-3 : tie.Need-same-length-3
 same-length-3 c = search needs
 
 returns : tie.Need-returns
-returns c = header-filled _ _ (c .before .before .before .before .before .before .before .before .before .before .before .before .before .before .before .before .before .before .before .before .before .before .before .pre) _ _ _ (c .before .before .before .before .before .before .before .before .before .before .before .before .before .before .before .before .put-head .ensures) _ _ _ _ (c .before .before .before .before .before .before .before .before .before .before .before .put-references .ensures) _ _ _ _ (c .before .before .before .before .put-comments .ensures)
+returns c =
+    let pre = c .before .before .before .before .before .before .before .before .before .before .before .before .before .before .before .before .before .before .before .before .before .before .before .pre in
+    let put-head = c .before .before .before .before .before .before .before .before .before .before .before .before .before .before .before .before .put-head .ensures in
+    let put-references = c .before .before .before .before .before .before .before .before .before .before .before .put-references .ensures in
+    let put-comments = c .before .before .before .before .put-comments .ensures in
+    header-filled _ _ pre _ _ _ put-head _ _ _ _ put-references _ _ _ _ put-comments
 
 pub fill-header-spec : {M : Type 1} → statement M
 fill-header-spec =

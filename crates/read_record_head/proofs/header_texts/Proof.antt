@@ -49,7 +49,17 @@ add-t18 : tie.Need-add-t18
 add-t18 c = search needs
 
 returns : tie.Need-returns
-returns c = simp (c .before .before .before .before .before .entry-at .ensures, c .before .before .before .before .entry-at2 .ensures, c .before .before .before .entry-at3 .ensures, c .before .before .entry-at4 .ensures, c .before .entry-at5 .ensures, c .before .before .before .before .before .before .before .before .before .may-length .ensures, c .before .before .before .before .before .before .before .before .may-length2 .ensures, c .before .before .before .before .before .before .before .may-length3 .ensures, c .before .before .before .before .before .before .may-length4 .ensures, c .may-length5 .ensures)
+returns c =
+    let may-length = c .before .before .before .before .before .before .before .before .before .may-length .ensures in
+    let may-length2 = c .before .before .before .before .before .before .before .before .may-length2 .ensures in
+    let may-length3 = c .before .before .before .before .before .before .before .may-length3 .ensures in
+    let may-length4 = c .before .before .before .before .before .before .may-length4 .ensures in
+    let entry-at = c .before .before .before .before .before .entry-at .ensures in
+    let entry-at2 = c .before .before .before .before .entry-at2 .ensures in
+    let entry-at3 = c .before .before .before .entry-at3 .ensures in
+    let entry-at4 = c .before .before .entry-at4 .ensures in
+    let entry-at5 = c .before .entry-at5 .ensures in
+    simp (entry-at, entry-at2, entry-at3, entry-at4, entry-at5, may-length, may-length2, may-length3, may-length4, c .may-length5 .ensures)
 
 pub header-texts-spec : {M : Type 1} → statement M
 header-texts-spec =

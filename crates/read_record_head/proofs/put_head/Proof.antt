@@ -18,7 +18,12 @@ same-length : tie.Need-same-length
 same-length c = search needs
 
 returns : tie.Need-returns
-returns c = writes-append (writes-append (c .before .before .before .before .before .before .before .before .before .before .put-locus .ensures) (c .before .before .before .before .before .before .put-header .ensures)) (c .before .before .put-source .ensures) .fit (omega (arith, c .before .before .before .before .before .before .before .before .before .before .before .before .before .before .pre .1))
+returns c =
+    let pre = c .before .before .before .before .before .before .before .before .before .before .before .before .before .before .pre in
+    let put-locus = c .before .before .before .before .before .before .before .before .before .before .put-locus .ensures in
+    let put-header = c .before .before .before .before .before .before .put-header .ensures in
+    let put-source = c .before .before .put-source .ensures in
+    writes-append (writes-append put-locus put-header) put-source .fit (omega (arith, pre .1))
 
 pub put-head-spec : {M : Type 1} → statement M
 put-head-spec =

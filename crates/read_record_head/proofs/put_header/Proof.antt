@@ -23,7 +23,13 @@ same-length : tie.Need-same-length
 same-length c = search needs
 
 returns : tie.Need-returns
-returns c = writes-append (writes-append (writes-append (writes-append (c .before .before .before .before .before .before .before .before .before .before .before .before .before .before .before .before .before .before .put-may .ensures) (c .before .before .before .before .before .before .before .before .before .before .before .before .before .before .put-may2 .ensures)) (c .before .before .before .before .before .before .before .before .before .before .put-may3 .ensures)) (c .before .before .before .before .before .before .put-may4 .ensures)) (c .before .before .put-may5 .ensures)
+returns c =
+    let put-may = c .before .before .before .before .before .before .before .before .before .before .before .before .before .before .before .before .before .before .put-may .ensures in
+    let put-may2 = c .before .before .before .before .before .before .before .before .before .before .before .before .before .before .put-may2 .ensures in
+    let put-may3 = c .before .before .before .before .before .before .before .before .before .before .put-may3 .ensures in
+    let put-may4 = c .before .before .before .before .before .before .put-may4 .ensures in
+    let put-may5 = c .before .before .put-may5 .ensures in
+    writes-append (writes-append (writes-append (writes-append put-may put-may2) put-may3) put-may4) put-may5
 
 pub put-header-spec : {M : Type 1} → statement M
 put-header-spec =

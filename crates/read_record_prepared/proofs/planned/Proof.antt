@@ -1,6 +1,6 @@
 -- `planned`: too small a room leaves no feature to be put; else all are left.
 use borrow.Author.Needs.{needs}
-use Rattle.read_flat.proofs.Laws.{sizes-bound, contig-bound}
+use Rattle.read_record_sizes.specs.Tables.{sizes-bound, contig-bound}
 use Rattle.read_record_prepared.proofs.Laws.{planned-room, planned-done}
 use Rattle.read_record_prepared.proofs.planned.Statement.{statement}
 use Rattle.read_record_prepared.proofs.planned.Tie as tie

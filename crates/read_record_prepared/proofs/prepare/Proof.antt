@@ -1,6 +1,6 @@
 -- `prepare`: a refusal leaves no feature to be put; else the plan says.
 use borrow.Author.Needs.{needs}
-use Rattle.read_flat.proofs.Laws.{plan-ready}
+use Rattle.read_record_prepared.proofs.Answers.{plan-ready}
 use Rattle.read_record_prepared.proofs.Laws.{preparing}
 use Rattle.read_record_prepared.proofs.prepare.Statement.{statement}
 use Rattle.read_record_prepared.proofs.prepare.Tie as tie

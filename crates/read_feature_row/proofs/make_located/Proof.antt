@@ -1,0 +1,61 @@
+-- `make_located`: kind, location and qualifiers one after the other are the feature.
+use native.Mathlib.Omega.{arith}
+use borrow.Author.Needs.{needs}
+use Rattle.read_feature_row.proofs.Laws.{count-fits, located-made}
+use Rattle.read_feature_row.proofs.make_located.Statement.{statement}
+use Rattle.read_feature_row.proofs.make_located.Tie as tie
+
+sub-indent : tie.Need-sub-indent
+sub-indent c = search needs
+
+put-part-requires : tie.Need-put-part-requires
+put-part-requires c κs = search needs
+
+put-bare-requires : tie.Need-put-bare-requires
+put-bare-requires c κs = search needs
+
+put-qualifiers-requires : tie.Need-put-qualifiers-requires
+put-qualifiers-requires c κs = search needs
+
+sub-t26 : tie.Need-sub-t26
+sub-t26 c = search needs
+
+add-t26 : tie.Need-add-t26
+add-t26 c = omega (arith, c .before .before .before .before .before .before .before .before .before .before .before .before .before .before .before .before .before .before .before .before .pre .0 .next)
+
+add-t29 : tie.Need-add-t29
+add-t29 c =
+    let good = c .before .before .before .before .before .before .before .before .before .before .before .before .before .before .before .before .before .before .before .before .before .good in
+    let fits = c .before .before .before .before .before .before .before .before .before .before .before .before .before .before .before .before .before .before .before .before .before .fits in
+    let pre = c .before .before .before .before .before .before .before .before .before .before .before .before .before .before .before .before .before .before .before .before .before .pre in
+    let put-qualifiers = c .before .before .before .before .before .before .put-qualifiers .ensures in
+    omega (arith, good, fits, count-fits _ _ _ _ _ _ _ (pre .0) (pre .1) put-qualifiers)
+
+same-length : tie.Need-same-length
+same-length c = search needs
+
+same-length-2 : tie.Need-same-length-2
+same-length-2 c = search needs
+
+returns : tie.Need-returns
+returns c =
+    let pre = c .before .before .before .before .before .before .before .before .before .before .before .before .before .before .before .before .before .before .before .before .before .pre in
+    let put-part = c .before .before .before .before .before .before .before .before .before .before .before .before .before .before .before .put-part .ensures in
+    let put-bare = c .before .before .before .before .before .before .before .before .before .before .before .put-bare .ensures in
+    let put-qualifiers = c .before .before .before .before .before .before .put-qualifiers .ensures in
+    located-made _ _ _ _ _ _ _ (pre .0) (pre .1) _ _ _ _ _ _ _ _ _ put-part put-bare put-qualifiers
+
+pub make-located-spec : {M : Type 1} → statement M
+make-located-spec =
+    tie.close
+    (tie.spec
+    sub-indent
+    put-part-requires
+    put-bare-requires
+    put-qualifiers-requires
+    sub-t26
+    add-t26
+    add-t29
+    same-length
+    same-length-2
+    returns)
