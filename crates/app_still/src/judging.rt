@@ -1,5 +1,5 @@
 // The member's question, record by record: read, written by the keeping writer and read again, is it still the same? The keeping writer's answer on an
-// empty slice tells (the theorem `rooms-come-back` of crate promise says so), so nothing has to be written.
+// empty slice tells (the theorem `rooms-come-back` of crate spec_promise says so), so nothing has to be written.
 use app_round::Round;
 use spec_format::Head;
 use spec_format::How;

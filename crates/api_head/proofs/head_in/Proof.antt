@@ -1,4 +1,4 @@
--- `headnumbers::head_in` meets its contract.
+-- `api_head::head_in` meets its contract.
 use borrow.Author.Needs.{needs}
 use Rattle.api_head.proofs.Laws.{ways, head-is}
 use Rattle.api_head.proofs.head_in.Statement.{statement}
@@ -74,7 +74,29 @@ number-at-requires-12 : tie.Need-number-at-requires-12
 number-at-requires-12 c κs = search (ways, needs)
 
 returns : tie.Need-returns
-returns c = head-is _ _ _ _ _ _ _ _ _ _ _ _ _ _ _ _ _ _ _ _ _ _ _ _ _ (c .before .before .before .before .before .before .before .before .before .before .before .before .before .before .before .before .before .before .before .before .before .before .before .before .pre) (c .before .before .before .before .before .before .before .before .before .before .before .before .before .before .before .before .before .before .before .before .before .before .text-at .ensures) (c .before .before .before .before .before .before .before .before .before .before .before .before .before .before .before .before .before .before .before .before .before .text-at2 .ensures) (c .before .before .before .before .before .before .before .before .before .before .before .before .before .before .before .before .before .before .before .before .number-at .ensures) (c .before .before .before .before .before .before .before .before .before .before .before .before .before .before .before .before .before .before .before .number-at2 .ensures) (c .before .before .before .before .before .before .before .before .before .before .before .before .before .before .before .before .before .before .number-at3 .ensures) (c .before .before .before .before .before .before .before .before .before .before .before .before .before .before .before .before .before .number-at4 .ensures) (c .before .before .before .before .before .before .before .before .before .before .before .before .before .before .before .before .number-at5 .ensures) (c .before .before .before .before .before .before .before .before .before .before .before .before .before .before .before .date-from .ensures) (c .before .before .before .before .before .before .before .before .before .before .before .before .before .before .number-at6 .ensures) (c .before .before .before .before .before .before .before .before .before .before .before .before .before .number-at7 .ensures) (c .before .before .before .before .before .before .before .before .before .before .before .before .text-at3 .ensures) (c .before .before .before .before .before .before .before .before .before .before .before .source-from .ensures) (c .before .before .before .before .before .before .before .before .before .before .number-at8 .ensures) (c .before .before .before .before .before .before .before .before .before .text-at4 .ensures) (c .before .before .before .before .before .before .before .before .text-at5 .ensures) (c .before .before .before .before .before .before .before .text-at6 .ensures) (c .before .before .before .before .before .before .text-at7 .ensures) (c .before .before .before .before .before .text-at8 .ensures) (c .before .before .before .before .number-at9 .ensures) (c .before .before .before .number-at10 .ensures) (c .before .before .number-at11 .ensures) (c .before .text-at9 .ensures) (c .number-at12 .ensures)
+returns c =
+    let c3 = c .before .before .before in
+    let c4 = c3 .before in
+    let c5 = c4 .before in
+    let c6 = c5 .before in
+    let c7 = c6 .before in
+    let c8 = c7 .before in
+    let c9 = c8 .before in
+    let c10 = c9 .before in
+    let c11 = c10 .before in
+    let c12 = c11 .before in
+    let c13 = c12 .before in
+    let c14 = c13 .before in
+    let c15 = c14 .before in
+    let c16 = c15 .before in
+    let c17 = c16 .before in
+    let c18 = c17 .before in
+    let c19 = c18 .before in
+    let c20 = c19 .before in
+    let c21 = c20 .before in
+    let c22 = c21 .before in
+    let c24 = c22 .before .before in
+    head-is _ _ _ _ _ _ _ _ _ _ _ _ _ _ _ _ _ _ _ _ _ _ _ _ _ (c24 .pre) (c22 .text-at .ensures) (c21 .text-at2 .ensures) (c20 .number-at .ensures) (c19 .number-at2 .ensures) (c18 .number-at3 .ensures) (c17 .number-at4 .ensures) (c16 .number-at5 .ensures) (c15 .date-from .ensures) (c14 .number-at6 .ensures) (c13 .number-at7 .ensures) (c12 .text-at3 .ensures) (c11 .source-from .ensures) (c10 .number-at8 .ensures) (c9 .text-at4 .ensures) (c8 .text-at5 .ensures) (c7 .text-at6 .ensures) (c6 .text-at7 .ensures) (c5 .text-at8 .ensures) (c4 .number-at9 .ensures) (c3 .number-at10 .ensures) (c .before .before .number-at11 .ensures) (c .before .text-at9 .ensures) (c .number-at12 .ensures)
 
 pub head-in-spec : {M : Type 1} → statement M
 head-in-spec =

@@ -65,7 +65,18 @@ both-requires-6 c κs = search needs
 
 returns : tie.Need-returns
 unfolding referenceTexts referenceIn
-returns c = both-is _ _ _ _ _ (c .both6 .ensures) (c .before .row-passes2 .ensures) (both-is _ _ _ _ _ (c .before .before .both5 .ensures) (c .before .before .before .row-may-pass5 .ensures) (both-is _ _ _ _ _ (c .before .before .before .before .both4 .ensures) (c .before .before .before .before .before .row-may-pass4 .ensures) (both-is _ _ _ _ _ (c .before .before .before .before .before .before .both3 .ensures) (c .before .before .before .before .before .before .before .row-passes .ensures) (both-is _ _ _ _ _ (c .before .before .before .before .before .before .before .before .both2 .ensures) (c .before .before .before .before .before .before .before .before .before .row-may-pass3 .ensures) (both-is _ _ _ _ _ (c .before .before .before .before .before .before .before .before .before .before .both .ensures) (c .before .before .before .before .before .before .before .before .before .before .before .row-may-pass2 .ensures) (c .before .before .before .before .before .before .before .before .before .before .before .before .row-may-pass .ensures))))))
+returns c =
+    let c3 = c .before .before .before in
+    let c4 = c3 .before in
+    let c5 = c4 .before in
+    let c6 = c5 .before in
+    let c7 = c6 .before in
+    let c8 = c7 .before in
+    let c9 = c8 .before in
+    let c10 = c9 .before in
+    let c11 = c10 .before in
+    let c12 = c11 .before in
+    both-is _ _ _ _ _ (c .both6 .ensures) (c .before .row-passes2 .ensures) (both-is _ _ _ _ _ (c .before .before .both5 .ensures) (c3 .row-may-pass5 .ensures) (both-is _ _ _ _ _ (c4 .both4 .ensures) (c5 .row-may-pass4 .ensures) (both-is _ _ _ _ _ (c6 .both3 .ensures) (c7 .row-passes .ensures) (both-is _ _ _ _ _ (c8 .both2 .ensures) (c9 .row-may-pass3 .ensures) (both-is _ _ _ _ _ (c10 .both .ensures) (c11 .row-may-pass2 .ensures) (c12 .row-may-pass .ensures))))))
 
 pub reference-passes-spec : {M : Type 1} → statement M
 reference-passes-spec =

@@ -1,4 +1,4 @@
--- `decimal::put_digits` meets its contract.
+-- `write_decimal::put_digits` meets its contract.
 use Rattle.base_pen.specs.Pen.{writes-nil, writes-append, writes-as}
 use Rattle.write_decimal.specs.Decimal.{digits-none, digits-last, digits-first}
 use native.Mathlib.Omega.{arith}
@@ -118,7 +118,11 @@ put-digits-returns-3 : (t : ℕ) → put-digits-lts.Need-returns-3 (
   put-digits-below t,
   put-digits.Post,
 ) (put-digits-at t) put-digits.Post
-put-digits-returns-3 t c = writes-as (digits-first _ _ (c .before .before .before .before .before .before .before .before .before .if1 .left) (c .before .before .before .before .before .before .before .before .if2 .left)) (writes-append (c .before .before .before .before .before .before .put-digits .ensures) (c .before .before .put-byte2 .ensures))
+put-digits-returns-3 t c =
+    let c6 = c .before .before .before .before .before .before in
+    let c8 = c6 .before .before in
+    let c9 = c8 .before in
+    writes-as (digits-first _ _ (c9 .if1 .left) (c8 .if2 .left)) (writes-append (c6 .put-digits .ensures) (c .before .before .put-byte2 .ensures))
 
 pub +put-digits-spec : {M : Type 1} → statement M
 +put-digits-spec = close μ-put-digits λ t. put-digits-lts.spec (

@@ -11,7 +11,9 @@ slice-aggregate-put-row : tie.Need-slice-aggregate-put-row
 slice-aggregate-put-row c = search needs
 
 put-row-requires : tie.Need-put-row-requires
-put-row-requires c κs = (search needs, record { small = c .before .before .before .before .before .pre .0; row = omega (arith, c .before .before .before .before .before .pre .1); inside = c .before .before .before .before .before .pre .2 .text }, c .before .before .before .before .before .pre .3, c .before .before .before .before .before .pre .4)
+put-row-requires c κs =
+    let c5 = c .before .before .before .before .before in
+    (search needs, record { small = c5 .pre .0; row = omega (arith, c5 .pre .1); inside = c5 .pre .2 .text }, c5 .pre .3, c5 .pre .4)
 
 slice-aggregate-put-row-maybe : tie.Need-slice-aggregate-put-row-maybe
 slice-aggregate-put-row-maybe c = search needs
@@ -20,7 +22,9 @@ add-put-row-maybe : tie.Need-add-put-row-maybe
 add-put-row-maybe c = search needs
 
 put-row-maybe-requires : tie.Need-put-row-maybe-requires
-put-row-maybe-requires c κs = (search needs, record { small = c .before .before .before .before .before .before .before .before .before .before .pre .0; row = omega (arith, c .before .before .before .before .before .before .before .before .before .before .pre .1); inside = c .before .before .before .before .before .before .before .before .before .before .pre .2 .authors }, c .before .before .before .before .before .before .before .before .before .before .pre .3, c .before .before .before .before .before .before .before .before .before .before .pre .4)
+put-row-maybe-requires c κs =
+    let c10 = c .before .before .before .before .before .before .before .before .before .before in
+    (search needs, record { small = c10 .pre .0; row = omega (arith, c10 .pre .1); inside = c10 .pre .2 .authors }, c10 .pre .3, c10 .pre .4)
 
 slice-aggregate-put-row-maybe-2 : tie.Need-slice-aggregate-put-row-maybe-2
 slice-aggregate-put-row-maybe-2 c = search needs
@@ -29,14 +33,19 @@ add-put-row-maybe-2 : tie.Need-add-put-row-maybe-2
 add-put-row-maybe-2 c = search needs
 
 put-row-maybe-requires-2 : tie.Need-put-row-maybe-requires-2
-put-row-maybe-requires-2 c κs = (search needs, record { small = c .before .before .before .before .before .before .before .before .before .before .before .before .before .before .before .pre .0; row = omega (arith, c .before .before .before .before .before .before .before .before .before .before .before .before .before .before .before .pre .1); inside = c .before .before .before .before .before .before .before .before .before .before .before .before .before .before .before .pre .2 .consrtm }, c .before .before .before .before .before .before .before .before .before .before .before .before .before .before .before .pre .3, c .before .before .before .before .before .before .before .before .before .before .before .before .before .before .before .pre .4)
+put-row-maybe-requires-2 c κs =
+    let c15 = c .before .before .before .before .before .before .before .before .before .before .before .before .before .before .before in
+    (search needs, record { small = c15 .pre .0; row = omega (arith, c15 .pre .1); inside = c15 .pre .2 .consrtm }, c15 .pre .3, c15 .pre .4)
 
 same-length : tie.Need-same-length
 same-length c = search needs
 
 returns : tie.Need-returns
 unfolding referenceStart referenceIn
-returns c = writes-append (writes-append (c .before .before .before .before .before .before .before .before .before .before .before .before .put-row .ensures) (c .before .before .before .before .before .before .before .put-row-maybe .ensures)) (c .before .before .put-row-maybe2 .ensures)
+returns c =
+    let c7 = c .before .before .before .before .before .before .before in
+    let c12 = c7 .before .before .before .before .before in
+    writes-append (writes-append (c12 .put-row .ensures) (c7 .put-row-maybe .ensures)) (c .before .before .put-row-maybe2 .ensures)
 
 pub put-reference-start-spec : {M : Type 1} → statement M
 put-reference-start-spec =

@@ -19,7 +19,9 @@ shared-slice-read-n : tie.Need-shared-slice-read-n
 shared-slice-read-n c = search needs
 
 returns : tie.Need-returns
-returns c = writes-as (ap (maybeLines (c .before .before .before .before .before .before .args .width) (now (c .before .before .before .before .before .before .args .word))) (perhaps-none (now (c .before .before .before .before .before .before .args .texts)) _ _ (c .if1 .taken))) writes-nil
+returns c =
+    let c6 = c .before .before .before .before .before .before in
+    writes-as (ap (maybeLines (c6 .args .width) (now (c6 .args .word))) (perhaps-none (now (c6 .args .texts)) _ _ (c .if1 .taken))) writes-nil
 
 mul-put-span : tie.Need-mul-put-span
 mul-put-span c = search needs
@@ -31,13 +33,18 @@ sub-put-span : tie.Need-sub-put-span
 sub-put-span c = search needs
 
 put-span-requires : tie.Need-put-span-requires
-put-span-requires c κs = (c .before .before .before .before .before .before .before .before .pre .0, record { small = c .before .before .before .before .before .before .before .before .pre .1 .small; inside = c .before .before .before .before .before .before .before .before .pre .1 .inside (omega arith) }, c .before .before .before .before .before .before .before .before .pre .2, c .before .before .before .before .before .before .before .before .pre .3)
+put-span-requires c κs =
+    let c8 = c .before .before .before .before .before .before .before .before in
+    (c8 .pre .0, record { small = c8 .pre .1 .small; inside = c8 .pre .1 .inside (omega arith) }, c8 .pre .2, c8 .pre .3)
 
 same-length : tie.Need-same-length
 same-length c = search needs
 
 returns-2 : tie.Need-returns-2
-returns-2 c = writes-as (ap (maybeLines (c .before .before .before .before .before .before .before .before .before .before .before .args .width) (now (c .before .before .before .before .before .before .before .before .before .before .before .args .word))) (perhaps-some (now (c .before .before .before .before .before .before .before .before .before .before .before .args .texts)) _ _ (c .before .before .before .before .before .if1 .left))) (c .before .before .put-span .ensures)
+returns-2 c =
+    let c5 = c .before .before .before .before .before in
+    let c11 = c5 .before .before .before .before .before .before in
+    writes-as (ap (maybeLines (c11 .args .width) (now (c11 .args .word))) (perhaps-some (now (c11 .args .texts)) _ _ (c5 .if1 .left))) (c .before .before .put-span .ensures)
 
 pub put-row-maybe-spec : {M : Type 1} → statement M
 put-row-maybe-spec =

@@ -1,4 +1,4 @@
--- `locusparts::put_year` meets its contract.
+-- `write_locus_parts::put_year` meets its contract.
 use Rattle.base_pen.specs.Pen.{writes-append}
 use borrow.Author.Needs.{needs}
 use Rattle.write_locus_parts.proofs.put_year.Statement.{statement}
@@ -47,7 +47,12 @@ same-length : tie.Need-same-length
 same-length c = search needs
 
 returns : tie.Need-returns
-returns c = writes-append (writes-append (writes-append (writes-append (c .before .before .before .before .before .before .before .before .before .before .before .before .before .before .before .before .before .before .put-byte .ensures) (c .before .before .before .before .before .before .before .before .before .before .before .before .before .before .put-byte2 .ensures)) (c .before .before .before .before .before .before .before .before .before .before .put-byte3 .ensures)) (c .before .before .before .before .before .before .put-byte4 .ensures)) (c .before .before .put-byte5 .ensures)
+returns c =
+    let c6 = c .before .before .before .before .before .before in
+    let c10 = c6 .before .before .before .before in
+    let c14 = c10 .before .before .before .before in
+    let c18 = c14 .before .before .before .before in
+    writes-append (writes-append (writes-append (writes-append (c18 .put-byte .ensures) (c14 .put-byte2 .ensures)) (c10 .put-byte3 .ensures)) (c6 .put-byte4 .ensures)) (c .before .before .put-byte5 .ensures)
 
 pub put-year-spec : {M : Type 1} → statement M
 put-year-spec =

@@ -1,4 +1,4 @@
--- `origin::column` meets its contract.
+-- `write_origin::column` meets its contract.
 use borrow.Author.Tests.{eq-eqb, ne-eqb}
 use borrow.Author.Needs.{needs}
 use Rattle.write_origin.proofs.column.Statement.{statement}
