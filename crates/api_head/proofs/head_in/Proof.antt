@@ -1,77 +1,56 @@
--- `api_head::head_in` meets its contract.
+-- A head of what is found at each of its places.
+use Rattle.api_head.proofs.Laws.{head-is}
 use borrow.Author.Needs.{needs}
-use Rattle.api_head.proofs.Laws.{ways, head-is}
 use Rattle.api_head.proofs.head_in.Statement.{statement}
 use Rattle.api_head.proofs.head_in.Tie as tie
 
 text-at-requires : tie.Need-text-at-requires
-text-at-requires c κs = search (ways, needs)
+text-at-requires c κs = search needs
 
 text-at-requires-2 : tie.Need-text-at-requires-2
-text-at-requires-2 c κs = search (ways, needs)
+text-at-requires-2 c κs = search needs
 
 number-at-requires : tie.Need-number-at-requires
-number-at-requires c κs = search (ways, needs)
+number-at-requires c κs = search needs
 
-number-at-requires-2 : tie.Need-number-at-requires-2
-number-at-requires-2 c κs = search (ways, needs)
+span-at-requires : tie.Need-span-at-requires
+span-at-requires c κs = search needs
 
-number-at-requires-3 : tie.Need-number-at-requires-3
-number-at-requires-3 c κs = search (ways, needs)
-
-number-at-requires-4 : tie.Need-number-at-requires-4
-number-at-requires-4 c κs = search (ways, needs)
-
-number-at-requires-5 : tie.Need-number-at-requires-5
-number-at-requires-5 c κs = search (ways, needs)
-
-date-from-requires : tie.Need-date-from-requires
-date-from-requires c κs = search (ways, needs)
-
-number-at-requires-6 : tie.Need-number-at-requires-6
-number-at-requires-6 c κs = search (ways, needs)
-
-number-at-requires-7 : tie.Need-number-at-requires-7
-number-at-requires-7 c κs = search (ways, needs)
+date-at-requires : tie.Need-date-at-requires
+date-at-requires c κs = search needs
 
 text-at-requires-3 : tie.Need-text-at-requires-3
-text-at-requires-3 c κs = search (ways, needs)
-
-source-from-requires : tie.Need-source-from-requires
-source-from-requires c κs = search (ways, needs)
-
-number-at-requires-8 : tie.Need-number-at-requires-8
-number-at-requires-8 c κs = search (ways, needs)
+text-at-requires-3 c κs = search needs
 
 text-at-requires-4 : tie.Need-text-at-requires-4
-text-at-requires-4 c κs = search (ways, needs)
+text-at-requires-4 c κs = search needs
 
 text-at-requires-5 : tie.Need-text-at-requires-5
-text-at-requires-5 c κs = search (ways, needs)
+text-at-requires-5 c κs = search needs
 
 text-at-requires-6 : tie.Need-text-at-requires-6
-text-at-requires-6 c κs = search (ways, needs)
+text-at-requires-6 c κs = search needs
 
 text-at-requires-7 : tie.Need-text-at-requires-7
-text-at-requires-7 c κs = search (ways, needs)
+text-at-requires-7 c κs = search needs
+
+source-at-requires : tie.Need-source-at-requires
+source-at-requires c κs = search needs
+
+number-at-requires-2 : tie.Need-number-at-requires-2
+number-at-requires-2 c κs = search needs
+
+number-at-requires-3 : tie.Need-number-at-requires-3
+number-at-requires-3 c κs = search needs
+
+number-at-requires-4 : tie.Need-number-at-requires-4
+number-at-requires-4 c κs = search needs
 
 text-at-requires-8 : tie.Need-text-at-requires-8
-text-at-requires-8 c κs = search (ways, needs)
+text-at-requires-8 c κs = search needs
 
-number-at-requires-9 : tie.Need-number-at-requires-9
-number-at-requires-9 c κs = search (ways, needs)
-
-number-at-requires-10 : tie.Need-number-at-requires-10
-number-at-requires-10 c κs = search (ways, needs)
-
-number-at-requires-11 : tie.Need-number-at-requires-11
-number-at-requires-11 c κs = search (ways, needs)
-
-text-at-requires-9 : tie.Need-text-at-requires-9
-text-at-requires-9 c κs = search (ways, needs)
-
-number-at-requires-12 : tie.Need-number-at-requires-12
-number-at-requires-12 c κs = search (ways, needs)
+number-at-requires-5 : tie.Need-number-at-requires-5
+number-at-requires-5 c κs = search needs
 
 returns : tie.Need-returns
 returns c =
@@ -88,15 +67,10 @@ returns c =
     let c13 = c12 .before in
     let c14 = c13 .before in
     let c15 = c14 .before in
-    let c16 = c15 .before in
-    let c17 = c16 .before in
-    let c18 = c17 .before in
-    let c19 = c18 .before in
-    let c20 = c19 .before in
-    let c21 = c20 .before in
-    let c22 = c21 .before in
-    let c24 = c22 .before .before in
-    head-is _ _ _ _ _ _ _ _ _ _ _ _ _ _ _ _ _ _ _ _ _ _ _ _ _ (c24 .pre) (c22 .text-at .ensures) (c21 .text-at2 .ensures) (c20 .number-at .ensures) (c19 .number-at2 .ensures) (c18 .number-at3 .ensures) (c17 .number-at4 .ensures) (c16 .number-at5 .ensures) (c15 .date-from .ensures) (c14 .number-at6 .ensures) (c13 .number-at7 .ensures) (c12 .text-at3 .ensures) (c11 .source-from .ensures) (c10 .number-at8 .ensures) (c9 .text-at4 .ensures) (c8 .text-at5 .ensures) (c7 .text-at6 .ensures) (c6 .text-at7 .ensures) (c5 .text-at8 .ensures) (c4 .number-at9 .ensures) (c3 .number-at10 .ensures) (c .before .before .number-at11 .ensures) (c .before .text-at9 .ensures) (c .number-at12 .ensures)
+    let c17 = c15 .before .before in
+    head-is _ _ _ _ _ _ _ _ _ _ _ _ _ _ _ _ _ _ (c17 .pre) (c15 .text-at .ensures) (c14 .text-at2 .ensures) (c13 .number-at .ensures) (c12 .span-at .ensures) (c11 .date-at .ensures) (c10 .text-at3 .ensures)
+    (c9 .text-at4 .ensures) (c8 .text-at5 .ensures) (c7 .text-at6 .ensures) (c6 .text-at7 .ensures) (c5 .source-at .ensures) (c4 .number-at2 .ensures)
+    (c3 .number-at3 .ensures) (c .before .before .number-at4 .ensures) (c .before .text-at8 .ensures) (c .number-at5 .ensures)
 
 pub head-in-spec : {M : Type 1} → statement M
 head-in-spec =
@@ -105,24 +79,17 @@ head-in-spec =
     text-at-requires
     text-at-requires-2
     number-at-requires
-    number-at-requires-2
-    number-at-requires-3
-    number-at-requires-4
-    number-at-requires-5
-    date-from-requires
-    number-at-requires-6
-    number-at-requires-7
+    span-at-requires
+    date-at-requires
     text-at-requires-3
-    source-from-requires
-    number-at-requires-8
     text-at-requires-4
     text-at-requires-5
     text-at-requires-6
     text-at-requires-7
+    source-at-requires
+    number-at-requires-2
+    number-at-requires-3
+    number-at-requires-4
     text-at-requires-8
-    number-at-requires-9
-    number-at-requires-10
-    number-at-requires-11
-    text-at-requires-9
-    number-at-requires-12
+    number-at-requires-5
     returns)
