@@ -50,7 +50,10 @@ returns-2 : tie.Need-returns-2
 returns-2 c =
     let c3 = c .before .before .before in
     let c7 = c3 .before .before .before .before in
-    let y : getD (now (c7 .args .rows)) (c7 .args .at) 0 + (getD (now (c7 .args .rows)) (c7 .args .at + 1) 0 - 1) - getD (now (c7 .args .rows)) (c7 .args .at) 0 ≡ getD (now (c7 .args .rows)) (c7 .args .at + 1) 0 - 1 = omega arith in perhaps-is (all (but 10)) _ _ _ _ (c3 .if1 .left) (rw y at (c .without .ensures))
+    let start = getD (now (c7 .args .rows)) (c7 .args .at) 0 in
+    let n = getD (now (c7 .args .rows)) (c7 .args .at + 1) 0 in
+    let y : start + (n - 1) - start ≡ n - 1 = omega arith in
+    perhaps-is (all (but 10)) _ _ _ _ (c3 .if1 .left) (rw y at (c .without .ensures))
 
 pub one-line-spec : {M : Type 1} → statement M
 one-line-spec =

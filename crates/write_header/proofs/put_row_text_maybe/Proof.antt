@@ -6,8 +6,8 @@ use borrow.Author.Needs.{needs}
 use denote.Ref.{now}
 use mathlib.Core.Path.{ap}
 use native.Mathlib.Omega.{arith}
-use Rattle.write_header.proofs.put_row_maybe.Statement.{statement}
-use Rattle.write_header.proofs.put_row_maybe.Tie as tie
+use Rattle.write_header.proofs.put_row_text_maybe.Statement.{statement}
+use Rattle.write_header.proofs.put_row_text_maybe.Tie as tie
 
 add-n : tie.Need-add-n
 add-n c = search needs
@@ -46,8 +46,8 @@ returns-2 c =
     let c11 = c5 .before .before .before .before .before .before in
     writes-as (ap (maybeLines (c11 .args .width) (now (c11 .args .word))) (perhaps-some (now (c11 .args .texts)) _ _ (c5 .if1 .left))) (c .before .before .put-span .ensures)
 
-pub put-row-maybe-spec : {M : Type 1} → statement M
-put-row-maybe-spec =
+pub put-row-text-maybe-spec : {M : Type 1} → statement M
+put-row-text-maybe-spec =
     tie.close
     (tie.spec
     add-n
