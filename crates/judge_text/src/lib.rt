@@ -65,7 +65,7 @@ pub fn printing_all(s: &[u8]) -> bool
 {
     let mut i = 0;
     while i < s.len() {
-        if !is_between(32, 126, s[i]) {
+        if !is_between(b' ', b'~', s[i]) {
             return false;
         }
         i += 1;
@@ -285,7 +285,7 @@ fn bare_kept(width: usize, key: &[u8], value: &[u8]) -> bool
     requires { ⌜ (length (now key) ≤ 16777216) × (length (now value) ≤ 16777216) ⌝ }
     ensures { λ r. ⌜ r ≡ bareKept width (now (key .entry)) (now (value .entry)) ⌝ }
 {
-    let ends = both(without(value, 10), without(value, 13));
+    let ends = both(without(value, b'\n'), without(value, b'\r'));
     let short = 23 + key.len() + value.len() < width;
     both(ends, both(!begins(value, b'"'), short))
 }

@@ -7,38 +7,38 @@ use Rattle.write_locus_parts.proofs.put_year.Tie as tie
 put-byte-requires : tie.Need-put-byte-requires
 put-byte-requires c κs = search needs
 
-add-put-byte : tie.Need-add-put-byte
-add-put-byte c = search needs
-
 cast-put-byte : tie.Need-cast-put-byte
 cast-put-byte c = search needs
+
+add-put-byte : tie.Need-add-put-byte
+add-put-byte c = search needs
 
 put-byte-requires-2 : tie.Need-put-byte-requires-2
 put-byte-requires-2 c κs = search needs
 
-add-put-byte-2 : tie.Need-add-put-byte-2
-add-put-byte-2 c = search needs
-
 cast-put-byte-2 : tie.Need-cast-put-byte-2
 cast-put-byte-2 c = search needs
+
+add-put-byte-2 : tie.Need-add-put-byte-2
+add-put-byte-2 c = search needs
 
 put-byte-requires-3 : tie.Need-put-byte-requires-3
 put-byte-requires-3 c κs = search needs
 
-add-put-byte-3 : tie.Need-add-put-byte-3
-add-put-byte-3 c = search needs
-
 cast-put-byte-3 : tie.Need-cast-put-byte-3
 cast-put-byte-3 c = search needs
+
+add-put-byte-3 : tie.Need-add-put-byte-3
+add-put-byte-3 c = search needs
 
 put-byte-requires-4 : tie.Need-put-byte-requires-4
 put-byte-requires-4 c κs = search needs
 
-add-put-byte-4 : tie.Need-add-put-byte-4
-add-put-byte-4 c = search needs
-
 cast-put-byte-4 : tie.Need-cast-put-byte-4
 cast-put-byte-4 c = search needs
+
+add-put-byte-4 : tie.Need-add-put-byte-4
+add-put-byte-4 c = search needs
 
 put-byte-requires-5 : tie.Need-put-byte-requires-5
 put-byte-requires-5 c κs = search needs
@@ -59,17 +59,17 @@ put-year-spec =
     tie.close
     (tie.spec
     put-byte-requires
-    add-put-byte
     cast-put-byte
+    add-put-byte
     put-byte-requires-2
-    add-put-byte-2
     cast-put-byte-2
+    add-put-byte-2
     put-byte-requires-3
-    add-put-byte-3
     cast-put-byte-3
+    add-put-byte-3
     put-byte-requires-4
-    add-put-byte-4
     cast-put-byte-4
+    add-put-byte-4
     put-byte-requires-5
     same-length
     returns)
