@@ -41,7 +41,7 @@ pub fn unread_place(why: Unread, at: usize) -> usize
 }
 
 // The number of a refusal to write.
-pub fn unwritten_number(why: Unwritten) -> usize
+fn unwritten_number(why: Unwritten) -> usize
     ensures { λ r. ⌜ r ≡ write.number (answered.Refused why) ⌝ }
 {
     match why {

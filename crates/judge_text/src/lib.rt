@@ -46,7 +46,7 @@ fn visible_from(s: &[u8], at: usize) -> bool
 }
 
 // All bytes are 33 to 126.
-pub fn visible_all(s: &[u8]) -> bool
+fn visible_all(s: &[u8]) -> bool
     ensures { λ r. ⌜ r ≡ all visible (now (s .entry)) ⌝ }
 {
     let mut i = 0;
@@ -219,7 +219,7 @@ pub fn without_spaces(s: &[u8]) -> bool
 }
 
 // No CR, no LF at the end, and each line with what stands before it shorter than the width; quotes count twice where they are doubled.
-pub fn lines_kept(text: &[u8], quote: bool, width: usize, indent: usize, start: usize) -> bool
+fn lines_kept(text: &[u8], quote: bool, width: usize, indent: usize, start: usize) -> bool
     requires { ⌜ Small indent start (length (now text)) ⌝ }
     ensures { λ r. ⌜ r ≡ linesKept quote width indent start (now (text .entry)) ⌝ }
 {

@@ -21,11 +21,13 @@ use Rattle.spec_format.specs.Locus.{preamble, tokens, dateOf, dateToken, locusF
 use Rattle.spec_format.specs.Origin.{originTag, letters}
 use Rattle.spec_format.specs.Readers.{tag, until, line, lineEnd, membersUpTo, endUpTo, members, end}
 use Rattle.spec_format.specs.Record.{features, slashesLater, middle, tableFrom, readRecord, readAt}
-use Rattle.spec_format.specs.Rooms.{textsOf, rowsOf, featureText, featureRows, qualifierRows, qualifierCount, piecesText, piecesRow, layout, sizes, headOf, rowsFrom, tableOf, rowsFine, featuresFine, lengthsFine, headFine, countsFine, roomsFine}
+use Rattle.spec_format.specs.Rooms.{textsOf, rowsOf, featureText, featureRows, qualifierRows, qualifierCount, piecesText, piecesRow, layout, sizes}
+use Rattle.spec_format.specs.Rooms.{headOf, rowsFrom, tableOf, rowsFine, featuresFine, lengthsFine, headFine, countsFine, roomsFine}
 use Rattle.spec_format.specs.Utf8.{chars, utf8}
 use Rattle.spec_format.specs.WellFormed.{referenceTexts, headerTexts, locusFine, qualifierFine, featureFine, lettersFine, wellFormed}
 use Rattle.spec_format.specs.Wrap.{fill, closing, linesAfter, wrapped, wrapText, lastComma, breakAt, commaLines, wrapLocation}
-use Rattle.spec_format.specs.Write.{lengthText, white, blanked, words, joined, printedName, locusText, fieldLines, referenceLines, headerLines, commaKey, bareKey, valueLines, qualifierLines, featureLines, featuresLines, letterLines, originLines, written}
+use Rattle.spec_format.specs.Write.{lengthText, white, blanked, words, joined, printedName, locusText, fieldLines, referenceLines, headerLines}
+use Rattle.spec_format.specs.Write.{commaKey, bareKey, valueLines, qualifierLines, featureLines, featuresLines, letterLines, originLines, written}
 
 -- ---- equal texts, in tables whose shapes the examples have
 
