@@ -19,7 +19,8 @@ use Rattle.spec_format.specs.declared.Dated.{Dated}
 use Rattle.spec_format.specs.declared.Dated.the-variants as dated
 use Rattle.spec_format.specs.declared.Head.{Head}
 use Rattle.base_pen.specs.Pen.{Writes, writes-append}
-use Rattle.api_head.specs.Numbers.{largest, textNumbers, sourceNumbers, lengthNumbers, dateNumbers, above, lower, textFrom, sourceFrom, lengthFrom, onDate, dateFrom, textIn, headIn, outside, headFrom}
+use Rattle.api_head.specs.Numbers.{largest, textNumbers, sourceNumbers, lengthNumbers, dateNumbers, above, lower, textFrom, sourceFrom, lengthFrom}
+use Rattle.api_head.specs.Numbers.{onDate, dateFrom, textIn, spanIn, sourceIn, dateIn, headIn, outside, headFrom}
 
 pub above-less : (n : ℕ) → n < largest → n + 1 ≡ above n
 above-less n h = rw (lt-ltb n largest h)
@@ -72,19 +73,18 @@ module _ (ns : List ℕ) (h : Head) where
   enough l m e = rw (le-leb 31 (length ns) l, le-leb (getD ns 2 0) 4294967296 m) e
 
 -- a head made of what was found
-module _ (ns : List ℕ) (length : Length) (name molecule definition accession version dblink keywords organism contig : Text) (date : Dated) (source : SourceText)
-    (flag start n day month year at above references comments features letters : ℕ) where
-  pub head-is : length ≡ lengthFrom (getD ns 2 0) → name ≡ textIn ns 0 → molecule ≡ textIn ns 3 → start ≡ getD ns 6 0 → n ≡ getD ns 7 0
-      → day ≡ getD ns 8 0 → month ≡ getD ns 9 0 → year ≡ getD ns 10 0 → date ≡ dateFrom day month year
-      → at ≡ getD ns 21 0 → above ≡ getD ns 22 0 → organism ≡ textIn ns 23 → source ≡ sourceFrom at above organism → flag ≡ getD ns 5 0
-      → definition ≡ textIn ns 11 → accession ≡ textIn ns 13 → version ≡ textIn ns 15 → dblink ≡ textIn ns 17 → keywords ≡ textIn ns 19
-      → references ≡ getD ns 25 0 → comments ≡ getD ns 26 0 → features ≡ getD ns 27 0 → contig ≡ textIn ns 28 → letters ≡ getD ns 30 0
+module _ (ns : List ℕ) (length : Length) (name molecule definition accession version dblink keywords contig : Text) (division : Span) (date : Dated)
+    (source : SourceText) (flag references comments features letters : ℕ) where
+  pub head-is : length ≡ lengthFrom (getD ns 2 0) → name ≡ textIn ns 0 → molecule ≡ textIn ns 3 → flag ≡ getD ns 5 0 → division ≡ spanIn ns 6
+      → date ≡ dateIn ns 8 → definition ≡ textIn ns 11 → accession ≡ textIn ns 13 → version ≡ textIn ns 15 → dblink ≡ textIn ns 17
+      → keywords ≡ textIn ns 19 → source ≡ sourceIn ns 21 → references ≡ getD ns 25 0 → comments ≡ getD ns 26 0 → features ≡ getD ns 27 0
+      → contig ≡ textIn ns 28 → letters ≡ getD ns 30 0
       → record {
         name = name;
         length = length;
         molecule = molecule;
         circular = not (eqb flag 0);
-        division = record { start = start; length = n };
+        division = division;
         date = date;
         definition = definition;
         accession = accession;
@@ -99,8 +99,8 @@ module _ (ns : List ℕ) (length : Length) (name molecule definition accession v
         letters = letters;
       } ≡ headIn ns
   unfolding headIn
-  head-is e₁ e₂ e₃ e₄ e₅ e₆ e₇ e₈ e₉ f₁ f₂ f₃ f₄ f₅ f₆ f₇ f₈ f₉ g₁ g₂ g₃ g₄ g₅ g₆ =
-      rw (e₁, e₂, e₃, e₄, e₅, e₉, e₆, e₇, e₈, f₄, f₁, f₂, f₃, f₅, f₆, f₇, f₈, f₉, g₁, g₂, g₃, g₄, g₅, g₆)
+  head-is e₁ e₂ e₃ e₄ e₅ e₆ e₇ e₈ e₉ f₁ f₂ f₃ f₄ f₅ f₆ f₇ f₈ =
+      rw (e₁, e₂, e₃, e₄, e₅, e₆, e₇, e₈, e₉, f₁, f₂, f₃, f₄, f₅, f₆, f₇, f₈)
 
 -- what was put, by which value it is
 module _ (l n : List ℕ) (i k : ℕ) where

@@ -92,6 +92,15 @@ dateFrom d m y = pick (eqb d 0 && (eqb m 0 && eqb y 0)) dated.Absent (onDate d m
 abbrev pub textIn : List ℕ → ℕ → Text
 textIn ns i = textFrom (getD ns i 0) (getD ns (i + 1) 0)
 
+abbrev pub spanIn : List ℕ → ℕ → Span
+spanIn ns i = record { start = getD ns i 0; length = getD ns (i + 1) 0 }
+
+abbrev pub sourceIn : List ℕ → ℕ → SourceText
+sourceIn ns i = sourceFrom (getD ns i 0) (getD ns (i + 1) 0) (textIn ns (i + 2))
+
+abbrev pub dateIn : List ℕ → ℕ → Dated
+dateIn ns i = dateFrom (getD ns i 0) (getD ns (i + 1) 0) (getD ns (i + 2) 0)
+
 unfoldable pub headIn : List ℕ → Head
 headIn ns =
     record {
@@ -99,14 +108,14 @@ headIn ns =
       length = lengthFrom (getD ns 2 0);
       molecule = textIn ns 3;
       circular = not (eqb (getD ns 5 0) 0);
-      division = record { start = getD ns 6 0; length = getD ns 7 0 };
-      date = dateFrom (getD ns 8 0) (getD ns 9 0) (getD ns 10 0);
+      division = spanIn ns 6;
+      date = dateIn ns 8;
       definition = textIn ns 11;
       accession = textIn ns 13;
       version = textIn ns 15;
       dblink = textIn ns 17;
       keywords = textIn ns 19;
-      source = sourceFrom (getD ns 21 0) (getD ns 22 0) (textIn ns 23);
+      source = sourceIn ns 21;
       references = getD ns 25 0;
       comments = getD ns 26 0;
       features = getD ns 27 0;

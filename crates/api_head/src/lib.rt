@@ -15,7 +15,8 @@ ghost use mathlib.Core.List.{[], _∷_};
 ghost use Prim.Native.Nat.{_≤_};
 ghost use lib.ListN.{getD};
 ghost use Rattle.base_pen.specs.Pen.{Writes};
-ghost use Rattle.api_head.specs.Numbers.{above, flag, textNumbers, sourceNumbers, lengthNumbers, dateNumbers, locusNumbers, fieldNumbers, restNumbers, headNumbers, lower, textFrom, textIn, sourceFrom, lengthFrom, onDate, dateFrom, headIn, outside, headFrom};
+ghost use Rattle.api_head.specs.Numbers.{above, flag, textNumbers, sourceNumbers, lengthNumbers, dateNumbers, locusNumbers, fieldNumbers, restNumbers, headNumbers, lower, textFrom};
+ghost use Rattle.api_head.specs.Numbers.{textIn, spanIn, sourceFrom, sourceIn, lengthFrom, onDate, dateFrom, dateIn, headIn, outside, headFrom};
 
 // ---- to numbers
 
@@ -234,32 +235,48 @@ fn date_from(day: usize, month: usize, year: usize) -> Dated
     date_on(day, month, year)
 }
 
+fn span_at(ns: &[usize], i: usize) -> Span
+    requires { ⌜ i ≤ 30 ⌝ }
+    ensures { λ r. ⌜ r ≡ spanIn (now (ns .entry)) i ⌝ }
+{
+    Span {
+        start: number_at(ns, i),
+        length: number_at(ns, i + 1),
+    }
+}
+
+fn date_at(ns: &[usize], i: usize) -> Dated
+    requires { ⌜ i ≤ 30 ⌝ }
+    ensures { λ r. ⌜ r ≡ dateIn (now (ns .entry)) i ⌝ }
+{
+    date_from(number_at(ns, i), number_at(ns, i + 1), number_at(ns, i + 2))
+}
+
+fn source_at(ns: &[usize], i: usize) -> SourceText
+    requires { ⌜ i ≤ 28 ⌝ }
+    ensures { λ r. ⌜ r ≡ sourceIn (now (ns .entry)) i ⌝ }
+{
+    source_from(number_at(ns, i), number_at(ns, i + 1), text_at(ns, i + 2))
+}
+
 // The head of 31 numbers.
 fn head_in(ns: &[usize], length: Length) -> Head
     requires { ⌜ length ≡ lengthFrom (getD (now ns) 2 0) ⌝ }
     ensures { λ r. ⌜ r ≡ headIn (now (ns .entry)) ⌝ }
 {
-    let name = text_at(ns, 0);
-    let molecule = text_at(ns, 3);
-    let division = Span {
-        start: number_at(ns, 6),
-        length: number_at(ns, 7),
-    };
-    let date = date_from(number_at(ns, 8), number_at(ns, 9), number_at(ns, 10));
-    let source = source_from(number_at(ns, 21), number_at(ns, 22), text_at(ns, 23));
     Head {
-        name: name,
+        name: text_at(ns, 0),
         length: length,
-        molecule: molecule,
+        molecule: text_at(ns, 3),
         circular: number_at(ns, 5) != 0,
-        division: division,
-        date: date,
+        division: span_at(ns, 6),
+        date: date_at(ns, 8),
         definition: text_at(ns, 11),
         accession: text_at(ns, 13),
         version: text_at(ns, 15),
         dblink: text_at(ns, 17),
         keywords: text_at(ns, 19),
-        source: source,
+        source: source_at(ns, 21),
         references: number_at(ns, 25),
         comments: number_at(ns, 26),
         features: number_at(ns, 27),

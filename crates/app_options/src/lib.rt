@@ -24,7 +24,7 @@ fn digit(b: u8) -> usize
     if b'9' < b {
         return 1000;
     }
-    (b - 48) as usize
+    (b - b'0') as usize
 }
 
 // The number that two or three digits say, or one that is no width.

@@ -1,4 +1,4 @@
-// Document 01's numbers and values for the answers, as the definitions of `format` give them, and the words for each number.
+// Document 01's numbers and values for the answers, as the definitions of `spec_format` give them, and the words for each number.
 use spec_format::Unread;
 use spec_format::Unwritten;
 use spec_format::WriteAnswer;
@@ -41,7 +41,7 @@ pub fn unread_place(why: Unread, at: usize) -> usize
 }
 
 // The number of a refusal to write.
-pub fn unwritten_number(why: Unwritten) -> usize
+fn unwritten_number(why: Unwritten) -> usize
     ensures { λ r. ⌜ r ≡ write.number (answered.Refused why) ⌝ }
 {
     match why {
@@ -74,10 +74,10 @@ pub fn write_value(answer: WriteAnswer) -> usize
     }
 }
 
-// Why, in words, on the descriptor `fd`.
-pub fn tell(fd: i32, number: usize) {
+// The words for the numbers that are about an input and a place in it.
+fn tell_input(fd: i32, number: usize) {
     if number == 1 {
-        io::write_all(fd, b"the place is the end of the input");
+        io::write_all(fd, b"the place is the end of the input: no more records");
     }
     if number == 2 {
         io::write_all(fd, b"the input ends inside the record");
@@ -88,34 +88,52 @@ pub fn tell(fd: i32, number: usize) {
             b"the place is beyond the input, or the input is longer than 16,777,216 bytes",
         );
     }
+}
+
+// The words for the numbers that are about a record.
+fn tell_record(fd: i32, number: usize) {
     if number == 4 {
         io::write_all(fd, b"no LOCUS line");
     }
     if number == 5 {
         io::write_all(fd, b"a second DEFINITION");
     }
+    if number == 7 {
+        io::write_all(fd, b"a line that is no feature, qualifier, section or //");
+    }
+    if number == 8 {
+        io::write_all(fd, b"the letters are not as many as LOCUS says");
+    }
+    if number == 9 {
+        io::write_all(fd, b"a byte that cannot stand among the letters");
+    }
+}
+
+// The words for the numbers that are about rooms, and a table in them.
+fn tell_table(fd: i32, number: usize) {
     if number == 6 {
         io::write_all(fd, b"the room is too small");
     }
-    if number == 7 {
-        io::write_all(fd, b"// does not stand where the sections end");
-    }
-    if number == 8 {
-        io::write_all(fd, b"the letters do not number the length that LOCUS gives");
-    }
-    if number == 9 {
-        io::write_all(fd, b"a byte in the sequence that cannot stand there");
-    }
     if number == 10 {
-        io::write_all(fd, b"the table does not lie in its rooms");
+        io::write_all(fd, b"a text or row of the table lies outside its room");
     }
     if number == 11 {
-        io::write_all(fd, b"a text that cannot be laid out");
+        io::write_all(fd, b"a text, date or sequence that cannot be laid out");
     }
     if number == 12 {
         io::write_all(fd, b"the width is not 60 to 132");
     }
     if number == 13 {
-        io::write_all(fd, b"a keeping rule is broken");
+        io::write_all(
+            fd,
+            b"a keeping rule is broken: it may not read back the same",
+        );
     }
+}
+
+// Why, in words, on the descriptor `fd`. They stand in api/rust, api/vilggodan.h and README.md too, and tools/reasons compares them.
+pub fn tell(fd: i32, number: usize) {
+    tell_input(fd, number);
+    tell_record(fd, number);
+    tell_table(fd, number);
 }

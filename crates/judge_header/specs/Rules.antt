@@ -1,10 +1,12 @@
 -- What a rule asks of header texts, and what is known of the rooms where they lie.
 use Prim.Native.Nat.{ℕ, _+_, _*_, _≤_, _<_}
-use mathlib.Core.Bool.{Bool}
+use mathlib.Core.Bool.{Bool, _&&_}
 use mathlib.Core.List.{List}
 use lib.ListN.{length, getD}
 use Rattle.spec_format.specs.Rooms.{Rooms}
+use Rattle.spec_format.specs.Table.{Reference}
 use Rattle.spec_format.specs.Utf8.{utf8}
+use Rattle.spec_format.specs.WellFormed.{ifIs}
 use Rattle.spec_format.specs.Keeping.{headerKept}
 use Rattle.spec_format.specs.declared.Head.{Head}
 use Rattle.judge_rooms.specs.Facts.{TextIn, SourceIn, RowText, RowPerhaps, ReferenceIn, RoomsIn}
@@ -14,6 +16,10 @@ use Rattle.judge_header.specs.declared.Rule.the-variants as rule
 abbrev pub headerOf : Rule → List ℕ → Bool
 headerOf (rule.Fine W) t = utf8 t
 headerOf (rule.Kept W) t = headerKept W t
+
+-- the texts of a reference from its title on, as `referenceTexts` of the format tests them
+abbrev pub referenceEnd : (List ℕ → Bool) → Reference → Bool
+referenceEnd p r = p (r .title) && (ifIs p (r .journal) && (ifIs p (r .pubmed) && ifIs p (r .remark)))
 
 pub record Known (texts : List ℕ) (start n : ℕ) : Type 0 where
   pub small : length texts ≤ 16777216

@@ -17,7 +17,7 @@ ghost use Rattle.spec_format.specs.WellFormed.{ifIs, sourceTexts, referenceText
 ghost use Rattle.spec_format.specs.Keeping.{pubmedKept};
 ghost use Rattle.judge_rooms.specs.Parts.{referenceRooms, commentRooms};
 ghost use Rattle.judge_rooms.specs.Facts.{SpanIn, TextIn, SourceIn, RowText, RowPerhaps, ReferenceIn};
-ghost use Rattle.judge_header.specs.Rules.{headerOf, Known, RowKnown, PerhapsKnown, ReferencesKnown, CommentsKnown, HeaderKnown};
+ghost use Rattle.judge_header.specs.Rules.{headerOf, referenceEnd, Known, RowKnown, PerhapsKnown, ReferencesKnown, CommentsKnown, HeaderKnown};
 
 // A text that can be laid out at a width, or one that is read back as it was.
 pub enum Rule {
@@ -85,14 +85,22 @@ fn row_may_pass(rule: Rule, texts: &[u8], rows: &[usize], at: usize) -> bool
     }
 }
 
-fn reference_passes(rule: Rule, texts: &[u8], references: &[usize], at: usize) -> bool
+// TITLE, JOURNAL, PUBMED, REMARK.
+fn reference_end_passes(rule: Rule, texts: &[u8], references: &[usize], at: usize) -> bool
     requires { ⌜ (length (now texts) ≤ 16777216) × (at + 13 < length (now references)) × ReferenceIn (now texts) (now references) at ⌝ }
-    ensures { λ r. ⌜ r ≡ referenceTexts (headerOf rule) (referenceIn (referenceRooms (now (texts .entry)) (now (references .entry))) at) ⌝ }
+    ensures { λ r. ⌜ r ≡ referenceEnd (headerOf rule) (referenceIn (referenceRooms (now (texts .entry)) (now (references .entry))) at) ⌝ }
 {
     let remark = row_may_pass(rule, texts, references, at + 12);
     let pubmed = both(row_may_pass(rule, texts, references, at + 10), remark);
     let journal = both(row_may_pass(rule, texts, references, at + 8), pubmed);
-    let title = both(row_passes(rule, texts, references, at + 6), journal);
+    both(row_passes(rule, texts, references, at + 6), journal)
+}
+
+fn reference_passes(rule: Rule, texts: &[u8], references: &[usize], at: usize) -> bool
+    requires { ⌜ (length (now texts) ≤ 16777216) × (at + 13 < length (now references)) × ReferenceIn (now texts) (now references) at ⌝ }
+    ensures { λ r. ⌜ r ≡ referenceTexts (headerOf rule) (referenceIn (referenceRooms (now (texts .entry)) (now (references .entry))) at) ⌝ }
+{
+    let title = reference_end_passes(rule, texts, references, at);
     let consrtm = both(row_may_pass(rule, texts, references, at + 4), title);
     let authors = both(row_may_pass(rule, texts, references, at + 2), consrtm);
     both(row_passes(rule, texts, references, at), authors)
@@ -191,7 +199,7 @@ fn one_line(texts: &[u8], rows: &[usize], at: usize) -> bool
     }
     let start = rows[at];
     let end = start + (n - 1);
-    without(&texts[start..end], 10)
+    without(&texts[start..end], b'\n')
 }
 
 pub fn pubmeds_kept(texts: &[u8], references: &[usize], n: usize) -> bool

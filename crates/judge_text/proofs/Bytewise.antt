@@ -50,10 +50,6 @@ is-other b c h = rw (ne-eqb b c h)
 pub is-it : (b c : ℕ) → b ≡ c → but c b ≡ false
 is-it b c h = rw (eq-eqb b c h)
 
-pub none-is : (s : List ℕ) → length s ≡ 0 → false ≡ some s
-none-is [] h = refl
-none-is (x ∷ s) h = absurd (omega arith)
-
 pub some-is : (s : List ℕ) (x r : Bool) → (length s ≡ 0 → ⊥) → r ≡ x → r ≡ (some s && x)
 some-is [] x r h e = absurd (h refl)
 some-is (b ∷ s) x r h e = e

@@ -46,7 +46,7 @@ fn visible_from(s: &[u8], at: usize) -> bool
 }
 
 // All bytes are 33 to 126.
-pub fn visible_all(s: &[u8]) -> bool
+fn visible_all(s: &[u8]) -> bool
     ensures { λ r. ⌜ r ≡ all visible (now (s .entry)) ⌝ }
 {
     let mut i = 0;
@@ -65,7 +65,7 @@ pub fn printing_all(s: &[u8]) -> bool
 {
     let mut i = 0;
     while i < s.len() {
-        if !is_between(32, 126, s[i]) {
+        if !is_between(b' ', b'~', s[i]) {
             return false;
         }
         i += 1;
@@ -219,7 +219,7 @@ pub fn without_spaces(s: &[u8]) -> bool
 }
 
 // No CR, no LF at the end, and each line with what stands before it shorter than the width; quotes count twice where they are doubled.
-pub fn lines_kept(text: &[u8], quote: bool, width: usize, indent: usize, start: usize) -> bool
+fn lines_kept(text: &[u8], quote: bool, width: usize, indent: usize, start: usize) -> bool
     requires { ⌜ Small indent start (length (now text)) ⌝ }
     ensures { λ r. ⌜ r ≡ linesKept quote width indent start (now (text .entry)) ⌝ }
 {
@@ -285,7 +285,7 @@ fn bare_kept(width: usize, key: &[u8], value: &[u8]) -> bool
     requires { ⌜ (length (now key) ≤ 16777216) × (length (now value) ≤ 16777216) ⌝ }
     ensures { λ r. ⌜ r ≡ bareKept width (now (key .entry)) (now (value .entry)) ⌝ }
 {
-    let ends = both(without(value, 10), without(value, 13));
+    let ends = both(without(value, b'\n'), without(value, b'\r'));
     let short = 23 + key.len() + value.len() < width;
     both(ends, both(!begins(value, b'"'), short))
 }

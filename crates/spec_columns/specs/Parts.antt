@@ -10,7 +10,7 @@ use lib.Seq.{drop-drop, take-at, drop-at}
 use borrow.Author.Tests.{eq-eqb}
 use Rattle.spec_format.specs.Bytes.{same, spaces}
 
-pub same-refl : (l : List ℕ) → same l l ≡ true
+same-refl : (l : List ℕ) → same l l ≡ true
 same-refl [] = refl
 same-refl (b ∷ l) = cc (eq-eqb b b refl, same-refl l)
 

@@ -18,7 +18,8 @@ use Rattle.spec_format.specs.Table.{Locus, Source, Reference, Qualifier, Featur
 use Rattle.spec_format.specs.Utf8.{chars, utf8}
 use Rattle.spec_format.specs.WellFormed.{referenceTexts, headerTexts, locusFine, qualifierFine, featureFine, lettersFine, wellFormed}
 use Rattle.spec_format.specs.Wrap.{fill, closing, linesAfter, wrapped, wrapText, lastComma, breakAt, commaLines, wrapLocation}
-use Rattle.spec_format.specs.Write.{lengthText, white, blanked, words, joined, printedName, locusText, fieldLines, referenceLines, headerLines, commaKey, bareKey, valueLines, qualifierLines, featureLines, featuresLines, letterLines, originLines, written}
+use Rattle.spec_format.specs.Write.{lengthText, white, blanked, words, joined, printedName, locusText, fieldLines, referenceLines, headerLines}
+use Rattle.spec_format.specs.Write.{commaKey, bareKey, valueLines, qualifierLines, featureLines, featuresLines, letterLines, originLines, written}
 use Rattle.spec_format.specs.declared.Dated.{Dated}
 use Rattle.spec_format.specs.declared.Dated.the-variants as dated
 
@@ -152,7 +153,20 @@ answers =
     bare-line (bytes "tag_peptide") ∷
     []
 
+-- what the answers compute by: to unfold one of these names is to unfold all that its line names
+the-reader : Bool
+unfolding featuresHeader bare escape quotedTurn quoted value valueOf qualifier featureFrom feature fieldText fieldBytes field reference source ignoredLine headerField latest every preamble tokens dateOf dateToken locusFrom locusOf locusLine locus originTag letters tag until line lineEnd membersUpTo endUpTo members end features slashesLater middle tableFrom readRecord readAt
+the-reader = true
+
+the-rules : Bool
+unfolding chars utf8 referenceTexts headerTexts locusFine qualifierFine featureFine lettersFine wellFormed
+the-rules = true
+
+the-writer : Bool
+unfolding digits monthName dateText fill closing linesAfter wrapped wrapText lastComma breakAt commaLines wrapLocation lengthText white blanked words joined printedName locusText fieldLines referenceLines headerLines commaKey bareKey valueLines qualifierLines featureLines featuresLines letterLines originLines written
+the-writer = true
+
 -- THE PAGE'S ANSWERS ARE THOSE OF THE DEFINITIONS
 pub answers-hold : map (λ a. a .got) answers ≡ map (λ a. a .should) answers
-unfolding told answer may-text may-number may-date locus-values locus-read unk first-location location-values location-read table line-or-11 lines-of bare-line answers number digits monthName dateText featuresHeader bare escape quotedTurn quoted value valueOf qualifier featureFrom feature fieldText fieldBytes field reference source ignoredLine headerField latest every preamble tokens dateOf dateToken locusFrom locusOf locusLine locus originTag letters tag until line lineEnd membersUpTo endUpTo members end features slashesLater middle tableFrom readRecord readAt chars utf8 referenceTexts headerTexts locusFine qualifierFine featureFine lettersFine wellFormed fill closing linesAfter wrapped wrapText lastComma breakAt commaLines wrapLocation lengthText white blanked words joined printedName locusText fieldLines referenceLines headerLines commaKey bareKey valueLines qualifierLines featureLines featuresLines letterLines originLines written
+unfolding the-reader the-rules the-writer told answer may-text may-number may-date locus-values locus-read unk first-location location-values location-read table line-or-11 lines-of bare-line answers number
 answers-hold = refl

@@ -91,7 +91,7 @@ module _ {A : Type 0} (turn : List ℕ → Ans (Turn A)) (s : List ℕ) where
   pub loop-stop : (r : List ℕ) → turn s ≡ Got stop r → loop turn s ≡ Got [] r
   loop-stop r e = rw (end-stop r e, members-stop r e)
 
-  pub loop-cut : turn s ≡ Cut → loop turn s ≡ Cut
+  loop-cut : turn s ≡ Cut → loop turn s ≡ Cut
   loop-cut e = rw (end-cut e)
 
 -- many0: as often as p fits

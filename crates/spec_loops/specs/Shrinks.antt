@@ -8,9 +8,11 @@ use lib.ListN.{length, drop, length-drop}
 use lib.Seq.{drop-drop}
 use lib.Dec.{eqb}
 use Rattle.spec_format.specs.Bytes.{pick, absent, is, some, bytes, spaces, letter, notBlank, space, but}
-use Rattle.spec_format.specs.Readers.{Ans, Got, No, Cut, bind, mapped, passing, orElse, optional, unless, tag, push, until, until1, lineFeed, line, lineEnd, Turn, more, stop, endUpTo, end, loop, fitting, fitTurn, many0, trying, tryTurn, whileFits}
+use Rattle.spec_format.specs.Readers.{Ans, Got, No, Cut, bind, mapped, passing, orElse, optional, unless, tag, push, until, until1, lineFeed}
+use Rattle.spec_format.specs.Readers.{line, lineEnd, Turn, more, stop, endUpTo, end, loop, fitting, fitTurn, many0, trying, tryTurn, whileFits}
 use Rattle.spec_format.specs.Header.{furtherLine, fieldText, fieldBytes, field, maybeField, reference, source, Entry, SourceOf, ReferenceOf, Dropped, ignoredLine, entry, headerField}
-use Rattle.spec_format.specs.Features.{featuresHeader, notSlash, bareTurn, bareMore, bare, escape, quotedEnd, special, quotedTurn, quoted, value, keyEnd, valueOf, qualifier, kindText, locationText, featureFrom, feature}
+use Rattle.spec_format.specs.Features.{featuresHeader, notSlash, bareTurn, bareMore, bare, escape, quotedEnd, special, quotedTurn}
+use Rattle.spec_format.specs.Features.{quoted, value, keyEnd, valueOf, qualifier, kindText, locationText, featureFrom, feature}
 use Rattle.spec_format.specs.Locus.{skipping, preambleTurn, preamble, locusLine, locus}
 use Rattle.spec_format.specs.Origin.{originTag, Letters, AtSlash, AtEnd, Bad, keep, skipped, letters}
 use Rattle.spec_format.specs.Record.{features, contig, middle}
@@ -31,10 +33,10 @@ past-here s = record { gone = 0; least = omega arith; within = omega arith; is =
 pub past-byte : (m b : ℕ) (s r : List ℕ) → Past m s r → Past (suc m) (b ∷ s) r
 past-byte m b s r p = record { gone = suc (p .gone); least = omega arith; within = omega arith; is = p .is }
 
-pub past-less : (k m : ℕ) (s r : List ℕ) → k ≤ m → Past m s r → Past k s r
+past-less : (k m : ℕ) (s r : List ℕ) → k ≤ m → Past m s r → Past k s r
 past-less k m s r h p = record { gone = p .gone; least = omega arith; within = p .within; is = p .is }
 
-pub past-loose : (m : ℕ) (s r : List ℕ) → Past m s r → Past 0 s r
+past-loose : (m : ℕ) (s r : List ℕ) → Past m s r → Past 0 s r
 past-loose m s r p = past-less 0 m s r (omega arith) p
 
 pub past-then : (m n k : ℕ) (s r t : List ℕ) → k ≤ m + n → Past m s r → Past n r t → Past k s t
@@ -47,7 +49,7 @@ past-then m n k s r t h p q =
       is = q .is ∙ ap (drop (q .gone)) (p .is) ∙ drop-drop (q .gone) (p .gone) s;
     }
 
-pub past-length : (m : ℕ) (s r : List ℕ) → Past m s r → m + length r ≤ length s
+past-length : (m : ℕ) (s r : List ℕ) → Past m s r → m + length r ≤ length s
 past-length m s r p = let l : length r ≡ length s - p .gone = ap length (p .is) ∙ length-drop (p .gone) s in omega arith
 
 pub past-drop : (m : ℕ) (s r : List ℕ) → Past m s r → r ≡ drop (length s - length r) s
@@ -70,10 +72,10 @@ module _ {A : Type 0} (m : ℕ) (s : List ℕ) where
   pub leaves-cut : Leaves {A = A} m s Cut
   leaves-cut = record { past = λ b z e. impossible cc }
 
-pub leaves-less : {A : Type 0} (k m : ℕ) (s : List ℕ) (o : Ans A) → k ≤ m → Leaves m s o → Leaves k s o
+leaves-less : {A : Type 0} (k m : ℕ) (s : List ℕ) (o : Ans A) → k ≤ m → Leaves m s o → Leaves k s o
 leaves-less k m s o l h = record { past = λ a r e. past-less k m s r l (h .past a r e) }
 
-pub leaves-loose : {A : Type 0} {m : ℕ} {s : List ℕ} {o : Ans A} → Leaves m s o → Leaves 0 s o
+leaves-loose : {A : Type 0} {m : ℕ} {s : List ℕ} {o : Ans A} → Leaves m s o → Leaves 0 s o
 leaves-loose {A} {m} {s} {o} h = leaves-less 0 m s o (omega arith) h
 
 pub leaves-length : {A : Type 0} {m : ℕ} {s : List ℕ} {o : Ans A} → Leaves m s o → (a : A) (r : List ℕ) → o ≡ Got a r → m + length r ≤ length s
@@ -91,7 +93,7 @@ module _ {A B : Type 0} where
       go No e = leaves-no m s
       go Cut e = leaves-cut m s
 
-  pub leaves-then : {m : ℕ} {s : List ℕ} {o : Ans A} {k : A → List ℕ → Ans B} → Leaves 0 s o → ((a : A) (r : List ℕ) → Leaves m r (k a r)) → Leaves m s (bind o k)
+  leaves-then : {m : ℕ} {s : List ℕ} {o : Ans A} {k : A → List ℕ → Ans B} → Leaves 0 s o → ((a : A) (r : List ℕ) → Leaves m r (k a r)) → Leaves m s (bind o k)
   leaves-then {m} {s} {o} {k} h g = go o refl
     where
       go : (x : Ans A) → o ≡ x → Leaves m s (bind x k)
@@ -107,7 +109,7 @@ module _ {A B : Type 0} where
       go No e = leaves-no m s
       go Cut e = leaves-cut m s
 
-  pub leaves-unless : {m : ℕ} {s : List ℕ} {x : Ans B} (o : Ans A) → Leaves m s x → Leaves m s (unless o x)
+  leaves-unless : {m : ℕ} {s : List ℕ} {x : Ans B} (o : Ans A) → Leaves m s x → Leaves m s (unless o x)
   leaves-unless {m} {s} {x} o h = go o
     where
       go : (o : Ans A) → Leaves m s (unless o x)
@@ -120,7 +122,7 @@ module _ {A : Type 0} where
   leaves-pick true h g = h
   leaves-pick false h g = g
 
-  pub leaves-passing : {m : ℕ} {s : List ℕ} {o : Ans A} (p : A → Bool) → Leaves m s o → Leaves m s (passing p o)
+  leaves-passing : {m : ℕ} {s : List ℕ} {o : Ans A} (p : A → Bool) → Leaves m s o → Leaves m s (passing p o)
   leaves-passing {m} {s} {o} p h = go o refl
     where
       go : (x : Ans A) → o ≡ x → Leaves m s (passing p x)
@@ -128,7 +130,7 @@ module _ {A : Type 0} where
       go No e = leaves-no m s
       go Cut e = leaves-cut m s
 
-  pub leaves-or : {m : ℕ} {s : List ℕ} {x y : Ans A} → Leaves m s x → Leaves m s y → Leaves m s (orElse x y)
+  leaves-or : {m : ℕ} {s : List ℕ} {x y : Ans A} → Leaves m s x → Leaves m s y → Leaves m s (orElse x y)
   leaves-or {m} {s} {x} {y} h g = go x h
     where
       go : (x : Ans A) → Leaves m s x → Leaves m s (orElse x y)
@@ -136,7 +138,7 @@ module _ {A : Type 0} where
       go No h = g
       go Cut h = leaves-cut m s
 
-  pub leaves-optional : {s : List ℕ} {o : Ans A} → Leaves 0 s o → Leaves 0 s (optional s o)
+  leaves-optional : {s : List ℕ} {o : Ans A} → Leaves 0 s o → Leaves 0 s (optional s o)
   leaves-optional {s} {o} h = go o refl
     where
       go : (x : Ans A) → o ≡ x → Leaves 0 s (optional s x)
@@ -184,7 +186,7 @@ until-past p (b ∷ s) t r h = go (λ u. until-past p s u) (p b) refl (until p s
     go ih false e No f = impossible cc
     go ih false e Cut f = impossible cc
 
-pub until1-takes : (p : ℕ → Bool) (s : List ℕ) → Leaves 1 s (until1 p s)
+until1-takes : (p : ℕ → Bool) (s : List ℕ) → Leaves 1 s (until1 p s)
 until1-takes p s = go (until p s) refl
   where
     go : (o : Ans (List ℕ)) → until p s ≡ o → Leaves 1 s (passing some o)
@@ -197,7 +199,7 @@ feed-takes : (s : List ℕ) → Leaves 1 s (lineFeed s)
 feed-takes [] = leaves-cut 1 []
 feed-takes (b ∷ s) = leaves-pick (eqb b 10) (leaves-got 1 (b ∷ s) [] s (past-byte 0 b s s (past-here s))) (leaves-no 1 (b ∷ s))
 
-pub line-takes : (s : List ℕ) → Leaves 1 s (line s)
+line-takes : (s : List ℕ) → Leaves 1 s (line s)
 unfolding line
 line-takes [] = leaves-cut 1 []
 line-takes (b ∷ s) = go (line-takes s) (eqb b 10) refl (eqb b 13) refl
@@ -225,25 +227,25 @@ pub record Turns {A : Type 0} (s : List ℕ) (o : Ans (Turn A)) : Type 0 where
   pub off : (r : List ℕ) → o ≡ Got stop r → Past 0 s r
 
 module _ {A : Type 0} where
-  pub turns-takes : {s : List ℕ} {o : Ans (Turn A)} → Leaves 1 s o → Turns s o
+  turns-takes : {s : List ℕ} {o : Ans (Turn A)} → Leaves 1 s o → Turns s o
   turns-takes {s} h = record { on = λ a r e. h .past (more a) r e; off = λ r e. past-loose 1 s r (h .past stop r e) }
 
-  pub turns-here : (s : List ℕ) → Turns {A = A} s (Got stop s)
+  turns-here : (s : List ℕ) → Turns {A = A} s (Got stop s)
   turns-here s = record {
     on = λ a r e. impossible cc;
     off = λ r e. leaves-got {A = Turn A} 0 s stop s (past-here s) .past stop r e;
   }
 
-  pub turns-cut : (s : List ℕ) → Turns {A = A} s Cut
+  turns-cut : (s : List ℕ) → Turns {A = A} s Cut
   turns-cut s = turns-takes (leaves-cut 1 s)
 
-  pub turns-shrinks : (turn : List ℕ → Ans (Turn A)) → ((s : List ℕ) → Turns s (turn s)) → Shrinks turn
+  turns-shrinks : (turn : List ℕ → Ans (Turn A)) → ((s : List ℕ) → Turns s (turn s)) → Shrinks turn
   turns-shrinks turn h s a r e = omega (arith, past-length 1 s r (h s .on a r e))
 
-  pub leaves-takes : (p : List ℕ → Ans A) → ((s : List ℕ) → Leaves 1 s (p s)) → Takes p
+  leaves-takes : (p : List ℕ → Ans A) → ((s : List ℕ) → Leaves 1 s (p s)) → Takes p
   leaves-takes p h s a r e = omega (arith, past-length 1 s r (h s .past a r e))
 
-  pub turns-fit : (p : List ℕ → Ans A) → ((s : List ℕ) → Leaves 1 s (p s)) → (s : List ℕ) → Turns s (fitTurn p s)
+  turns-fit : (p : List ℕ → Ans A) → ((s : List ℕ) → Leaves 1 s (p s)) → (s : List ℕ) → Turns s (fitTurn p s)
   turns-fit p h s = go (p s) (h s)
     where
       go : (o : Ans A) → Leaves 1 s o → Turns s (fitting s o)
@@ -263,19 +265,19 @@ module _ {A : Type 0} (turn : List ℕ → Ans (Turn A)) (h : (s : List ℕ) →
       go ih No e = rw (endUpTo, e) (leaves-no 0 s)
       go ih Cut e = rw (endUpTo, e) (leaves-cut 0 s)
 
-  pub end-leaves : (s : List ℕ) → Leaves 0 s (end turn s)
+  end-leaves : (s : List ℕ) → Leaves 0 s (end turn s)
   unfolding end
   end-leaves s = upTo-leaves (suc (length s)) s
 
-  pub loop-leaves : (s : List ℕ) → Leaves 0 s (loop turn s)
+  loop-leaves : (s : List ℕ) → Leaves 0 s (loop turn s)
   loop-leaves s = leaves-first (end-leaves s) (λ u r. leaves-got 0 r _ r (past-here r))
 
-pub many0-leaves : {A : Type 0} (p : List ℕ → Ans A) → ((s : List ℕ) → Leaves 1 s (p s)) → (s : List ℕ) → Leaves 0 s (many0 p s)
+many0-leaves : {A : Type 0} (p : List ℕ → Ans A) → ((s : List ℕ) → Leaves 1 s (p s)) → (s : List ℕ) → Leaves 0 s (many0 p s)
 many0-leaves p h s = loop-leaves (fitTurn p) (turns-fit p h) s
 
 -- ---- the header's readers
 
-pub further-takes : (n : ℕ) (s : List ℕ) → Leaves 1 s (furtherLine n s)
+further-takes : (n : ℕ) (s : List ℕ) → Leaves 1 s (furtherLine n s)
 further-takes n s = leaves-then (tag-loose (spaces n) s) (λ _ r. line-takes r)
 
 pub text-takes : (n : ℕ) (keep : Bool) (s : List ℕ) → Leaves 1 s (fieldText n keep s)
@@ -283,30 +285,30 @@ unfolding fieldText
 text-takes n keep s =
     leaves-first (line-takes s) (λ first r. leaves-first (many0-leaves (furtherLine n) (further-takes n) r) (λ rest z. leaves-got 0 z _ z (past-here z)))
 
-pub bytes-takes : (indent : ℕ) (word : List ℕ) (keep : Bool) (s : List ℕ) → Leaves 1 s (fieldBytes indent word keep s)
+bytes-takes : (indent : ℕ) (word : List ℕ) (keep : Bool) (s : List ℕ) → Leaves 1 s (fieldBytes indent word keep s)
 unfolding fieldBytes
 bytes-takes indent word keep s =
     leaves-then (tag-loose (spaces indent) s) (λ _ s. leaves-then (tag-loose word s) (λ _ s. leaves-first (until1-takes (but 32) s) (λ gap s. leaves-loose (text-takes _ keep s))))
 
-pub field-takes : (indent : ℕ) (word : List ℕ) (keep : Bool) (s : List ℕ) → Leaves 1 s (field indent word keep s)
+field-takes : (indent : ℕ) (word : List ℕ) (keep : Bool) (s : List ℕ) → Leaves 1 s (field indent word keep s)
 unfolding field
 field-takes indent word keep s = leaves-passing utf8 (bytes-takes indent word keep s)
 
-pub maybe-leaves : (indent : ℕ) (word : List ℕ) (keep : Bool) (s : List ℕ) → Leaves 0 s (maybeField indent word keep s)
+maybe-leaves : (indent : ℕ) (word : List ℕ) (keep : Bool) (s : List ℕ) → Leaves 0 s (maybeField indent word keep s)
 maybe-leaves indent word keep s = leaves-optional (leaves-loose (field-takes indent word keep s))
 
-pub reference-takes : (s : List ℕ) → Leaves 1 s (reference s)
+reference-takes : (s : List ℕ) → Leaves 1 s (reference s)
 unfolding reference
 reference-takes s =
     leaves-first (field-takes _ _ _ s) (λ _ s. leaves-first (maybe-leaves _ _ _ s) (λ _ s. leaves-first (maybe-leaves _ _ _ s) (λ _ s.
     leaves-first (leaves-loose (field-takes _ _ _ s)) (λ _ s. leaves-first (maybe-leaves _ _ _ s) (λ _ s. leaves-first (maybe-leaves _ _ _ s) (λ _ s.
     leaves-first (maybe-leaves _ _ _ s) (λ _ s. leaves-got 0 s _ s (past-here s))))))))
 
-pub source-takes : (s : List ℕ) → Leaves 1 s (source s)
+source-takes : (s : List ℕ) → Leaves 1 s (source s)
 unfolding source
 source-takes s = leaves-first (field-takes _ _ _ s) (λ _ s. leaves-first (maybe-leaves _ _ _ s) (λ _ s. leaves-got 0 s _ s (past-here s)))
 
-pub ignored-takes : (s : List ℕ) → Leaves 1 s (ignoredLine s)
+ignored-takes : (s : List ℕ) → Leaves 1 s (ignoredLine s)
 unfolding ignoredLine
 ignored-takes s =
     leaves-unless (tag (bytes "ORIGIN") s) (leaves-unless (tag (bytes "CONTIG") s) (leaves-unless (tag (bytes "FEATURES") s) (leaves-unless (tag (bytes "//") s)
@@ -315,7 +317,7 @@ ignored-takes s =
 entry-takes : (word s : List ℕ) → Leaves 1 s (entry word s)
 entry-takes word s = leaves-mapped (Entry word) (field-takes 0 word true s)
 
-pub header-takes : (s : List ℕ) → Leaves 1 s (headerField s)
+header-takes : (s : List ℕ) → Leaves 1 s (headerField s)
 unfolding headerField
 header-takes s =
     leaves-or (entry-takes _ s) (leaves-or (entry-takes _ s) (leaves-or (entry-takes _ s) (leaves-or (entry-takes _ s) (leaves-or (entry-takes _ s)
@@ -324,7 +326,7 @@ header-takes s =
 
 -- ---- the feature table's readers
 
-pub bareMore-turns : (indent : ℕ) (s : List ℕ) → Turns s (bareMore indent s)
+bareMore-turns : (indent : ℕ) (s : List ℕ) → Turns s (bareMore indent s)
 bareMore-turns indent s = go (bind (tag (spaces indent) s) λ _ r. notSlash r) (leaves-first (tag-loose (spaces indent) s) (λ _ r. peek r))
   where
     peek : (s : List ℕ) → Leaves 0 s (notSlash s)
@@ -340,7 +342,7 @@ pub bare-takes : (indent : ℕ) (s : List ℕ) → Leaves 1 s (bare indent s)
 unfolding bare
 bare-takes indent s = leaves-first (line-takes s) (λ _ s. leaves-first (loop-leaves (bareMore indent) (bareMore-turns indent) s) (λ _ s. leaves-got 0 s _ s (past-here s)))
 
-pub escape-takes : (indent : ℕ) (s : List ℕ) → Leaves 1 s (escape indent s)
+escape-takes : (indent : ℕ) (s : List ℕ) → Leaves 1 s (escape indent s)
 unfolding escape
 escape-takes indent s =
     leaves-or (leaves-mapped (λ _. 34) (leaves-less 1 2 s (tag (bytes "\"\"") s) (omega arith) (tag-leaves (bytes "\"\"") s)))
@@ -348,7 +350,7 @@ escape-takes indent s =
     leaves-mapped (λ _. 34) (tag-loose (bytes "\"") s)))))
     (leaves-first (end-takes s) (λ _ s. leaves-mapped (λ _. 10) (tag-loose (spaces indent) s))))
 
-pub quotedTurn-takes : (joined : Bool) (indent : ℕ) (s : List ℕ) → Leaves 1 s (quotedTurn joined indent s)
+quotedTurn-takes : (joined : Bool) (indent : ℕ) (s : List ℕ) → Leaves 1 s (quotedTurn joined indent s)
 unfolding quotedTurn
 quotedTurn-takes joined indent [] = leaves-cut 1 []
 quotedTurn-takes joined indent (b ∷ s) =
@@ -359,35 +361,35 @@ quotedTurn-takes joined indent (b ∷ s) =
     go No h = leaves-first (tag-leaves (bytes "\"") (b ∷ s)) (λ _ r. leaves-mapped (λ _. stop) (leaves-loose (end-takes r)))
     go Cut h = leaves-cut 1 (b ∷ s)
 
-pub quotedTurn-turns : (joined : Bool) (indent : ℕ) (s : List ℕ) → Turns s (quotedTurn joined indent s)
+quotedTurn-turns : (joined : Bool) (indent : ℕ) (s : List ℕ) → Turns s (quotedTurn joined indent s)
 quotedTurn-turns joined indent s = turns-takes (quotedTurn-takes joined indent s)
 
-pub quoted-takes : (joined : Bool) (indent : ℕ) (s : List ℕ) → Leaves 1 s (quoted joined indent s)
+quoted-takes : (joined : Bool) (indent : ℕ) (s : List ℕ) → Leaves 1 s (quoted joined indent s)
 unfolding quoted
 quoted-takes joined indent s =
     leaves-first (tag-leaves (bytes "\"") s) (λ _ s. leaves-first (loop-leaves (quotedTurn joined indent) (quotedTurn-turns joined indent) s) (λ _ s. leaves-got 0 s _ s (past-here s)))
 
-pub value-takes : (indent : ℕ) (key s : List ℕ) → Leaves 1 s (value indent key s)
+value-takes : (indent : ℕ) (key s : List ℕ) → Leaves 1 s (value indent key s)
 unfolding value
 value-takes indent key s = leaves-or (leaves-passing utf8 (quoted-takes _ indent s)) (leaves-passing utf8 (bare-takes indent s))
 
-pub valueOf-takes : (indent : ℕ) (key s : List ℕ) → Leaves 1 s (valueOf indent key s)
+valueOf-takes : (indent : ℕ) (key s : List ℕ) → Leaves 1 s (valueOf indent key s)
 unfolding valueOf
 valueOf-takes indent key s =
     leaves-or (leaves-first (tag-leaves (bytes "=") s) (λ _ s. leaves-mapped is (leaves-loose (value-takes indent key s)))) (leaves-mapped (λ _. absent) (end-takes s))
 
-pub qualifier-takes : (indent : ℕ) (s : List ℕ) → Leaves 1 s (qualifier indent s)
+qualifier-takes : (indent : ℕ) (s : List ℕ) → Leaves 1 s (qualifier indent s)
 unfolding qualifier
 qualifier-takes indent s =
     leaves-then (tag-loose (spaces indent) s) (λ _ s. leaves-first (tag-leaves (bytes "/") s) (λ _ s. leaves-first (leaves-loose (leaves-passing utf8 (until1-takes keyEnd s))) (λ key s.
     leaves-first (leaves-loose (valueOf-takes indent key s)) (λ _ s. leaves-got 0 s _ s (past-here s)))))
 
-pub from-takes : (indent : ℕ) (kind s : List ℕ) → Leaves 1 s (featureFrom indent kind s)
+from-takes : (indent : ℕ) (kind s : List ℕ) → Leaves 1 s (featureFrom indent kind s)
 unfolding featureFrom
 from-takes indent kind s =
     leaves-first (leaves-passing locationText (bare-takes indent s)) (λ _ s. leaves-first (many0-leaves (qualifier indent) (qualifier-takes indent) s) (λ _ s. leaves-got 0 s _ s (past-here s)))
 
-pub feature-takes : (s : List ℕ) → Leaves 1 s (feature s)
+feature-takes : (s : List ℕ) → Leaves 1 s (feature s)
 unfolding feature
 feature-takes s =
     leaves-first (until1-takes (but 32) s) (λ _ s. leaves-first (leaves-loose (leaves-passing kindText (until1-takes space s))) (λ _ s. leaves-first (leaves-loose (until1-takes (but 32) s)) (λ _ s.
@@ -395,7 +397,7 @@ feature-takes s =
 
 -- ---- the lines before LOCUS, and the sections
 
-pub preamble-turns : (s : List ℕ) → Turns s (preambleTurn s)
+preamble-turns : (s : List ℕ) → Turns s (preambleTurn s)
 preamble-turns s = go (tag (bytes "LOCUS") s)
   where
     go : (o : Ans Unit) → Turns s (skipping s o)
@@ -403,7 +405,7 @@ preamble-turns s = go (tag (bytes "LOCUS") s)
     go No = turns-takes (leaves-mapped more (leaves-passing utf8 (line-takes s)))
     go Cut = turns-takes (leaves-mapped more (leaves-passing utf8 (line-takes s)))
 
-pub letters-leave : (s l r : List ℕ) → letters s ≡ AtSlash l r → Past 0 s r
+letters-leave : (s l r : List ℕ) → letters s ≡ AtSlash l r → Past 0 s r
 unfolding letters
 letters-leave [] l r h = impossible cc
 letters-leave (b ∷ s) l r h = go (λ k. letters-leave s k) (letter b) refl (eqb b 47) refl (skipped b) refl (letters s) refl

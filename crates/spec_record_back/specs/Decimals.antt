@@ -47,7 +47,7 @@ number-back (suc f) n h = go (number-back f (n / 10)) (ltb n 10) refl
 pub decimal-back : (n : ℕ) → n ≤ 4294967295 → number 0 (decimal n) ≡ n
 decimal-back n h = number-back 10 n (omega arith)
 
-pub digit-of : (d : ℕ) → d < 10 → digit (48 + d) ≡ true
+digit-of : (d : ℕ) → d < 10 → digit (48 + d) ≡ true
 digit-of d h = cc (le-leb 48 (48 + d) (omega arith), le-leb (48 + d) 57 (omega arith))
 
 pub all-digits : (f n : ℕ) → all digit (digits f n) ≡ true

@@ -33,7 +33,7 @@ visible-chars (b ∷ t) h =
     let l : ltb b 128 ≡ true = lt-ltb b 128 (omega arith) in
     rw (l, chars) (visible-chars t (all-tail visible b t h))
 
-pub visible-utf8 : (t : List ℕ) → all visible t ≡ true → utf8 t ≡ true
+visible-utf8 : (t : List ℕ) → all visible t ≡ true → utf8 t ≡ true
 unfolding utf8
 visible-utf8 t h = visible-chars t h
 
@@ -224,7 +224,7 @@ outside-ends (suc n) (b ∷ s) h = go (outside-ends n s) (eqb b 32) refl
     go ih true p = cc (ih (cc))
     go ih false p = cc
 
-pub outside-tag : (n : ℕ) (s : List ℕ) → outside n s ≡ true → tag (spaces n) s ≡ No
+outside-tag : (n : ℕ) (s : List ℕ) → outside n s ≡ true → tag (spaces n) s ≡ No
 unfolding tag
 outside-tag zero s h = cc
 outside-tag (suc n) [] h = cc

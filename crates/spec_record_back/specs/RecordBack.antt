@@ -28,7 +28,8 @@ use Rattle.spec_record_back.specs.LocusBack.{preamble-back, lengthFits, 
 use Rattle.spec_record_back.specs.OriginBack.{origin-back, numbered-back}
 use Rattle.spec_texts_back.specs.FieldBack.{contig-back}
 use Rattle.spec_record_back.specs.ReferenceBack.{refused, is-no}
-use Rattle.spec_record_back.specs.HeaderBack.{fieldsOf, header-back, definition-is, accession-is, version-is, dblink-is, keywords-is, source-is, references-are, comments-are, definitions-are, mayList}
+use Rattle.spec_record_back.specs.HeaderBack.{fieldsOf, header-back, definition-is, accession-is, version-is, dblink-is}
+use Rattle.spec_record_back.specs.HeaderBack.{keywords-is, source-is, references-are, comments-are, definitions-are, mayList}
 use Rattle.spec_record_back.specs.FeatureBack.{table-back}
 use Rattle.spec_format.specs.Impossible.{impossible}
 

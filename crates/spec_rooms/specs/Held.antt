@@ -39,7 +39,7 @@ module _ (S : List ℕ) (at : ℕ) where
   pub held-cut : (t : List ℕ) → Held S at t → cut S at (length t) ≡ t
   held-cut t h = ap (λ l. take (length t) (drop at l)) (h .is) ∙ rw (drop-at (h .before) (t ++ h .after) at (h .long)) (take-append-seam t (h .after))
 
-  pub held-within : (t : List ℕ) → Held S at t → at + length t ≤ length S
+  held-within : (t : List ℕ) → Held S at t → at + length t ≤ length S
   held-within t h =
       omega (arith, ap length (h .is), length-append (h .before) (t ++ h .after), length-append t (h .after))
 

@@ -6,7 +6,9 @@ use mathlib.Core.List.{List, [], _∷_, _++_, append-assoc}
 use lib.ListN.{length, take, drop, getD, length-append}
 use Rattle.spec_format.specs.Bytes.{May, absent, is, each}
 use Rattle.spec_format.specs.Table.{Source, Reference, Qualifier, Feature, Table}
-use Rattle.spec_format.specs.Rooms.{Rooms, Piece, perhaps, pieceText, piecesText, piecesRow, organismOf, sourceOf, headPieces, referencePieces, commentPieces, featurePieces, qualifierPieces, textsOf, rowsOf, featureText, featureRows, qualifierRows, referencesAt, commentsAt, featuresAt, contigAt, layout, startOf, textAt, sourceAt, lengthOf, headOf, mayText, maySource, mayLength, rowsFrom, referenceIn, commentIn, qualifierIn, featureIn, tableOf, overRooms}
+use Rattle.spec_format.specs.Rooms.{Rooms, Piece, perhaps, pieceText, piecesText, piecesRow, organismOf, sourceOf, headPieces, referencePieces, commentPieces, featurePieces, qualifierPieces}
+use Rattle.spec_format.specs.Rooms.{textsOf, rowsOf, featureText, featureRows, qualifierRows, referencesAt, commentsAt, featuresAt, contigAt, layout, startOf, textAt, sourceAt}
+use Rattle.spec_format.specs.Rooms.{lengthOf, headOf, mayText, maySource, mayLength, rowsFrom, referenceIn, commentIn, qualifierIn, featureIn, tableOf, overRooms}
 use Rattle.spec_rooms.specs.Held.{Held, held-left, held-right, held-head, held-tail, held-cut, held-at, held-first}
 use Rattle.spec_rooms.specs.Rows.{AllGood, row-good, pieces-long, EachRow, rows-long, rows-good, rows-read}
 
@@ -141,7 +143,7 @@ FeaturesGood r i q (f ∷ fs) = FeatureGood r (6 * i) q f × FeaturesGood r (i +
 pub four-wide : (x : Qualifier) (start : ℕ) → length (piecesRow start (qualifierPieces x)) ≡ 4
 four-wide x start = pieces-long start (qualifierPieces x)
 
-pub features-good :
+features-good :
     (r : Rooms) (fs : List Feature) (start q i : ℕ) → Held (r .texts) start (each featureText fs) → Held (r .features) (6 * i) (featureRows start q fs) →
     Held (r .qualifiers) (4 * q) (qualifierRows start fs) → FeaturesGood r i q fs
 unfolding featureText featureRows qualifierRows

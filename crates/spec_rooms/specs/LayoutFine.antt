@@ -9,7 +9,9 @@ use lib.Dec.{eqb}
 use borrow.Author.Tests.{le-leb, leb-true}
 use Rattle.spec_format.specs.Bytes.{May, absent, is}
 use Rattle.spec_format.specs.Table.{Source, Reference, Qualifier, Feature, Table}
-use Rattle.spec_format.specs.Rooms.{Rooms, perhaps, pieceText, organismOf, sourceOf, headPieces, referencePieces, commentPieces, qualifierPieces, qualifierCount, contigAt, layout, sizes, startOf, textAt, sourceAt, headOf, textFine, sourceFine, referenceRowFine, commentRowFine, qualifierRowFine, qualifiersFine, featuresFine, lengthsFine, headFine, countsFine, roomsFine, fits, overRooms}
+use Rattle.spec_format.specs.Rooms.{Rooms, perhaps, pieceText, organismOf, sourceOf, headPieces, referencePieces, commentPieces, qualifierPieces, qualifierCount}
+use Rattle.spec_format.specs.Rooms.{contigAt, layout, sizes, startOf, textAt, sourceAt, headOf, textFine, sourceFine, referenceRowFine}
+use Rattle.spec_format.specs.Rooms.{commentRowFine, qualifierRowFine, qualifiersFine, featuresFine, lengthsFine, headFine, countsFine, roomsFine, fits, overRooms}
 use Rattle.spec_rooms.specs.Held.{Held, held-fine}
 use Rattle.spec_rooms.specs.Rows.{AllGood, rows-fine}
 use Rattle.spec_rooms.specs.LayoutBack.{Laid, layout-laid, piece-held, FeatureGood, FeaturesGood, references-good, comments-good, table-features-good}

@@ -9,7 +9,8 @@ use lib.ListN.{length, length-append, length-drop}
 use lib.Dec.{leb}
 use borrow.Author.Tests.{leb-true}
 use Rattle.spec_format.specs.Table.{Feature, Table}
-use Rattle.spec_format.specs.Rooms.{Rooms, piecesText, referencePieces, commentPieces, featurePieces, qualifierPieces, featureText, featureRows, qualifierRows, qualifierCount, referencesAt, commentsAt, featuresAt, layout, sizes, fits, over, overRooms}
+use Rattle.spec_format.specs.Rooms.{Rooms, piecesText, referencePieces, commentPieces, featurePieces, qualifierPieces, featureText, featureRows, qualifierRows}
+use Rattle.spec_format.specs.Rooms.{qualifierCount, referencesAt, commentsAt, featuresAt, layout, sizes, fits, over, overRooms}
 use Rattle.spec_format.specs.declared.Sizes.{Sizes}
 use Rattle.spec_rooms.specs.Rows.{pieces-long, rows-long}
 use Rattle.spec_rooms.specs.LayoutBack.{fourteen-wide, two-wide, four-wide}
@@ -66,7 +67,7 @@ layout-lengths t =
 
 -- ---- a room keeps its length
 
-pub over-length : (new old : List ℕ) → length new ≤ length old → length (over new old) ≡ length old
+over-length : (new old : List ℕ) → length new ≤ length old → length (over new old) ≡ length old
 over-length new old h = simp (length-append, length-drop) (omega arith)
 
 -- what a table that fits says of each room

@@ -21,11 +21,13 @@ use Rattle.spec_format.specs.Locus.{preamble, tokens, dateOf, dateToken, locusF
 use Rattle.spec_format.specs.Origin.{originTag, letters}
 use Rattle.spec_format.specs.Readers.{tag, until, line, lineEnd, membersUpTo, endUpTo, members, end}
 use Rattle.spec_format.specs.Record.{features, slashesLater, middle, tableFrom, readRecord, readAt}
-use Rattle.spec_format.specs.Rooms.{textsOf, rowsOf, featureText, featureRows, qualifierRows, qualifierCount, piecesText, piecesRow, layout, sizes, headOf, rowsFrom, tableOf, rowsFine, featuresFine, lengthsFine, headFine, countsFine, roomsFine}
+use Rattle.spec_format.specs.Rooms.{textsOf, rowsOf, featureText, featureRows, qualifierRows, qualifierCount, piecesText, piecesRow, layout, sizes}
+use Rattle.spec_format.specs.Rooms.{headOf, rowsFrom, tableOf, rowsFine, featuresFine, lengthsFine, headFine, countsFine, roomsFine}
 use Rattle.spec_format.specs.Utf8.{chars, utf8}
 use Rattle.spec_format.specs.WellFormed.{referenceTexts, headerTexts, locusFine, qualifierFine, featureFine, lettersFine, wellFormed}
 use Rattle.spec_format.specs.Wrap.{fill, closing, linesAfter, wrapped, wrapText, lastComma, breakAt, commaLines, wrapLocation}
-use Rattle.spec_format.specs.Write.{lengthText, white, blanked, words, joined, printedName, locusText, fieldLines, referenceLines, headerLines, commaKey, bareKey, valueLines, qualifierLines, featureLines, featuresLines, letterLines, originLines, written}
+use Rattle.spec_format.specs.Write.{lengthText, white, blanked, words, joined, printedName, locusText, fieldLines, referenceLines, headerLines}
+use Rattle.spec_format.specs.Write.{commaKey, bareKey, valueLines, qualifierLines, featureLines, featuresLines, letterLines, originLines, written}
 
 -- ---- equal texts, in tables whose shapes the examples have
 
@@ -216,8 +218,30 @@ verdict e =
     comes-back 60 (e .truncate) (e .escape) (e .broken) ∷ wellFormed 60 false false (e .mended) ∷ keeps 60 false false (e .mended) ∷
     comes-back 60 false false (e .mended) ∷ []
 
+-- ---- what the examples compute by, named once: to unfold one of these names is to unfold all that its line names
+
+the-tables : Bool
+unfolding same-may same-number same-date same-locus same-pubmed same-qualifiers same-features same-table back comes-back table day locus-of with-locus plain named with-definition with-pubmed with-feature with-kind with-location with-value
+the-tables = true
+
+the-reader : Bool
+unfolding featuresHeader bare escape quotedTurn quoted value valueOf qualifier featureFrom feature fieldText fieldBytes field reference source ignoredLine headerField latest every preamble tokens dateOf dateToken locusFrom locusOf locusLine locus originTag letters tag until line lineEnd membersUpTo endUpTo members end features slashesLater middle tableFrom readRecord readAt
+the-reader = true
+
+the-writer : Bool
+unfolding decimal digits monthName dateText fill closing linesAfter wrapped wrapText lastComma breakAt commaLines wrapLocation lengthText white blanked words joined printedName locusText fieldLines referenceLines headerLines commaKey bareKey valueLines qualifierLines featureLines featuresLines letterLines originLines written
+the-writer = true
+
+the-rules : Bool
+unfolding chars utf8 referenceTexts headerTexts locusFine qualifierFine featureFine lettersFine wellFormed locusKept linesKept headerKept bareKept valueKept qualifierKept featureKept keeps
+the-rules = true
+
+the-rooms : Bool
+unfolding roomsFine lengthsFine headFine countsFine rowsFine featuresFine tableOf layout headOf sizes rowsFrom textsOf rowsOf featureText featureRows qualifierRows qualifierCount piecesText piecesRow
+the-rooms = true
+
 pub each-rule-earns-its-place : map verdict examples ≡ map (λ e. true ∷ false ∷ false ∷ true ∷ true ∷ true ∷ []) examples
-unfolding same-may same-number same-date same-locus same-pubmed same-qualifiers same-features same-table back comes-back table day locus-of with-locus plain named with-definition with-pubmed with-feature with-kind with-location with-value rule examples verdict decimal digits monthName dateText featuresHeader bare escape quotedTurn quoted value valueOf qualifier featureFrom feature fieldText fieldBytes field reference source ignoredLine headerField latest every locusKept linesKept headerKept bareKept valueKept qualifierKept featureKept keeps preamble tokens dateOf dateToken locusFrom locusOf locusLine locus originTag letters tag until line lineEnd membersUpTo endUpTo members end features slashesLater middle tableFrom readRecord readAt chars utf8 referenceTexts headerTexts locusFine qualifierFine featureFine lettersFine wellFormed fill closing linesAfter wrapped wrapText lastComma breakAt commaLines wrapLocation lengthText white blanked words joined printedName locusText fieldLines referenceLines headerLines commaKey bareKey valueLines qualifierLines featureLines featuresLines letterLines originLines written
+unfolding the-reader the-writer the-rules the-tables rule examples verdict
 each-rule-earns-its-place = refl
 
 -- ---- where a rule is stricter than needed: these break one, and come back all the same
@@ -243,7 +267,7 @@ stricter =
 pub stricter-than-needed :
     map (λ t. wellFormed 60 false false t ∷ keeps 60 false false t ∷ comes-back 60 false false t ∷ []) stricter ≡
     map (λ t. true ∷ false ∷ true ∷ []) stricter
-unfolding same-may same-number same-date same-locus same-pubmed same-qualifiers same-features same-table back comes-back table day locus-of with-locus plain named with-definition with-pubmed with-feature with-kind with-location with-value rule stricter verdict decimal digits monthName dateText featuresHeader bare escape quotedTurn quoted value valueOf qualifier featureFrom feature fieldText fieldBytes field reference source ignoredLine headerField latest every locusKept linesKept headerKept bareKept valueKept qualifierKept featureKept keeps preamble tokens dateOf dateToken locusFrom locusOf locusLine locus originTag letters tag until line lineEnd membersUpTo endUpTo members end features slashesLater middle tableFrom readRecord readAt chars utf8 referenceTexts headerTexts locusFine qualifierFine featureFine lettersFine wellFormed fill closing linesAfter wrapped wrapText lastComma breakAt commaLines wrapLocation lengthText white blanked words joined printedName locusText fieldLines referenceLines headerLines commaKey bareKey valueLines qualifierLines featureLines featuresLines letterLines originLines written
+unfolding the-reader the-writer the-rules the-tables rule stricter verdict
 stricter-than-needed = refl
 
 -- ---- the width: a table that breaks a rule is refused by 13 at 60 to 132 alone, by 12 below and above
@@ -254,14 +278,14 @@ final-feed = with-definition (bytes "a\n")
 pub numbers-by-width :
     map (λ W. number (keepingAnswer W false false (layout final-feed) (headOf final-feed) 0)) (20 ∷ 59 ∷ 60 ∷ 132 ∷ 133 ∷ []) ≡
     12 ∷ 12 ∷ 13 ∷ 13 ∷ 12 ∷ []
-unfolding final-feed keepingAnswer roomsFine lengthsFine headFine countsFine rowsFine featuresFine tableOf layout headOf sizes rowsFrom textsOf rowsOf featureText featureRows qualifierRows qualifierCount piecesText piecesRow same-may same-number same-date same-locus same-pubmed same-qualifiers same-features same-table back comes-back table day locus-of with-locus plain named with-definition with-pubmed with-feature with-kind with-location with-value decimal digits monthName dateText featuresHeader bare escape quotedTurn quoted value valueOf qualifier featureFrom feature fieldText fieldBytes field reference source ignoredLine headerField latest every locusKept linesKept headerKept bareKept valueKept qualifierKept featureKept keeps preamble tokens dateOf dateToken locusFrom locusOf locusLine locus originTag letters tag until line lineEnd membersUpTo endUpTo members end features slashesLater middle tableFrom readRecord readAt chars utf8 referenceTexts headerTexts locusFine qualifierFine featureFine lettersFine wellFormed fill closing linesAfter wrapped wrapText lastComma breakAt commaLines wrapLocation lengthText white blanked words joined printedName locusText fieldLines referenceLines headerLines commaKey bareKey valueLines qualifierLines featureLines featuresLines letterLines originLines written
+unfolding the-reader the-writer the-rules the-tables the-rooms final-feed keepingAnswer
 numbers-by-width = refl
 
 -- rules are held against the width that is written at: this keeps the rules of 132, and does not come back at 60
 pub rules-of-another-width :
     keeps 132 false false (with-definition (replicate 47 97 ++ bytes " b")) ∷ comes-back 60 false false (with-definition (replicate 47 97 ++ bytes " b")) ∷ [] ≡
     true ∷ false ∷ []
-unfolding same-may same-number same-date same-locus same-pubmed same-qualifiers same-features same-table back comes-back table day locus-of with-locus plain named with-definition with-pubmed with-feature with-kind with-location with-value decimal digits monthName dateText featuresHeader bare escape quotedTurn quoted value valueOf qualifier featureFrom feature fieldText fieldBytes field reference source ignoredLine headerField latest every locusKept linesKept headerKept bareKept valueKept qualifierKept featureKept keeps preamble tokens dateOf dateToken locusFrom locusOf locusLine locus originTag letters tag until line lineEnd membersUpTo endUpTo members end features slashesLater middle tableFrom readRecord readAt chars utf8 referenceTexts headerTexts locusFine qualifierFine featureFine lettersFine wellFormed fill closing linesAfter wrapped wrapText lastComma breakAt commaLines wrapLocation lengthText white blanked words joined printedName locusText fieldLines referenceLines headerLines commaKey bareKey valueLines qualifierLines featureLines featuresLines letterLines originLines written
+unfolding the-reader the-writer the-rules the-tables
 rules-of-another-width = refl
 
 -- and where the width alone is too small: these keep the rules of a width of 20, and come back all the same
@@ -274,5 +298,5 @@ narrow =
 pub narrower-than-needed :
     map (λ t. wellFormed 20 false false t ∷ keeps 20 false false t ∷ comes-back 20 false false t ∷ []) narrow ≡
     map (λ t. true ∷ true ∷ true ∷ []) narrow
-unfolding narrow same-may same-number same-date same-locus same-pubmed same-qualifiers same-features same-table back comes-back table day locus-of with-locus plain named with-definition with-pubmed with-feature with-kind with-location with-value decimal digits monthName dateText featuresHeader bare escape quotedTurn quoted value valueOf qualifier featureFrom feature fieldText fieldBytes field reference source ignoredLine headerField latest every locusKept linesKept headerKept bareKept valueKept qualifierKept featureKept keeps preamble tokens dateOf dateToken locusFrom locusOf locusLine locus originTag letters tag until line lineEnd membersUpTo endUpTo members end features slashesLater middle tableFrom readRecord readAt chars utf8 referenceTexts headerTexts locusFine qualifierFine featureFine lettersFine wellFormed fill closing linesAfter wrapped wrapText lastComma breakAt commaLines wrapLocation lengthText white blanked words joined printedName locusText fieldLines referenceLines headerLines commaKey bareKey valueLines qualifierLines featureLines featuresLines letterLines originLines written
+unfolding the-reader the-writer the-rules the-tables narrow
 narrower-than-needed = refl

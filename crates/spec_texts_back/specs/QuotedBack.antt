@@ -203,7 +203,7 @@ no-cr W indent used (b ∷ t) k = go (λ l. no-cr W indent l t) (eqb b 34) refl 
     go ih false p false q true r = cc
     go ih false p false q false r = cc (ih (suc used) (cc))
 
-pub kept-presents :
+kept-presents :
     (W indent used : ℕ) (t : List ℕ) → linesKept true W indent used t ≡ true → Presents false indent (wrapped true W indent used t) t
 kept-presents W indent used t k =
     let c : all (but 13) t ≡ true = no-cr W indent used t k in

@@ -35,7 +35,7 @@ afterLine q [] = []
 afterLine q (b ∷ t) = elim (q && eqb b 34) [ true ↦ afterLine q t | false ↦ elim (eqb b 10) [ true ↦ t | false ↦ afterLine q t ] ]
 
 module _ (q : Bool) (W indent : ℕ) where
-  pub kept-lt : (used : ℕ) (t : List ℕ) → linesKept q W indent used t ≡ true → used < W
+  kept-lt : (used : ℕ) (t : List ℕ) → linesKept q W indent used t ≡ true → used < W
   unfolding linesKept
   kept-lt used [] k = ltb-true used W k
   kept-lt used (b ∷ t) k = go (λ l. kept-lt l t) (q && eqb b 34) refl (eqb b 10) refl (eqb b 13) refl

@@ -30,10 +30,10 @@ fn put_digits(out: &mut [u8], at: usize, n: u32, f: usize) -> usize
         return at;
     }
     if n < 10 {
-        return put_byte(out, at, (48 + n) as u8);
+        return put_byte(out, at, b'0' + n as u8);
     }
     let p = put_digits(out, at, n / 10, f - 1);
-    put_byte(out, p, (48 + n % 10) as u8)
+    put_byte(out, p, b'0' + (n % 10) as u8)
 }
 
 pub fn put_decimal(out: &mut [u8], at: usize, n: u32) -> usize

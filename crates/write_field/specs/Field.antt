@@ -10,7 +10,7 @@ use Rattle.spec_format.specs.Wrap.{wrapped, wrapText}
 use Rattle.spec_format.specs.Write.{padded, fieldLines}
 use Rattle.write_wrap_text.specs.Bound.{text-length}
 
-pub length-padded : (n : ℕ) (w : List ℕ) → length w ≤ n → length (padded n w) ≡ n
+length-padded : (n : ℕ) (w : List ℕ) → length w ≤ n → length (padded n w) ≡ n
 length-padded n w h = omega (arith, length-append w (spaces (n - length w)), length-replicate {A = ℕ} (n - length w) 32)
 
 pub field-is : (W : ℕ) (w t : List ℕ) → length w ≤ 12 → padded 12 w ++ wrapped false W 12 12 t ≡ fieldLines W w t

@@ -64,7 +64,7 @@ fn put_source(out: &mut [u8], at: usize, texts: &[u8], source: SourceText, width
 }
 
 // The text whose start and length stand in a row.
-fn put_row(
+fn put_row_text(
     out: &mut [u8],
     at: usize,
     word: &[u8],
@@ -80,7 +80,7 @@ fn put_row(
 }
 
 // The same of one that may be absent: it has its length plus one.
-fn put_row_maybe(
+fn put_row_text_maybe(
     out: &mut [u8],
     at: usize,
     word: &[u8],
@@ -111,9 +111,9 @@ fn put_reference_start(
     requires { ⌜ (length (now texts) ≤ 16777216) × (place + 13 < length (now references)) × ReferenceIn (now texts) (now references) place × (60 ≤ width) × (width ≤ 132) ⌝ }
     ensures { λ r. ⌜ Writes (now (out .entry)) at (referenceStart width (referenceIn (referenceRooms (now (texts .entry)) (now (references .entry))) place)) (now (out .exit)) r ⌝ }
 {
-    let a = put_row(out, at, b"REFERENCE", texts, references, place, width);
-    let b = put_row_maybe(out, a, b"  AUTHORS", texts, references, place + 2, width);
-    put_row_maybe(out, b, b"  CONSRTM", texts, references, place + 4, width)
+    let a = put_row_text(out, at, b"REFERENCE", texts, references, place, width);
+    let b = put_row_text_maybe(out, a, b"  AUTHORS", texts, references, place + 2, width);
+    put_row_text_maybe(out, b, b"  CONSRTM", texts, references, place + 4, width)
 }
 
 fn put_reference(
@@ -128,10 +128,10 @@ fn put_reference(
     ensures { λ r. ⌜ Writes (now (out .entry)) at (referenceLines width (referenceIn (referenceRooms (now (texts .entry)) (now (references .entry))) place)) (now (out .exit)) r ⌝ }
 {
     let a = put_reference_start(out, at, texts, references, place, width);
-    let b = put_row(out, a, b"  TITLE", texts, references, place + 6, width);
-    let d = put_row_maybe(out, b, b"  JOURNAL", texts, references, place + 8, width);
-    let e = put_row_maybe(out, d, b"   PUBMED", texts, references, place + 10, width);
-    put_row_maybe(out, e, b"  REMARK", texts, references, place + 12, width)
+    let b = put_row_text(out, a, b"  TITLE", texts, references, place + 6, width);
+    let d = put_row_text_maybe(out, b, b"  JOURNAL", texts, references, place + 8, width);
+    let e = put_row_text_maybe(out, d, b"   PUBMED", texts, references, place + 10, width);
+    put_row_text_maybe(out, e, b"  REMARK", texts, references, place + 12, width)
 }
 
 fn put_references(
@@ -168,7 +168,7 @@ fn put_comments(
     let mut p = at;
     let mut i = 0;
     while i < n {
-        p = put_row(out, p, b"COMMENT", texts, comments, 2 * i, width);
+        p = put_row_text(out, p, b"COMMENT", texts, comments, 2 * i, width);
         i += 1;
     }
     p

@@ -27,7 +27,7 @@ abbrev pub orUntitled : May (List ℕ) → List ℕ
 orUntitled absent = bytes "UNTITLED"
 orUntitled (is t) = t
 
-pub chosen-is : (store : List ℕ) (name accession : Text) → orUntitled (mayText store (chosen name accession)) ≡ nameOr (mayText store name) (mayText store accession)
+chosen-is : (store : List ℕ) (name accession : Text) → orUntitled (mayText store (chosen name accession)) ≡ nameOr (mayText store name) (mayText store accession)
 chosen-is store text.Absent text.Absent = refl
 chosen-is store text.Absent (text.At s) = refl
 chosen-is store (text.At s) accession = refl

@@ -28,7 +28,7 @@ ghost use Rattle.judge_rooms.specs.Parts.{referenceRooms};
 ghost use Rattle.write_locus.specs.Line.{chosen, orUntitled, nameWith, lineStart, lineMiddle, lineEnd, lineWith};
 
 // The length that is printed: LOCUS's, else the letter count.
-pub fn printed_length(bases: Length, letters: usize) -> u32
+fn printed_length(bases: Length, letters: usize) -> u32
     requires { ⌜ letters ≤ 16777216 ⌝ }
     ensures { λ r. ⌜ r ≡ lengthOr (mayLength bases) letters ⌝ }
 {

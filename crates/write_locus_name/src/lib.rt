@@ -18,7 +18,7 @@ ghost use Rattle.base_pen.specs.Pen.{Writes};
 ghost use Rattle.write_locus_name.specs.Names.{Kept, nameTest, printedOf};
 
 // A name as it is, or its words joined by `_` where that is asked for and there are two or more.
-pub fn put_escaped_name(out: &mut [u8], at: usize, name: &[u8], escape: bool) -> usize
+fn put_escaped_name(out: &mut [u8], at: usize, name: &[u8], escape: bool) -> usize
     requires { ⌜ length (now name) ≤ 16777216 ⌝ }
     ensures { λ r. ⌜ Writes (now (out .entry)) at (escapedName escape (now (name .entry))) (now (out .exit)) r ⌝ }
 {

@@ -39,8 +39,8 @@ pub fn put_topology(out: &mut [u8], at: usize, circular: bool) -> usize
 fn put_day(out: &mut [u8], at: usize, day: u8) -> usize
     ensures { λ r. ⌜ Writes (now (out .entry)) at (dayText day) (now (out .exit)) r ⌝ }
 {
-    let a = put_byte(out, at, 48 + day / 10);
-    let b = put_byte(out, a, 48 + day % 10);
+    let a = put_byte(out, at, b'0' + day / 10);
+    let b = put_byte(out, a, b'0' + day % 10);
     put_byte(out, b, b'-')
 }
 
@@ -60,10 +60,10 @@ fn put_year(out: &mut [u8], at: usize, year: u16) -> usize
     ensures { λ r. ⌜ Writes (now (out .entry)) at (yearText year) (now (out .exit)) r ⌝ }
 {
     let a = put_byte(out, at, b'-');
-    let b = put_byte(out, a, (48 + year / 10 / 10 / 10) as u8);
-    let c = put_byte(out, b, (48 + year / 10 / 10 % 10) as u8);
-    let d = put_byte(out, c, (48 + year / 10 % 10) as u8);
-    put_byte(out, d, (48 + year % 10) as u8)
+    let b = put_byte(out, a, b'0' + (year / 10 / 10 / 10) as u8);
+    let c = put_byte(out, b, b'0' + (year / 10 / 10 % 10) as u8);
+    let d = put_byte(out, c, b'0' + (year / 10 % 10) as u8);
+    put_byte(out, d, b'0' + (year % 10) as u8)
 }
 
 pub fn put_date(out: &mut [u8], at: usize, date: Date) -> usize

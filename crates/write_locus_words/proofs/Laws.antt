@@ -12,7 +12,8 @@ use borrow.Author.Tests.{not-true, not-false}
 use Rattle.spec_format.specs.Bytes.{all, printing, blank}
 use Rattle.spec_format.specs.Write.{white, blanked}
 use Rattle.base_pen.specs.Pen.{Writes, Left, left-as, left-step, left-end}
-use Rattle.write_locus_words.specs.Words.{whiteOne, whiteTwo, whiteThree, white-is, whiteFrom, shown, blanked-step, blanked-none, closed, nextPlace, ended, second, cap, wordsLeft, words-step, words-none, twoLeft, two-step, two-none}
+use Rattle.write_locus_words.specs.Words.{whiteOne, whiteTwo, whiteThree, white-is, whiteFrom, shown, blanked-step, blanked-none, closed, nextPlace}
+use Rattle.write_locus_words.specs.Words.{ended, second, cap, wordsLeft, words-step, words-none, twoLeft, two-step, two-none}
 use Rattle.write_locus_words.specs.declared.Place.{Place}
 use Rattle.write_locus_words.specs.declared.Place.the-variants as place
 

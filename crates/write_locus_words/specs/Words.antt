@@ -93,15 +93,15 @@ wordsLeft place.Before l = joined (tokens l)
 wordsLeft place.Inside l = pick (starts notBlank l) (joined (tokens l)) (due (tokens l))
 wordsLeft place.After l = due (tokens l)
 
-pub tokens-blank : (b : ℕ) (l : List ℕ) → blank b ≡ true → tokens (b ∷ l) ≡ tokens l
+tokens-blank : (b : ℕ) (l : List ℕ) → blank b ≡ true → tokens (b ∷ l) ≡ tokens l
 unfolding tokens
 tokens-blank b l e = rw (e, tokens)
 
-pub tokens-inside : (b : ℕ) (l : List ℕ) → blank b ≡ false → starts notBlank l ≡ true → tokens (b ∷ l) ≡ ahead b (tokens l)
+tokens-inside : (b : ℕ) (l : List ℕ) → blank b ≡ false → starts notBlank l ≡ true → tokens (b ∷ l) ≡ ahead b (tokens l)
 unfolding tokens
 tokens-inside b l e f = rw (e, f, tokens)
 
-pub tokens-last : (b : ℕ) (l : List ℕ) → blank b ≡ false → starts notBlank l ≡ false → tokens (b ∷ l) ≡ (b ∷ []) ∷ tokens l
+tokens-last : (b : ℕ) (l : List ℕ) → blank b ≡ false → starts notBlank l ≡ false → tokens (b ∷ l) ≡ (b ∷ []) ∷ tokens l
 unfolding tokens
 tokens-last b l e f = rw (e, f, tokens)
 

@@ -5,7 +5,7 @@ use base_pen::put_byte;
 use scan_bytes::is_between;
 use scan_bytes::is_blank;
 ghost use mathlib.Core.Path.{_≡_};
-ghost use mathlib.Core.Bool.{_||_};
+ghost use mathlib.Core.Bool.{_&&_, _||_};
 ghost use Prim.Native.Nat.{_≤_, _<_};
 ghost use lib.ListN.{length, getD, drop};
 ghost use lib.Dec.{eqb, ltb};
@@ -23,16 +23,17 @@ fn either(a: bool, b: bool) -> bool
 fn white_one(a: u8) -> bool
     ensures { λ r. ⌜ r ≡ whiteOne a ⌝ }
 {
-    either(is_between(9, 13, a), a == 32)
+    either(is_between(b'\t', b'\r', a), a == b' ')
 }
 
+// Next line and no-break space, C2 85 and C2 A0 in UTF-8.
 fn white_two(a: u8, b: u8) -> bool
     ensures { λ r. ⌜ r ≡ whiteTwo a b ⌝ }
 {
     both(a == 194, either(b == 133, b == 160))
 }
 
-// The last byte of a white space of three bytes that begins E2 80.
+// The last byte of a white space of three bytes that begins E2 80: the spaces 80 to 8A, line and paragraph separator A8 and A9, narrow no-break space AF.
 fn white_last(c: u8) -> bool
     ensures { λ r. ⌜ r ≡ (between 128 138 c || (between 168 169 c || eqb c 175)) ⌝ }
 {
@@ -42,13 +43,26 @@ fn white_last(c: u8) -> bool
     )
 }
 
+fn white_general(a: u8, b: u8, c: u8) -> bool
+    ensures { λ r. ⌜ r ≡ (eqb a 226 && (eqb b 128 && (between 128 138 c || (between 168 169 c || eqb c 175)))) ⌝ }
+{
+    both(a == 226, both(b == 128, white_last(c)))
+}
+
+fn is_three(a: u8, b: u8, c: u8, x: u8, y: u8, z: u8) -> bool
+    ensures { λ r. ⌜ r ≡ (eqb a x && (eqb b y && eqb c z)) ⌝ }
+{
+    both(a == x, both(b == y, c == z))
+}
+
+// Beside those of `white_last`: Ogham space mark E1 9A 80, medium mathematical space E2 81 9F, ideographic space E3 80 80.
 fn white_three(a: u8, b: u8, c: u8) -> bool
     ensures { λ r. ⌜ r ≡ whiteThree a b c ⌝ }
 {
-    let ogham = both(a == 225, both(b == 154, c == 128));
-    let general = both(a == 226, both(b == 128, white_last(c)));
-    let medium = both(a == 226, both(b == 129, c == 159));
-    let ideographic = both(a == 227, both(b == 128, c == 128));
+    let ogham = is_three(a, b, c, 225, 154, 128);
+    let general = white_general(a, b, c);
+    let medium = is_three(a, b, c, 226, 129, 159);
+    let ideographic = is_three(a, b, c, 227, 128, 128);
     either(ogham, either(general, either(medium, ideographic)))
 }
 
@@ -89,7 +103,7 @@ fn white_from(s: &[u8], i: usize, n: usize) -> usize
 fn shown_byte(w: usize, b: u8) -> u8
     ensures { λ r. ⌜ r ≡ shown w b ⌝ }
 {
-    if 0 < w { 32 } else { b }
+    if 0 < w { b' ' } else { b }
 }
 
 // Where a byte stands: before the first word, in a word, or after one.
@@ -201,7 +215,7 @@ pub fn words_print(name: &[u8]) -> bool
     let mut i = 0;
     while i < name.len() {
         let w = white_from(name, i, white);
-        if !is_between(32, 126, shown_byte(w, name[i])) {
+        if !is_between(b' ', b'~', shown_byte(w, name[i])) {
             return false;
         }
         white = left_of(w, 1);

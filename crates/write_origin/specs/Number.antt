@@ -50,7 +50,7 @@ columns-are (suc k) (suc f) n a b h = go (λ p q. columns-are k f (n / 10) p q (
         let s : suc k - length (d ++ (48 + n % 10) ∷ []) ≡ k - length d = omega (arith, length-append d ((48 + n % 10) ∷ [])) in
         rw (digits-more f n l, column-digit n a, s, ← (rest (omega arith) (div-lt-iff-lt-mul {k = 10} (omega arith) .1 (rw pow-suc at b)))) (simp append-assoc)
 
-pub nine-columns : (n : ℕ) → 1 ≤ n → n < 1000000000 → rightAligned 9 (decimal n) ≡ columns 9 n
+nine-columns : (n : ℕ) → 1 ≤ n → n < 1000000000 → rightAligned 9 (decimal n) ≡ columns 9 n
 nine-columns n a b = columns-are 9 10 n a b (omega arith)
 
 -- what a whole line's number is

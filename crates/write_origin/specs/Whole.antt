@@ -78,7 +78,7 @@ next-ten t i d h k l =
     let e : i + d + 10 ≡ i + (d + 10) = omega arith in
     rw (ten 10 (i + d) (drop (i + d) t) (omega arith) (omega arith) (omega arith) h, drop-drop 10 (i + d) t, ne-eqb ((i + d) % 60) 0 k, eq-eqb ((i + d) % 10) 0 h, e)
 
-pub line-first : (t : List ℕ) (i : ℕ) → i % 60 ≡ 0 → i + 60 ≤ length t → letterLines i (drop i t) ≡ sixty t i ++ letterLines (i + 60) (drop (i + 60) t)
+line-first : (t : List ℕ) (i : ℕ) → i % 60 ≡ 0 → i + 60 ≤ length t → letterLines i (drop i t) ≡ sixty t i ++ letterLines (i + 60) (drop (i + 60) t)
 line-first t i h l =
     let a : i + 30 + 10 ≡ i + 40 = omega arith in
     let b : i + 30 + 20 ≡ i + 50 = omega arith in
@@ -103,7 +103,7 @@ pub thrice : {l m n o x y z : List ℕ} {i j k p q r : ℕ} (h : ℕ)
 thrice h u v w e f g = twice h (twice _ u v e f) w refl g
 
 -- what fits is a write
-pub wrote-fits : {l m x : List ℕ} {i k : ℕ} → Wrote l i x m k → i ≤ k → Writes l i x m k
+wrote-fits : {l m x : List ℕ} {i k : ℕ} → Wrote l i x m k → i ≤ k → Writes l i x m k
 wrote-fits w u = record { fit = λ h. w; up = u }
 
 -- a turn of the loop over lines

@@ -62,7 +62,7 @@ fn put_tens(out: &mut [u8], at: usize, letters: &[u8], from: usize) -> usize
 fn column(m: u32) -> u8
     ensures { λ r. ⌜ r ≡ column m ⌝ }
 {
-    if m == 0 { 32 } else { (48 + m % 10) as u8 }
+    if m == 0 { b' ' } else { b'0' + (m % 10) as u8 }
 }
 
 // LF and a number in nine columns.
@@ -78,8 +78,8 @@ fn number_of(n: u32) -> [u8; 10]
     let f = e / 10;
     let g = f / 10;
     [
-        10,
-        32,
+        b'\n',
+        b' ',
         column(g),
         column(f),
         column(e),
@@ -133,7 +133,7 @@ fn store_spaced(out: &mut [u8], at: usize, letters: &[u8], i: usize)
     requires { ⌜ (at + 11 ≤ length (now out)) × (i + 10 ≤ length (now letters)) ⌝ }
     ensures { λ r. ⌜ Wrote (now (out .entry)) at (spaced (now (letters .entry)) i) (now (out .exit)) (at + 11) ⌝ }
 {
-    store(out, at, 32);
+    store(out, at, b' ');
     let ten = ten_from(letters, i);
     store_ten(out, at + 1, &ten);
 }

@@ -170,7 +170,7 @@ lines-length (suc f) W indent used t h = by (leb (used + length t) W) (lines-len
           length-drop k t,
         )
 
-pub commas-length : (W indent used : ℕ) (t : List ℕ) → indent ≤ 21 → length (commaLines (length t) W indent used t) ≤ 23 * length t + 1
+commas-length : (W indent used : ℕ) (t : List ℕ) → indent ≤ 21 → length (commaLines (length t) W indent used t) ≤ 23 * length t + 1
 commas-length W indent used t h = omega (arith, lines-length (length t) W indent used t h)
 
 pub location-length : (W : ℕ) (first : List ℕ) (indent : ℕ) (t : List ℕ) → indent ≤ 21 → length (wrapLocation W first indent t) ≤ length first + 23 * length t + 1

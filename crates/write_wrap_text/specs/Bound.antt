@@ -51,7 +51,7 @@ after-length (suc f) q W indent used (b ∷ t) h =
       after-length f q W indent (indent + length x) r h,
     )
 
-pub wrapped-length : (q : Bool) (W indent used : ℕ) (t : List ℕ) → indent ≤ 21 → length (wrapped q W indent used t) ≤ 24 * length t + 24
+wrapped-length : (q : Bool) (W indent used : ℕ) (t : List ℕ) → indent ≤ 21 → length (wrapped q W indent used t) ≤ 24 * length t + 24
 unfolding wrapped
 wrapped-length q W indent used t h =
     let x = lineText (fill q W used t) in

@@ -40,7 +40,7 @@ fn columns(b: u8, quote: bool) -> usize
     1
 }
 
-// Whether a line of `width` columns stops before b, which would bring it to w columns. A byte inside a character never stops it.
+// Whether a line of `width` columns stops before b, which would bring it to w columns. A byte inside a character, in UTF-8 one of 128 to 191, never stops it.
 fn stops(b: u8, width: usize, w: usize) -> bool
     ensures { λ r. ⌜ r ≡ stops b width w ⌝ }
 {
@@ -279,6 +279,7 @@ fn line_break(text: &[u8], taken: usize, width: usize, quote: bool) -> Found
     if k < room {
         return fed_break(text, k, taken, width, quote);
     }
+    // below 128 a byte is a character of its own
     if text[room] < 128 {
         return Found {
             at: full(text[room], room, last_to(text, room)),

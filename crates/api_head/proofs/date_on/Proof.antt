@@ -1,4 +1,4 @@
--- `headnumbers::date_on` meets its contract.
+-- `api_head::date_on` meets its contract.
 use borrow.Author.Needs.{needs}
 use Rattle.api_head.proofs.Laws.{ways}
 use Rattle.api_head.proofs.date_on.Statement.{statement}

@@ -1,4 +1,4 @@
--- `headnumbers::head_from` meets its contract.
+-- `api_head::head_from` meets its contract.
 use borrow.Author.Needs.{needs}
 use Rattle.api_head.proofs.Laws.{ways}
 use Rattle.api_head.proofs.head_from.Statement.{statement}

@@ -1,4 +1,4 @@
--- `headnumbers::length_from` meets its contract.
+-- `api_head::length_from` meets its contract.
 use borrow.Author.Needs.{needs}
 use Rattle.api_head.proofs.Laws.{ways}
 use Rattle.api_head.proofs.length_from.Statement.{statement}

@@ -1,4 +1,4 @@
--- `headnumbers::lower_byte` meets its contract.
+-- `api_head::lower_byte` meets its contract.
 use borrow.Author.Needs.{needs}
 use Rattle.api_head.proofs.Laws.{ways}
 use Rattle.api_head.proofs.lower_byte.Statement.{statement}

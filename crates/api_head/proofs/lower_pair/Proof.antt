@@ -1,4 +1,4 @@
--- `headnumbers::lower_pair` meets its contract.
+-- `api_head::lower_pair` meets its contract.
 use borrow.Author.Needs.{needs}
 use Rattle.api_head.proofs.Laws.{ways}
 use Rattle.api_head.proofs.lower_pair.Statement.{statement}

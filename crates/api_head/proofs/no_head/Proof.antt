@@ -1,4 +1,4 @@
--- `headnumbers::no_head` meets its contract.
+-- `api_head::no_head` meets its contract.
 use mathlib.Core.Path.{refl}
 use Rattle.api_head.specs.Numbers.{outside}
 use Rattle.api_head.proofs.no_head.Statement.{statement}

@@ -1,4 +1,4 @@
--- `headnumbers::number_at` meets its contract.
+-- `api_head::number_at` meets its contract.
 use borrow.Author.Needs.{needs}
 use Rattle.api_head.proofs.Laws.{ways}
 use Rattle.api_head.proofs.number_at.Statement.{statement}

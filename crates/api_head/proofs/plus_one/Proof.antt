@@ -1,4 +1,4 @@
--- `headnumbers::plus_one` meets its contract.
+-- `api_head::plus_one` meets its contract.
 use borrow.Author.Needs.{needs}
 use Rattle.api_head.proofs.Laws.{ways}
 use Rattle.api_head.proofs.plus_one.Statement.{statement}

@@ -1,4 +1,4 @@
--- `headnumbers::put_date` meets its contract.
+-- `api_head::put_date` meets its contract.
 use borrow.Author.Needs.{needs}
 use Rattle.api_head.proofs.Laws.{ways, dated-some}
 use Rattle.api_head.proofs.put_date.Statement.{statement}

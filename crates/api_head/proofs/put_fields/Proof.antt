@@ -1,4 +1,4 @@
--- `headnumbers::put_fields` meets its contract.
+-- `api_head::put_fields` meets its contract.
 use borrow.Author.Needs.{needs}
 use Rattle.base_pen.specs.Pen.{writes-append}
 use Rattle.api_head.specs.Numbers.{fieldNumbers}
@@ -28,7 +28,13 @@ same-length c = search needs
 
 returns : tie.Need-returns
 unfolding fieldNumbers
-returns c = writes-append (writes-append (writes-append (writes-append (writes-append (c .before .before .before .before .before .before .before .before .before .before .before .before .before .before .before .before .before .before .before .before .before .before .put-text .ensures) (c .before .before .before .before .before .before .before .before .before .before .before .before .before .before .before .before .before .before .put-text2 .ensures)) (c .before .before .before .before .before .before .before .before .before .before .before .before .before .before .put-text3 .ensures)) (c .before .before .before .before .before .before .before .before .before .before .put-text4 .ensures)) (c .before .before .before .before .before .before .put-text5 .ensures)) (c .before .before .put-source .ensures)
+returns c =
+    let c6 = c .before .before .before .before .before .before in
+    let c10 = c6 .before .before .before .before in
+    let c14 = c10 .before .before .before .before in
+    let c18 = c14 .before .before .before .before in
+    let c22 = c18 .before .before .before .before in
+    writes-append (writes-append (writes-append (writes-append (writes-append (c22 .put-text .ensures) (c18 .put-text2 .ensures)) (c14 .put-text3 .ensures)) (c10 .put-text4 .ensures)) (c6 .put-text5 .ensures)) (c .before .before .put-source .ensures)
 
 pub put-fields-spec : {M : Type 1} → statement M
 put-fields-spec =

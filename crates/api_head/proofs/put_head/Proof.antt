@@ -1,4 +1,4 @@
--- `headnumbers::put_head` meets its contract.
+-- `api_head::put_head` meets its contract.
 use borrow.Author.Needs.{needs}
 use Rattle.base_pen.specs.Pen.{writes-append}
 use Rattle.api_head.specs.Numbers.{headNumbers}
@@ -19,7 +19,10 @@ same-length c = search needs
 
 returns : tie.Need-returns
 unfolding headNumbers
-returns c = writes-append (writes-append (c .before .before .before .before .before .before .before .before .before .before .put-locus .ensures) (c .before .before .before .before .before .before .put-fields .ensures)) (c .before .before .put-rest .ensures)
+returns c =
+    let c6 = c .before .before .before .before .before .before in
+    let c10 = c6 .before .before .before .before in
+    writes-append (writes-append (c10 .put-locus .ensures) (c6 .put-fields .ensures)) (c .before .before .put-rest .ensures)
 
 pub put-head-spec : {M : Type 1} → statement M
 put-head-spec =

@@ -1,4 +1,4 @@
--- `headnumbers::put_length` meets its contract.
+-- `api_head::put_length` meets its contract.
 use borrow.Author.Needs.{needs}
 use Rattle.api_head.proofs.Laws.{ways, length-some}
 use Rattle.api_head.proofs.put_length.Statement.{statement}

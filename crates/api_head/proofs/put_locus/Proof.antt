@@ -1,4 +1,4 @@
--- `headnumbers::put_locus` meets its contract.
+-- `api_head::put_locus` meets its contract.
 use borrow.Author.Needs.{needs}
 use Rattle.base_pen.specs.Pen.{writes-append}
 use Rattle.api_head.specs.Numbers.{locusNumbers}
@@ -31,7 +31,14 @@ same-length c = search needs
 
 returns : tie.Need-returns
 unfolding locusNumbers
-returns c = writes-append (writes-append (writes-append (writes-append (writes-append (c .before .before .before .before .before .before .before .before .before .before .before .before .before .before .before .before .before .before .before .before .before .before .before .put-text .ensures) (c .before .before .before .before .before .before .before .before .before .before .before .before .before .before .before .before .before .before .before .put-length .ensures)) (c .before .before .before .before .before .before .before .before .before .before .before .before .before .before .before .put-text2 .ensures)) (rw (c .before .before .before .before .before .before .before .before .before .before .before .flag-of .ensures) at (c .before .before .before .before .before .before .before .before .before .before .put-number .ensures))) (c .before .before .before .before .before .before .put-two .ensures)) (c .before .before .put-date .ensures)
+returns c =
+    let c6 = c .before .before .before .before .before .before in
+    let c10 = c6 .before .before .before .before in
+    let c11 = c10 .before in
+    let c15 = c11 .before .before .before .before in
+    let c19 = c15 .before .before .before .before in
+    let c23 = c19 .before .before .before .before in
+    writes-append (writes-append (writes-append (writes-append (writes-append (c23 .put-text .ensures) (c19 .put-length .ensures)) (c15 .put-text2 .ensures)) (rw (c11 .flag-of .ensures) at (c10 .put-number .ensures))) (c6 .put-two .ensures)) (c .before .before .put-date .ensures)
 
 pub put-locus-spec : {M : Type 1} → statement M
 put-locus-spec =

@@ -1,4 +1,4 @@
--- `headnumbers::put_rest` meets its contract.
+-- `api_head::put_rest` meets its contract.
 use borrow.Author.Needs.{needs}
 use Rattle.base_pen.specs.Pen.{writes-append}
 use Rattle.api_head.specs.Numbers.{restNumbers}
@@ -22,7 +22,11 @@ same-length c = search needs
 
 returns : tie.Need-returns
 unfolding restNumbers
-returns c = writes-append (writes-append (writes-append (c .before .before .before .before .before .before .before .before .before .before .before .before .before .before .put-two .ensures) (c .before .before .before .before .before .before .before .before .before .before .put-number .ensures)) (c .before .before .before .before .before .before .put-text .ensures)) (c .before .before .put-number2 .ensures)
+returns c =
+    let c6 = c .before .before .before .before .before .before in
+    let c10 = c6 .before .before .before .before in
+    let c14 = c10 .before .before .before .before in
+    writes-append (writes-append (writes-append (c14 .put-two .ensures) (c10 .put-number .ensures)) (c6 .put-text .ensures)) (c .before .before .put-number2 .ensures)
 
 pub put-rest-spec : {M : Type 1} → statement M
 put-rest-spec =

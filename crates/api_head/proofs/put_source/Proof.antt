@@ -1,4 +1,4 @@
--- `headnumbers::put_source` meets its contract.
+-- `api_head::put_source` meets its contract.
 use borrow.Author.Needs.{needs}
 use Rattle.api_head.proofs.Laws.{ways, source-some}
 use Rattle.api_head.proofs.put_source.Statement.{statement}
@@ -32,7 +32,11 @@ same-length-2 : tie.Need-same-length-2
 same-length-2 c = search needs
 
 returns-2 : tie.Need-returns-2
-returns-2 c = source-some _ _ _ _ _ _ _ _ _ _ (c .before .before .before .before .before .before .before .before .before .before .source .given .1) (c .before .before .before .before .before .before .before .plus-one .ensures) (c .before .before .before .before .before .before .put-two .ensures) (c .before .before .put-text .ensures)
+returns-2 c =
+    let c6 = c .before .before .before .before .before .before in
+    let c7 = c6 .before in
+    let c10 = c7 .before .before .before in
+    source-some _ _ _ _ _ _ _ _ _ _ (c10 .source .given .1) (c7 .plus-one .ensures) (c6 .put-two .ensures) (c .before .before .put-text .ensures)
 
 pub put-source-spec : {M : Type 1} → statement M
 put-source-spec =

@@ -1,4 +1,4 @@
--- `headnumbers::put_text` meets its contract.
+-- `api_head::put_text` meets its contract.
 use borrow.Author.Needs.{needs}
 use Rattle.api_head.proofs.Laws.{ways, text-some}
 use Rattle.api_head.proofs.put_text.Statement.{statement}

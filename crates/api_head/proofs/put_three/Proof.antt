@@ -1,4 +1,4 @@
--- `headnumbers::put_three` meets its contract.
+-- `api_head::put_three` meets its contract.
 use borrow.Author.Needs.{needs}
 use Rattle.base_pen.specs.Pen.{writes-append}
 use Rattle.api_head.proofs.put_three.Statement.{statement}

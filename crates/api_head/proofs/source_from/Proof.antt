@@ -1,4 +1,4 @@
--- `headnumbers::source_from` meets its contract.
+-- `api_head::source_from` meets its contract.
 use borrow.Author.Needs.{needs}
 use Rattle.api_head.proofs.Laws.{ways}
 use Rattle.api_head.proofs.source_from.Statement.{statement}

@@ -1,4 +1,4 @@
--- `headnumbers::text_at` meets its contract.
+-- `api_head::text_at` meets its contract.
 use mathlib.Core.Path.{_∙_}
 use borrow.Author.Needs.{needs}
 use Rattle.api_head.proofs.Laws.{ways}

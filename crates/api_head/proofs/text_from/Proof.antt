@@ -1,4 +1,4 @@
--- `headnumbers::text_from` meets its contract.
+-- `api_head::text_from` meets its contract.
 use borrow.Author.Needs.{needs}
 use Rattle.api_head.proofs.Laws.{ways}
 use Rattle.api_head.proofs.text_from.Statement.{statement}

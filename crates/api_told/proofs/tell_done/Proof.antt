@@ -1,4 +1,4 @@
--- `telling::tell_done` meets its contract.
+-- `api_told::tell_done` meets its contract.
 use borrow.Author.Needs.{needs}
 use Rattle.base_pen.specs.Pen.{writes-append}
 use Rattle.api_told.proofs.tell_done.Statement.{statement}

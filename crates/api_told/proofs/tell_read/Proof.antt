@@ -1,4 +1,4 @@
--- `telling::tell_read` meets its contract.
+-- `api_told::tell_read` meets its contract.
 use borrow.Author.Needs.{needs}
 use Rattle.api_told.proofs.Laws.{done-told, refused-told, room-told}
 use Rattle.api_told.proofs.tell_read.Statement.{statement}

@@ -1,4 +1,4 @@
--- `telling::tell_sizes` meets its contract.
+-- `api_told::tell_sizes` meets its contract.
 use borrow.Author.Needs.{needs}
 use Rattle.base_pen.specs.Pen.{writes-append}
 use Rattle.api_told.proofs.tell_sizes.Statement.{statement}
@@ -17,7 +17,10 @@ same-length : tie.Need-same-length
 same-length c = search needs
 
 returns : tie.Need-returns
-returns c = writes-append (writes-append (c .before .before .before .before .before .before .before .before .before .before .put-number .ensures) (c .before .before .before .before .before .before .put-four .ensures)) (c .before .before .put-two .ensures)
+returns c =
+    let c6 = c .before .before .before .before .before .before in
+    let c10 = c6 .before .before .before .before in
+    writes-append (writes-append (c10 .put-number .ensures) (c6 .put-four .ensures)) (c .before .before .put-two .ensures)
 
 pub tell-sizes-spec : {M : Type 1} → statement M
 tell-sizes-spec =

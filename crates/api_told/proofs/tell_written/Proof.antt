@@ -1,4 +1,4 @@
--- `telling::tell_written` meets its contract.
+-- `api_told::tell_written` meets its contract.
 use borrow.Author.Needs.{needs}
 use Rattle.api_told.proofs.Laws.{value-told}
 use Rattle.api_told.proofs.tell_written.Statement.{statement}

@@ -1,4 +1,4 @@
--- `pen::put_bytes` meets its contract.
+-- `base_pen::put_bytes` meets its contract.
 use borrow.Author.Needs.{needs}
 use Rattle.base_pen.specs.Pen.{writes-past-all}
 use Rattle.base_pen.proofs.put_bytes.Statement.{statement}

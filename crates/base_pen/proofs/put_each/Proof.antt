@@ -1,4 +1,4 @@
--- `pen::put_each` meets its contract.
+-- `base_pen::put_each` meets its contract.
 use Prim.Native.Nat.{_-_, _≤_}
 use mathlib.Core.Path.{_≡_, refl}
 use lib.ListN.{length, drop}

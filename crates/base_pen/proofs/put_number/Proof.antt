@@ -1,4 +1,4 @@
--- `pen::put_number` meets its contract.
+-- `base_pen::put_number` meets its contract.
 use native.Mathlib.Omega.{arith}
 use Rattle.base_pen.specs.Pen.{writes-byte, writes-past, writes-top}
 use borrow.Author.Needs.{needs}

@@ -1,4 +1,4 @@
--- `pen::put_spaces` meets its contract.
+-- `base_pen::put_spaces` meets its contract.
 use borrow.Author.Needs.{needs}
 use Rattle.base_pen.specs.Pen.{writes-past-spaces}
 use Rattle.base_pen.proofs.put_spaces.Statement.{statement}

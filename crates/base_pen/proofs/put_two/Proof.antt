@@ -1,4 +1,4 @@
--- `pen::put_two` meets its contract.
+-- `base_pen::put_two` meets its contract.
 use Rattle.base_pen.specs.Pen.{writes-append}
 use borrow.Author.Needs.{needs}
 use Rattle.base_pen.proofs.put_two.Statement.{statement}

@@ -30,7 +30,10 @@ row-passes-requires c κs = record { small = c .before .before .before .before .
 
 returns : tie.Need-returns Inv-loop μ-loop
 unfolding commentIn
-returns c = rows-no _ _ _ _ _ _ (c .before .before .before .loop .inv .1) (c .before .before .loop-test .taken) (c .before .row-passes .ensures) (c .if1 .taken) ∙ all-rows (headerOf (c .before .before .before .before .before .before .args .rule)) (commentIn (commentRooms (now (c .before .before .before .before .before .before .args .texts)) (now (c .before .before .before .before .before .before .args .comments)))) 2 0 _
+returns c =
+    let c3 = c .before .before .before in
+    let c6 = c3 .before .before .before in
+    rows-no _ _ _ _ _ _ (c3 .loop .inv .1) (c .before .before .loop-test .taken) (c .before .row-passes .ensures) (c .if1 .taken) ∙ all-rows (headerOf (c6 .args .rule)) (commentIn (commentRooms (now (c6 .args .texts)) (now (c6 .args .comments)))) 2 0 _
 
 add-i : tie.Need-add-i Inv-loop μ-loop
 add-i c = search needs
@@ -43,7 +46,9 @@ unfolding commentIn
 loop-again c = (search needs, rows-go _ _ _ _ _ _ (c .before .before .before .loop .inv .1) (c .before .before .loop-test .taken) (c .before .row-passes .ensures) (c .if1 .left))
 
 returns-2 : tie.Need-returns-2 Inv-loop μ-loop
-returns-2 c = rows-end _ _ _ _ _ (c .before .loop .inv .1) (c .loop-test .left) ∙ all-rows (headerOf (c .before .before .before .before .args .rule)) (commentIn (commentRooms (now (c .before .before .before .before .args .texts)) (now (c .before .before .before .before .args .comments)))) 2 0 _
+returns-2 c =
+    let c4 = c .before .before .before .before in
+    rows-end _ _ _ _ _ (c .before .loop .inv .1) (c .loop-test .left) ∙ all-rows (headerOf (c4 .args .rule)) (commentIn (commentRooms (now (c4 .args .texts)) (now (c4 .args .comments)))) 2 0 _
 
 pub comments-pass-spec : {M : Type 1} → statement M
 comments-pass-spec =

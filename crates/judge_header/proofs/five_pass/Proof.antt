@@ -35,7 +35,15 @@ both-requires-5 : tie.Need-both-requires-5
 both-requires-5 c κs = search needs
 
 returns : tie.Need-returns
-returns c = c .both5 .ensures ∙ rw (c .before .text-passes5 .ensures, c .before .before .both4 .ensures, c .before .before .before .text-passes4 .ensures, c .before .before .before .before .both3 .ensures, c .before .before .before .before .before .text-passes3 .ensures, c .before .before .before .before .before .before .both2 .ensures, c .before .before .before .before .before .before .before .text-passes2 .ensures, c .before .before .before .before .before .before .before .before .both .ensures, c .before .before .before .before .before .before .before .before .before .text-passes .ensures)
+returns c =
+    let c3 = c .before .before .before in
+    let c4 = c3 .before in
+    let c5 = c4 .before in
+    let c6 = c5 .before in
+    let c7 = c6 .before in
+    let c8 = c7 .before in
+    let c9 = c8 .before in
+    c .both5 .ensures ∙ rw (c .before .text-passes5 .ensures, c .before .before .both4 .ensures, c3 .text-passes4 .ensures, c4 .both3 .ensures, c5 .text-passes3 .ensures, c6 .both2 .ensures, c7 .text-passes2 .ensures, c8 .both .ensures, c9 .text-passes .ensures)
 
 pub five-pass-spec : {M : Type 1} → statement M
 five-pass-spec =

@@ -26,7 +26,11 @@ five-pass-requires c κs = search needs
 
 returns : tie.Need-returns
 unfolding headerTexts tableOf referenceIn commentIn
-returns c = c .five-pass .ensures ∙ rw (c .before .both2 .ensures, c .before .before .source-passes .ensures, c .before .before .before .both .ensures, c .before .before .before .before .before .references-pass .ensures, c .before .before .before .before .comments-pass .ensures)
+returns c =
+    let c3 = c .before .before .before in
+    let c4 = c3 .before in
+    let c5 = c4 .before in
+    c .five-pass .ensures ∙ rw (c .before .both2 .ensures, c .before .before .source-passes .ensures, c3 .both .ensures, c5 .references-pass .ensures, c4 .comments-pass .ensures)
 
 pub header-passes-spec : {M : Type 1} → statement M
 header-passes-spec =

@@ -47,7 +47,13 @@ without-requires : tie.Need-without-requires
 without-requires c κs = search needs
 
 returns-2 : tie.Need-returns-2
-returns-2 c = let y : getD (now (c .before .before .before .before .before .before .before .args .rows)) (c .before .before .before .before .before .before .before .args .at) 0 + (getD (now (c .before .before .before .before .before .before .before .args .rows)) (c .before .before .before .before .before .before .before .args .at + 1) 0 - 1) - getD (now (c .before .before .before .before .before .before .before .args .rows)) (c .before .before .before .before .before .before .before .args .at) 0 ≡ getD (now (c .before .before .before .before .before .before .before .args .rows)) (c .before .before .before .before .before .before .before .args .at + 1) 0 - 1 = omega arith in perhaps-is (all (but 10)) _ _ _ _ (c .before .before .before .if1 .left) (rw y at (c .without .ensures))
+returns-2 c =
+    let c3 = c .before .before .before in
+    let c7 = c3 .before .before .before .before in
+    let start = getD (now (c7 .args .rows)) (c7 .args .at) 0 in
+    let n = getD (now (c7 .args .rows)) (c7 .args .at + 1) 0 in
+    let y : start + (n - 1) - start ≡ n - 1 = omega arith in
+    perhaps-is (all (but 10)) _ _ _ _ (c3 .if1 .left) (rw y at (c .without .ensures))
 
 pub one-line-spec : {M : Type 1} → statement M
 one-line-spec =

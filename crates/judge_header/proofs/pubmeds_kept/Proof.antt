@@ -29,11 +29,16 @@ add-one-line : tie.Need-add-one-line Inv-loop μ-loop
 add-one-line c = search needs
 
 one-line-requires : tie.Need-one-line-requires Inv-loop μ-loop
-one-line-requires c κs = record { small = c .before .before .before .before .pre .small; row = omega (arith, c .before .before .before .before .pre .long); inside = c .before .before .before .before .pre .each _ (c .loop-test .taken) .pubmed }
+one-line-requires c κs =
+    let c4 = c .before .before .before .before in
+    record { small = c4 .pre .small; row = omega (arith, c4 .pre .long); inside = c4 .pre .each _ (c .loop-test .taken) .pubmed }
 
 returns : tie.Need-returns Inv-loop μ-loop
 unfolding referenceIn
-returns c = rows-no _ _ _ _ _ _ (c .before .before .before .loop .inv .1) (c .before .before .loop-test .taken) (c .before .one-line .ensures) (c .if1 .taken) ∙ all-rows (pubmedKept) (referenceIn (referenceRooms (now (c .before .before .before .before .before .before .args .texts)) (now (c .before .before .before .before .before .before .args .references)))) 14 0 _
+returns c =
+    let c3 = c .before .before .before in
+    let c6 = c3 .before .before .before in
+    rows-no _ _ _ _ _ _ (c3 .loop .inv .1) (c .before .before .loop-test .taken) (c .before .one-line .ensures) (c .if1 .taken) ∙ all-rows (pubmedKept) (referenceIn (referenceRooms (now (c6 .args .texts)) (now (c6 .args .references)))) 14 0 _
 
 add-i : tie.Need-add-i Inv-loop μ-loop
 add-i c = search needs
@@ -46,7 +51,9 @@ unfolding referenceIn
 loop-again c = (search needs, rows-go _ _ _ _ _ _ (c .before .before .before .loop .inv .1) (c .before .before .loop-test .taken) (c .before .one-line .ensures) (c .if1 .left))
 
 returns-2 : tie.Need-returns-2 Inv-loop μ-loop
-returns-2 c = rows-end _ _ _ _ _ (c .before .loop .inv .1) (c .loop-test .left) ∙ all-rows (pubmedKept) (referenceIn (referenceRooms (now (c .before .before .before .before .args .texts)) (now (c .before .before .before .before .args .references)))) 14 0 _
+returns-2 c =
+    let c4 = c .before .before .before .before in
+    rows-end _ _ _ _ _ (c .before .loop .inv .1) (c .loop-test .left) ∙ all-rows (pubmedKept) (referenceIn (referenceRooms (now (c4 .args .texts)) (now (c4 .args .references)))) 14 0 _
 
 pub pubmeds-kept-spec : {M : Type 1} → statement M
 pubmeds-kept-spec =

@@ -30,7 +30,10 @@ reference-passes-requires : tie.Need-reference-passes-requires Inv-loop μ-loop
 reference-passes-requires c κs = (c .before .before .before .before .pre .small, omega (arith, c .before .before .before .before .pre .long), c .before .before .before .before .pre .each _ (c .loop-test .taken))
 
 returns : tie.Need-returns Inv-loop μ-loop
-returns c = rows-no _ _ _ _ _ _ (c .before .before .before .loop .inv .1) (c .before .before .loop-test .taken) (c .before .reference-passes .ensures) (c .if1 .taken) ∙ all-rows (referenceTexts (headerOf (c .before .before .before .before .before .before .args .rule))) (referenceIn (referenceRooms (now (c .before .before .before .before .before .before .args .texts)) (now (c .before .before .before .before .before .before .args .references)))) 14 0 _
+returns c =
+    let c3 = c .before .before .before in
+    let c6 = c3 .before .before .before in
+    rows-no _ _ _ _ _ _ (c3 .loop .inv .1) (c .before .before .loop-test .taken) (c .before .reference-passes .ensures) (c .if1 .taken) ∙ all-rows (referenceTexts (headerOf (c6 .args .rule))) (referenceIn (referenceRooms (now (c6 .args .texts)) (now (c6 .args .references)))) 14 0 _
 
 add-i : tie.Need-add-i Inv-loop μ-loop
 add-i c = search needs
@@ -42,7 +45,9 @@ loop-again : tie.Need-loop-again Inv-loop μ-loop
 loop-again c = (search needs, rows-go _ _ _ _ _ _ (c .before .before .before .loop .inv .1) (c .before .before .loop-test .taken) (c .before .reference-passes .ensures) (c .if1 .left))
 
 returns-2 : tie.Need-returns-2 Inv-loop μ-loop
-returns-2 c = rows-end _ _ _ _ _ (c .before .loop .inv .1) (c .loop-test .left) ∙ all-rows (referenceTexts (headerOf (c .before .before .before .before .args .rule))) (referenceIn (referenceRooms (now (c .before .before .before .before .args .texts)) (now (c .before .before .before .before .args .references)))) 14 0 _
+returns-2 c =
+    let c4 = c .before .before .before .before in
+    rows-end _ _ _ _ _ (c .before .loop .inv .1) (c .loop-test .left) ∙ all-rows (referenceTexts (headerOf (c4 .args .rule))) (referenceIn (referenceRooms (now (c4 .args .texts)) (now (c4 .args .references)))) 14 0 _
 
 pub references-pass-spec : {M : Type 1} → statement M
 references-pass-spec =

@@ -33,7 +33,11 @@ both-requires-3 c κs = search needs
 
 returns : tie.Need-returns
 unfolding bareKept
-returns c = both-is _ _ _ _ _ (c .both3 .ensures) (both-is _ _ _ _ _ (c .before .before .before .both .ensures) (c .before .before .before .before .before .without .ensures) (c .before .before .before .before .without2 .ensures)) (both-is _ _ _ _ _ (c .before .both2 .ensures) (ap not (c .before .before .begins .ensures)) refl)
+returns c =
+    let c3 = c .before .before .before in
+    let c4 = c3 .before in
+    let c5 = c4 .before in
+    both-is _ _ _ _ _ (c .both3 .ensures) (both-is _ _ _ _ _ (c3 .both .ensures) (c5 .without .ensures) (c4 .without2 .ensures)) (both-is _ _ _ _ _ (c .before .both2 .ensures) (ap not (c .before .before .begins .ensures)) refl)
 
 pub bare-kept-spec : {M : Type 1} → statement M
 bare-kept-spec =

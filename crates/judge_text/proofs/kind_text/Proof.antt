@@ -21,7 +21,10 @@ both-requires : tie.Need-both-requires
 both-requires c κs = search needs
 
 returns-2 : tie.Need-returns-2
-returns-2 c = some-is (now (c .before .before .before .before .before .args .s)) _ _ (c .before .before .before .if1 .left) (both-is _ _ _ _ _ (c .both .ensures) (c .before .before .visible-all .ensures) (ap not (c .before .begins .ensures)))
+returns-2 c =
+    let c3 = c .before .before .before in
+    let c5 = c3 .before .before in
+    some-is (now (c5 .args .s)) _ _ (c3 .if1 .left) (both-is _ _ _ _ _ (c .both .ensures) (c .before .before .visible-all .ensures) (ap not (c .before .begins .ensures)))
 
 pub kind-text-spec : {M : Type 1} → statement M
 kind-text-spec =

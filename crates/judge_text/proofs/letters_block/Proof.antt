@@ -1,4 +1,4 @@
--- `texts::letters_block` meets its contract.
+-- `judge_text::letters_block` meets its contract.
 use Prim.Native.Nat.{_-_, _≤_}
 use mathlib.Core.Path.{_≡_}
 use native.Mathlib.Omega.{arith}

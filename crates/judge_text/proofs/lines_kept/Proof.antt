@@ -37,7 +37,12 @@ loop-less : tie.Need-loop-less Inv-loop μ-loop
 loop-less c = search needs
 
 loop-again : tie.Need-loop-again Inv-loop μ-loop
-loop-again c = let m = column-small _ _ _ _ ((c .before .before .before .before .before .before .before .args .indent) + (c .before .before .before .before .before .before .before .args .start) + 2 * (c .before .before .before .before .before .loop .i)) _ _ _ (c .before .before .before .column-after .ensures) (c .before .next .given .1) (omega arith) (omega arith) in (search needs, omega arith, lines-go _ _ _ _ _ _ _ (c .before .before .before .before .before .loop .inv .2) _ _ (c .before .before .before .before .loop-test .taken) (c .before .before .before .column-after .ensures) (c .before .next .given .1))
+loop-again c =
+    let c3 = c .before .before .before in
+    let c4 = c3 .before in
+    let c5 = c4 .before in
+    let c7 = c5 .before .before in
+    let m = column-small _ _ _ _ ((c7 .args .indent) + (c7 .args .start) + 2 * (c5 .loop .i)) _ _ _ (c3 .column-after .ensures) (c .before .next .given .1) (omega arith) (omega arith) in (search needs, omega arith, lines-go _ _ _ _ _ _ _ (c5 .loop .inv .2) _ _ (c4 .loop-test .taken) (c3 .column-after .ensures) (c .before .next .given .1))
 
 returns-2 : tie.Need-returns-2 Inv-loop μ-loop
 returns-2 c = lines-end _ _ _ _ _ _ _ (c .before .loop .inv .2) (c .loop-test .left)

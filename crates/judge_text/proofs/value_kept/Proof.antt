@@ -22,7 +22,10 @@ both-requires c κs = search needs
 
 returns : tie.Need-returns
 unfolding valueKept
-returns c = pick-yes _ _ _ _ _ (c .before .before .before .before .comma-key .ensures) (c .before .before .before .if1 .taken) (both-is _ _ _ _ _ (c .both .ensures) (c .before .before .without .ensures) (ap not (c .before .begins .ensures)))
+returns c =
+    let c3 = c .before .before .before in
+    let c4 = c3 .before in
+    pick-yes _ _ _ _ _ (c4 .comma-key .ensures) (c3 .if1 .taken) (both-is _ _ _ _ _ (c .both .ensures) (c .before .before .without .ensures) (ap not (c .before .begins .ensures)))
 
 bare-key-requires : tie.Need-bare-key-requires
 bare-key-requires c κs = search needs
@@ -42,7 +45,12 @@ translation-kept-requires c κs = search needs
 
 returns-3 : tie.Need-returns-3
 unfolding valueKept
-returns-3 c = pick-no _ _ _ _ _ (c .before .before .before .before .before .before .comma-key .ensures) (c .before .before .before .before .before .if1 .left) (pick-no _ _ _ _ _ (c .before .before .before .before .bare-key .ensures) (c .before .before .before .if2 .left) (pick-yes _ _ _ _ _ (c .before .before .translation-key .ensures) (c .before .if3 .taken) (c .translation-kept .ensures)))
+returns-3 c =
+    let c3 = c .before .before .before in
+    let c4 = c3 .before in
+    let c5 = c4 .before in
+    let c6 = c5 .before in
+    pick-no _ _ _ _ _ (c6 .comma-key .ensures) (c5 .if1 .left) (pick-no _ _ _ _ _ (c4 .bare-key .ensures) (c3 .if2 .left) (pick-yes _ _ _ _ _ (c .before .before .translation-key .ensures) (c .before .if3 .taken) (c .translation-kept .ensures)))
 
 add-lines-kept : tie.Need-add-lines-kept
 add-lines-kept c = search needs
@@ -52,7 +60,12 @@ lines-kept-requires c κs = search needs
 
 returns-4 : tie.Need-returns-4
 unfolding valueKept
-returns-4 c = pick-no _ _ _ _ _ (c .before .before .before .before .before .before .comma-key .ensures) (c .before .before .before .before .before .if1 .left) (pick-no _ _ _ _ _ (c .before .before .before .before .bare-key .ensures) (c .before .before .before .if2 .left) (pick-no _ _ _ _ _ (c .before .before .translation-key .ensures) (c .before .if3 .left) (c .lines-kept .ensures)))
+returns-4 c =
+    let c3 = c .before .before .before in
+    let c4 = c3 .before in
+    let c5 = c4 .before in
+    let c6 = c5 .before in
+    pick-no _ _ _ _ _ (c6 .comma-key .ensures) (c5 .if1 .left) (pick-no _ _ _ _ _ (c4 .bare-key .ensures) (c3 .if2 .left) (pick-no _ _ _ _ _ (c .before .before .translation-key .ensures) (c .before .if3 .left) (c .lines-kept .ensures)))
 
 pub value-kept-spec : {M : Type 1} → statement M
 value-kept-spec =

@@ -1,4 +1,4 @@
--- `texts::visible_block` meets its contract.
+-- `judge_text::visible_block` meets its contract.
 use Prim.Native.Nat.{_-_, _≤_}
 use mathlib.Core.Path.{_≡_}
 use native.Mathlib.Omega.{arith}

@@ -1,4 +1,4 @@
--- `texts::without_block` meets its contract.
+-- `judge_text::without_block` meets its contract.
 use Rattle.judge_text.specs.Words.{Passed}
 use Rattle.spec_format.specs.Bytes.{but}
 use Rattle.judge_text.proofs.Bytewise.{passed-none, passed-one}

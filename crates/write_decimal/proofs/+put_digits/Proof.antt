@@ -1,4 +1,4 @@
--- `decimal::put_digits` meets its contract.
+-- `write_decimal::put_digits` meets its contract.
 use Rattle.base_pen.specs.Pen.{writes-nil, writes-append, writes-as}
 use Rattle.write_decimal.specs.Decimal.{digits-none, digits-last, digits-first}
 use native.Mathlib.Omega.{arith}
@@ -32,14 +32,6 @@ put-digits-returns : (t : ℕ) → put-digits-lts.Need-returns (
 ) (put-digits-at t) put-digits.Post
 put-digits-returns t c = writes-as (digits-none _ _ (c .if1 .taken)) writes-nil
 
-put-digits-add-put-byte : (t : ℕ) → put-digits-lts.Need-add-put-byte (
-  put-byte-reads.Asked,
-  put-byte-reads.Learnt,
-  put-digits-below t,
-  put-digits.Post,
-) (put-digits-at t) put-digits.Post
-put-digits-add-put-byte t c = search needs
-
 put-digits-cast-put-byte : (t : ℕ) → put-digits-lts.Need-cast-put-byte (
   put-byte-reads.Asked,
   put-byte-reads.Learnt,
@@ -47,6 +39,14 @@ put-digits-cast-put-byte : (t : ℕ) → put-digits-lts.Need-cast-put-byte (
   put-digits.Post,
 ) (put-digits-at t) put-digits.Post
 put-digits-cast-put-byte t c = search needs
+
+put-digits-add-put-byte : (t : ℕ) → put-digits-lts.Need-add-put-byte (
+  put-byte-reads.Asked,
+  put-byte-reads.Learnt,
+  put-digits-below t,
+  put-digits.Post,
+) (put-digits-at t) put-digits.Post
+put-digits-add-put-byte t c = search needs
 
 put-digits-put-byte-requires : (t : ℕ) → put-digits-lts.Need-put-byte-requires (
   put-byte-reads.Asked,
@@ -80,14 +80,6 @@ put-digits-put-digits-requires : (t : ℕ) → put-digits-lts.Need-put-digits-re
 ) (put-digits-at t) put-digits.Post
 put-digits-put-digits-requires t c κs = (omega arith, tt)
 
-put-digits-add-put-byte-2 : (t : ℕ) → put-digits-lts.Need-add-put-byte-2 (
-  put-byte-reads.Asked,
-  put-byte-reads.Learnt,
-  put-digits-below t,
-  put-digits.Post,
-) (put-digits-at t) put-digits.Post
-put-digits-add-put-byte-2 t c = search needs
-
 put-digits-cast-put-byte-2 : (t : ℕ) → put-digits-lts.Need-cast-put-byte-2 (
   put-byte-reads.Asked,
   put-byte-reads.Learnt,
@@ -95,6 +87,14 @@ put-digits-cast-put-byte-2 : (t : ℕ) → put-digits-lts.Need-cast-put-byte-2 (
   put-digits.Post,
 ) (put-digits-at t) put-digits.Post
 put-digits-cast-put-byte-2 t c = search needs
+
+put-digits-add-put-byte-2 : (t : ℕ) → put-digits-lts.Need-add-put-byte-2 (
+  put-byte-reads.Asked,
+  put-byte-reads.Learnt,
+  put-digits-below t,
+  put-digits.Post,
+) (put-digits-at t) put-digits.Post
+put-digits-add-put-byte-2 t c = search needs
 
 put-digits-put-byte-requires-2 : (t : ℕ) → put-digits-lts.Need-put-byte-requires-2 (
   put-byte-reads.Asked,
@@ -118,7 +118,11 @@ put-digits-returns-3 : (t : ℕ) → put-digits-lts.Need-returns-3 (
   put-digits-below t,
   put-digits.Post,
 ) (put-digits-at t) put-digits.Post
-put-digits-returns-3 t c = writes-as (digits-first _ _ (c .before .before .before .before .before .before .before .before .before .if1 .left) (c .before .before .before .before .before .before .before .before .if2 .left)) (writes-append (c .before .before .before .before .before .before .put-digits .ensures) (c .before .before .put-byte2 .ensures))
+put-digits-returns-3 t c =
+    let c6 = c .before .before .before .before .before .before in
+    let c8 = c6 .before .before in
+    let c9 = c8 .before in
+    writes-as (digits-first _ _ (c9 .if1 .left) (c8 .if2 .left)) (writes-append (c6 .put-digits .ensures) (c .before .before .put-byte2 .ensures))
 
 pub +put-digits-spec : {M : Type 1} → statement M
 +put-digits-spec = close μ-put-digits λ t. put-digits-lts.spec (
@@ -130,14 +134,14 @@ pub +put-digits-spec : {M : Type 1} → statement M
     (put-digits-at t)
     put-digits.Post
     (put-digits-returns t)
-    (put-digits-add-put-byte t)
     (put-digits-cast-put-byte t)
+    (put-digits-add-put-byte t)
     (put-digits-put-byte-requires t)
     (put-digits-same-length t)
     (put-digits-returns-2 t)
     (put-digits-put-digits-requires t)
-    (put-digits-add-put-byte-2 t)
     (put-digits-cast-put-byte-2 t)
+    (put-digits-add-put-byte-2 t)
     (put-digits-put-byte-requires-2 t)
     (put-digits-same-length-2 t)
     (put-digits-returns-3 t)

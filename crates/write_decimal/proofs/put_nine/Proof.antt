@@ -1,4 +1,4 @@
--- `decimal::put_nine` meets its contract.
+-- `write_decimal::put_nine` meets its contract.
 use Rattle.base_pen.specs.Pen.{writes-append, writes-as}
 use borrow.Author.Needs.{needs}
 use Rattle.write_decimal.proofs.put_nine.Statement.{statement}
@@ -20,7 +20,11 @@ same-length : tie.Need-same-length
 same-length c = search needs
 
 returns : tie.Need-returns
-returns c = writes-as (rw (c .before .before .before .before .before .before .before .left-of .ensures, c .before .before .before .before .before .before .before .before .width .ensures .is)) (writes-append (c .before .before .before .before .before .before .put-spaces .ensures) (c .before .before .put-decimal .ensures))
+returns c =
+    let c6 = c .before .before .before .before .before .before in
+    let c7 = c6 .before in
+    let c8 = c7 .before in
+    writes-as (rw (c7 .left-of .ensures, c8 .width .ensures .is)) (writes-append (c6 .put-spaces .ensures) (c .before .before .put-decimal .ensures))
 
 pub put-nine-spec : {M : Type 1} → statement M
 put-nine-spec =

@@ -1,4 +1,4 @@
--- `decimal::width` meets its contract.
+-- `write_decimal::width` meets its contract.
 use native.Mathlib.Omega.{arith}
 use mathlib.Core.Path.{refl}
 use borrow.Author.Needs.{needs}

@@ -1,4 +1,4 @@
--- `featurelines::put_contig` meets its contract.
+-- `write_feature::put_contig` meets its contract.
 use Rattle.base_pen.specs.Pen.{writes-append}
 use Rattle.spec_format.specs.Wrap.{wrapLocation}
 use borrow.Author.Needs.{needs}

@@ -1,4 +1,4 @@
--- `featurelines::put_feature` meets its contract.
+-- `write_feature::put_feature` meets its contract.
 use Rattle.base_pen.specs.Pen.{writes-append, writes-as}
 use denote.Ref.{now}
 use Rattle.write_feature.specs.Lines.{feature-is}
@@ -31,7 +31,13 @@ same-length : tie.Need-same-length
 same-length c = search needs
 
 returns : tie.Need-returns
-returns c = writes-as (feature-is (c .before .before .before .before .before .before .before .before .before .before .before .before .before .before .before .before .before .before .before .before .args .width) (now (c .before .before .before .before .before .before .before .before .before .before .before .before .before .before .before .before .before .before .before .before .args .kind)) (now (c .before .before .before .before .before .before .before .before .before .before .before .before .before .before .before .before .before .before .before .before .args .location)) _ (rw (c .before .before .before .before .left-of .ensures))) (writes-append (writes-append (writes-append (c .before .before .before .before .before .before .before .before .before .before .before .before .before .before .before .put-spaces .ensures) (c .before .before .before .before .before .before .before .before .before .before .before .put-padded .ensures)) (c .before .before .before .before .before .before .before .put-byte .ensures)) (c .before .before .put-commas .ensures))
+returns c =
+    let c4 = c .before .before .before .before in
+    let c7 = c4 .before .before .before in
+    let c11 = c7 .before .before .before .before in
+    let c15 = c11 .before .before .before .before in
+    let c20 = c15 .before .before .before .before .before in
+    writes-as (feature-is (c20 .args .width) (now (c20 .args .kind)) (now (c20 .args .location)) _ (rw (c4 .left-of .ensures))) (writes-append (writes-append (writes-append (c15 .put-spaces .ensures) (c11 .put-padded .ensures)) (c7 .put-byte .ensures)) (c .before .before .put-commas .ensures))
 
 pub put-feature-spec : {M : Type 1} → statement M
 put-feature-spec =

@@ -1,4 +1,4 @@
--- `featurelines::put_flag` meets its contract.
+-- `write_feature::put_flag` meets its contract.
 use Rattle.base_pen.specs.Pen.{writes-append}
 use borrow.Author.Needs.{needs}
 use Rattle.write_feature.proofs.put_flag.Statement.{statement}

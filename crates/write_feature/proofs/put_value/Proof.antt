@@ -1,4 +1,4 @@
--- `featurelines::put_value` meets its contract.
+-- `write_feature::put_value` meets its contract.
 use Rattle.base_pen.specs.Pen.{writes-append, writes-as}
 use denote.Ref.{now}
 use mathlib.Core.Path.{sym, _∙_}
@@ -26,7 +26,13 @@ same-length : tie.Need-same-length
 same-length c = search needs
 
 returns : tie.Need-returns
-returns c = writes-as (value-comma (c .before .before .before .before .before .before .before .before .before .before .before .before .before .before .before .before .before .args .width) (now (c .before .before .before .before .before .before .before .before .before .before .before .before .before .before .before .before .before .args .k)) (now (c .before .before .before .before .before .before .before .before .before .before .before .before .before .before .before .before .before .args .v)) (sym (c .before .before .before .before .before .comma-key .ensures) ∙ c .before .before .before .before .if1 .taken)) (writes-append (writes-append (c .before .before .before .before .before .before .before .before .before .before .before .before .put-key .ensures) (c .before .before .before .before .before .before .before .before .put-byte .ensures)) (c .before .before .put-commas .ensures))
+returns c =
+    let c4 = c .before .before .before .before in
+    let c5 = c4 .before in
+    let c8 = c5 .before .before .before in
+    let c12 = c8 .before .before .before .before in
+    let c17 = c12 .before .before .before .before .before in
+    writes-as (value-comma (c17 .args .width) (now (c17 .args .k)) (now (c17 .args .v)) (sym (c5 .comma-key .ensures) ∙ c4 .if1 .taken)) (writes-append (writes-append (c12 .put-key .ensures) (c8 .put-byte .ensures)) (c .before .before .put-commas .ensures))
 
 bare-key-requires : tie.Need-bare-key-requires
 bare-key-requires c κs = search needs
@@ -38,7 +44,15 @@ same-length-2 : tie.Need-same-length-2
 same-length-2 c = search needs
 
 returns-2 : tie.Need-returns-2
-returns-2 c = writes-as (value-bare (c .before .before .before .before .before .before .before .before .before .before .before .before .before .before .before .before .before .before .before .args .width) (now (c .before .before .before .before .before .before .before .before .before .before .before .before .before .before .before .before .before .before .before .args .k)) (now (c .before .before .before .before .before .before .before .before .before .before .before .before .before .before .before .before .before .before .before .args .v)) (sym (c .before .before .before .before .before .before .before .comma-key .ensures) ∙ c .before .before .before .before .before .before .if1 .left) (sym (c .before .before .before .before .before .bare-key .ensures) ∙ c .before .before .before .before .if2 .taken)) (writes-append (writes-append (c .before .before .before .before .before .before .before .before .before .before .before .before .before .before .put-key .ensures) (c .before .before .before .before .before .before .before .before .before .before .put-byte .ensures)) (c .before .before .put-wrapped .ensures))
+returns-2 c =
+    let c4 = c .before .before .before .before in
+    let c5 = c4 .before in
+    let c6 = c5 .before in
+    let c7 = c6 .before in
+    let c10 = c7 .before .before .before in
+    let c14 = c10 .before .before .before .before in
+    let c19 = c14 .before .before .before .before .before in
+    writes-as (value-bare (c19 .args .width) (now (c19 .args .k)) (now (c19 .args .v)) (sym (c7 .comma-key .ensures) ∙ c6 .if1 .left) (sym (c5 .bare-key .ensures) ∙ c4 .if2 .taken)) (writes-append (writes-append (c14 .put-key .ensures) (c10 .put-byte .ensures)) (c .before .before .put-wrapped .ensures))
 
 put-byte-requires-2 : tie.Need-put-byte-requires-2
 put-byte-requires-2 c κs = search needs
@@ -53,7 +67,16 @@ same-length-3 : tie.Need-same-length-3
 same-length-3 c = search needs
 
 returns-3 : tie.Need-returns-3
-returns-3 c = writes-as (value-quoted (c .before .before .before .before .before .before .before .before .before .before .before .before .before .before .before .before .before .before .before .before .before .before .before .args .width) (now (c .before .before .before .before .before .before .before .before .before .before .before .before .before .before .before .before .before .before .before .before .before .before .before .args .k)) (now (c .before .before .before .before .before .before .before .before .before .before .before .before .before .before .before .before .before .before .before .before .before .before .before .args .v)) (sym (c .before .before .before .before .before .before .before .before .before .before .before .comma-key .ensures) ∙ c .before .before .before .before .before .before .before .before .before .before .if1 .left) (sym (c .before .before .before .before .before .before .before .before .before .bare-key .ensures) ∙ c .before .before .before .before .before .before .before .before .if2 .left)) (writes-append (writes-append (writes-append (c .before .before .before .before .before .before .before .before .before .before .before .before .before .before .before .before .before .before .put-key .ensures) (c .before .before .before .before .before .before .before .before .before .before .before .before .before .before .put-byte .ensures)) (c .before .before .before .before .before .before .put-byte2 .ensures)) (c .before .before .put-wrapped2 .ensures))
+returns-3 c =
+    let c6 = c .before .before .before .before .before .before in
+    let c8 = c6 .before .before in
+    let c9 = c8 .before in
+    let c10 = c9 .before in
+    let c11 = c10 .before in
+    let c14 = c11 .before .before .before in
+    let c18 = c14 .before .before .before .before in
+    let c23 = c18 .before .before .before .before .before in
+    writes-as (value-quoted (c23 .args .width) (now (c23 .args .k)) (now (c23 .args .v)) (sym (c11 .comma-key .ensures) ∙ c10 .if1 .left) (sym (c9 .bare-key .ensures) ∙ c8 .if2 .left)) (writes-append (writes-append (writes-append (c18 .put-key .ensures) (c14 .put-byte .ensures)) (c6 .put-byte2 .ensures)) (c .before .before .put-wrapped2 .ensures))
 
 pub put-value-spec : {M : Type 1} → statement M
 put-value-spec =

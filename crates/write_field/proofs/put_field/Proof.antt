@@ -1,4 +1,4 @@
--- `fieldlines::put_field` meets its contract.
+-- `write_field::put_field` meets its contract.
 use Rattle.base_pen.specs.Pen.{writes-append, writes-as}
 use denote.Ref.{now}
 use Rattle.write_field.specs.Field.{field-is}
@@ -16,7 +16,10 @@ same-length : tie.Need-same-length
 same-length c = search needs
 
 returns : tie.Need-returns
-returns c = writes-as (field-is (c .before .before .before .before .before .before .before .before .before .before .before .args .width) (now (c .before .before .before .before .before .before .before .before .before .before .before .args .word)) (now (c .before .before .before .before .before .before .before .before .before .before .before .args .text)) (search needs)) (writes-append (c .before .before .before .before .before .before .put-padded .ensures) (c .before .before .put-wrapped .ensures))
+returns c =
+    let c6 = c .before .before .before .before .before .before in
+    let c11 = c6 .before .before .before .before .before in
+    writes-as (field-is (c11 .args .width) (now (c11 .args .word)) (now (c11 .args .text)) (search needs)) (writes-append (c6 .put-padded .ensures) (c .before .before .put-wrapped .ensures))
 
 pub put-field-spec : {M : Type 1} → statement M
 put-field-spec = tie.close (tie.spec put-padded-requires put-wrapped-requires same-length returns)

@@ -1,4 +1,4 @@
--- `fieldlines::put_padded` meets its contract.
+-- `write_field::put_padded` meets its contract.
 use Rattle.base_pen.specs.Pen.{writes-append, writes-as}
 use borrow.Author.Needs.{needs}
 use Rattle.write_field.proofs.put_padded.Statement.{statement}

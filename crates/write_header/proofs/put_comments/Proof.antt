@@ -24,14 +24,16 @@ abbrev μ-loop : tie.MeasureT-loop
 loop-holds : tie.Need-loop-holds Inv-loop μ-loop
 loop-holds c = (search needs, refl, rw sub-zero left-start)
 
-slice-aggregate-put-row : tie.Need-slice-aggregate-put-row Inv-loop μ-loop
-slice-aggregate-put-row c = search needs
+slice-aggregate-put-row-text : tie.Need-slice-aggregate-put-row-text Inv-loop μ-loop
+slice-aggregate-put-row-text c = search needs
 
-mul-put-row : tie.Need-mul-put-row Inv-loop μ-loop
-mul-put-row c = search needs
+mul-put-row-text : tie.Need-mul-put-row-text Inv-loop μ-loop
+mul-put-row-text c = search needs
 
-put-row-requires : tie.Need-put-row-requires Inv-loop μ-loop
-put-row-requires c κs = (search needs, record { small = c .before .before .before .before .before .before .before .pre .0 .small; row = omega (arith, c .before .before .before .before .before .before .before .pre .0 .long); inside = c .before .before .before .before .before .before .before .pre .0 .each _ (c .before .before .loop-test .taken) }, c .before .before .before .before .before .before .before .pre .1, c .before .before .before .before .before .before .before .pre .2)
+put-row-text-requires : tie.Need-put-row-text-requires Inv-loop μ-loop
+put-row-text-requires c κs =
+    let c7 = c .before .before .before .before .before .before .before in
+    (search needs, record { small = c7 .pre .0 .small; row = omega (arith, c7 .pre .0 .long); inside = c7 .pre .0 .each _ (c .before .before .loop-test .taken) }, c7 .pre .1, c7 .pre .2)
 
 add-i : tie.Need-add-i Inv-loop μ-loop
 add-i c = search needs
@@ -41,13 +43,19 @@ loop-less c = search needs
 
 loop-again : tie.Need-loop-again Inv-loop μ-loop
 unfolding commentIn
-loop-again c = (search needs, search needs, each-go (fieldLines (c .before .before .before .before .before .before .before .before .before .before .args .width) (bytes "COMMENT")) (commentIn (commentRooms (now (c .before .before .before .before .before .before .before .before .before .before .args .texts)) (now (c .before .before .before .before .before .before .before .before .before .before .args .comments)))) 2 _ _ (c .before .before .before .before .before .before .loop .inv .2) (c .before .before .before .before .before .loop-test .taken) (c .before .before .put-row .ensures))
+loop-again c =
+    let c5 = c .before .before .before .before .before in
+    let c6 = c5 .before in
+    let c10 = c6 .before .before .before .before in
+    (search needs, search needs, each-go (fieldLines (c10 .args .width) (bytes "COMMENT")) (commentIn (commentRooms (now (c10 .args .texts)) (now (c10 .args .comments)))) 2 _ _ (c6 .loop .inv .2) (c5 .loop-test .taken) (c .before .before .put-row-text .ensures))
 
 same-length : tie.Need-same-length Inv-loop μ-loop
 same-length c = search needs
 
 returns : tie.Need-returns Inv-loop μ-loop
-returns c = each-done (fieldLines (c .before .before .before .before .before .args .width) (bytes "COMMENT")) (commentIn (commentRooms (now (c .before .before .before .before .before .args .texts)) (now (c .before .before .before .before .before .args .comments)))) 2 _ _ (c .before .loop .inv .2) (c .loop-test .left)
+returns c =
+    let c5 = c .before .before .before .before .before in
+    each-done (fieldLines (c5 .args .width) (bytes "COMMENT")) (commentIn (commentRooms (now (c5 .args .texts)) (now (c5 .args .comments)))) 2 _ _ (c .before .loop .inv .2) (c .loop-test .left)
 
 pub put-comments-spec : {M : Type 1} → statement M
 put-comments-spec =
@@ -56,9 +64,9 @@ put-comments-spec =
     Inv-loop
     μ-loop
     loop-holds
-    slice-aggregate-put-row
-    mul-put-row
-    put-row-requires
+    slice-aggregate-put-row-text
+    mul-put-row-text
+    put-row-text-requires
     add-i
     loop-less
     loop-again

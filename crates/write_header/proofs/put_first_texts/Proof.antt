@@ -34,14 +34,21 @@ slice-aggregate-put-maybe-5 : tie.Need-slice-aggregate-put-maybe-5
 slice-aggregate-put-maybe-5 c = search needs
 
 put-maybe-requires-5 : tie.Need-put-maybe-requires-5
-put-maybe-requires-5 c κs = (search needs, c .before .before .before .before .before .before .before .before .before .before .before .before .before .before .before .before .before .before .before .before .before .before .before .before .pre .0 .small, c .before .before .before .before .before .before .before .before .before .before .before .before .before .before .before .before .before .before .before .before .before .before .before .before .pre .0 .keywords, c .before .before .before .before .before .before .before .before .before .before .before .before .before .before .before .before .before .before .before .before .before .before .before .before .pre .1, c .before .before .before .before .before .before .before .before .before .before .before .before .before .before .before .before .before .before .before .before .before .before .before .before .pre .2)
+put-maybe-requires-5 c κs =
+    let c24 = c .before .before .before .before .before .before .before .before .before .before .before .before .before .before .before .before .before .before .before .before .before .before .before .before in
+    (search needs, c24 .pre .0 .small, c24 .pre .0 .keywords, c24 .pre .1, c24 .pre .2)
 
 same-length : tie.Need-same-length
 same-length c = search needs
 
 returns : tie.Need-returns
 unfolding firstTexts tableOf
-returns c = writes-append (writes-append (writes-append (writes-append (c .before .before .before .before .before .before .before .before .before .before .before .before .before .before .before .before .before .before .before .before .before .before .put-maybe .ensures) (c .before .before .before .before .before .before .before .before .before .before .before .before .before .before .before .before .before .put-maybe2 .ensures)) (c .before .before .before .before .before .before .before .before .before .before .before .before .put-maybe3 .ensures)) (c .before .before .before .before .before .before .before .put-maybe4 .ensures)) (c .before .before .put-maybe5 .ensures)
+returns c =
+    let c7 = c .before .before .before .before .before .before .before in
+    let c12 = c7 .before .before .before .before .before in
+    let c17 = c12 .before .before .before .before .before in
+    let c22 = c17 .before .before .before .before .before in
+    writes-append (writes-append (writes-append (writes-append (c22 .put-maybe .ensures) (c17 .put-maybe2 .ensures)) (c12 .put-maybe3 .ensures)) (c7 .put-maybe4 .ensures)) (c .before .before .put-maybe5 .ensures)
 
 pub put-first-texts-spec : {M : Type 1} → statement M
 put-first-texts-spec =

@@ -11,7 +11,9 @@ enum-known-text : tie.Need-enum-known-text
 enum-known-text c = search needs
 
 put-span-requires : tie.Need-put-span-requires
-put-span-requires c κs = (c .before .before .before .before .before .before .before .pre .0, record { small = c .before .before .before .before .before .before .before .pre .1; inside = rw (c .before .before .text .given .1) at (c .before .before .before .before .before .before .before .pre .2) }, c .before .before .before .before .before .before .before .pre .3, c .before .before .before .before .before .before .before .pre .4)
+put-span-requires c κs =
+    let c7 = c .before .before .before .before .before .before .before in
+    (c7 .pre .0, record { small = c7 .pre .1; inside = rw (c .before .before .text .given .1) at (c7 .pre .2) }, c7 .pre .3, c7 .pre .4)
 
 returns : tie.Need-returns
 returns c = rw (c .enum-told .given .1) writes-nil

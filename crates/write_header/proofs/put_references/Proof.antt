@@ -28,7 +28,9 @@ mul-put-reference : tie.Need-mul-put-reference Inv-loop μ-loop
 mul-put-reference c = search needs
 
 put-reference-requires : tie.Need-put-reference-requires Inv-loop μ-loop
-put-reference-requires c κs = (c .before .before .before .before .before .before .pre .0 .small, omega (arith, c .before .before .before .before .before .before .pre .0 .long), c .before .before .before .before .before .before .pre .0 .each _ (c .before .loop-test .taken), c .before .before .before .before .before .before .pre .1, c .before .before .before .before .before .before .pre .2)
+put-reference-requires c κs =
+    let c6 = c .before .before .before .before .before .before in
+    (c6 .pre .0 .small, omega (arith, c6 .pre .0 .long), c6 .pre .0 .each _ (c .before .loop-test .taken), c6 .pre .1, c6 .pre .2)
 
 add-i : tie.Need-add-i Inv-loop μ-loop
 add-i c = search needs
@@ -37,13 +39,19 @@ loop-less : tie.Need-loop-less Inv-loop μ-loop
 loop-less c = search needs
 
 loop-again : tie.Need-loop-again Inv-loop μ-loop
-loop-again c = (search needs, search needs, each-go (referenceLines (c .before .before .before .before .before .before .before .before .before .args .width)) (referenceIn (referenceRooms (now (c .before .before .before .before .before .before .before .before .before .args .texts)) (now (c .before .before .before .before .before .before .before .before .before .args .references)))) 14 _ _ (c .before .before .before .before .before .loop .inv .2) (c .before .before .before .before .loop-test .taken) (c .before .before .put-reference .ensures))
+loop-again c =
+    let c4 = c .before .before .before .before in
+    let c5 = c4 .before in
+    let c9 = c5 .before .before .before .before in
+    (search needs, search needs, each-go (referenceLines (c9 .args .width)) (referenceIn (referenceRooms (now (c9 .args .texts)) (now (c9 .args .references)))) 14 _ _ (c5 .loop .inv .2) (c4 .loop-test .taken) (c .before .before .put-reference .ensures))
 
 same-length : tie.Need-same-length Inv-loop μ-loop
 same-length c = search needs
 
 returns : tie.Need-returns Inv-loop μ-loop
-returns c = each-done (referenceLines (c .before .before .before .before .before .args .width)) (referenceIn (referenceRooms (now (c .before .before .before .before .before .args .texts)) (now (c .before .before .before .before .before .args .references)))) 14 _ _ (c .before .loop .inv .2) (c .loop-test .left)
+returns c =
+    let c5 = c .before .before .before .before .before in
+    each-done (referenceLines (c5 .args .width)) (referenceIn (referenceRooms (now (c5 .args .texts)) (now (c5 .args .references)))) 14 _ _ (c .before .loop .inv .2) (c .loop-test .left)
 
 pub put-references-spec : {M : Type 1} → statement M
 put-references-spec =

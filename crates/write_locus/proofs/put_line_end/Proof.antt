@@ -33,7 +33,13 @@ same-length c = search needs
 
 returns : tie.Need-returns
 unfolding lineEnd
-returns c = let y : (c .before .before .before .before .before .before .before .before .before .before .before .before .before .before .before .before .before .before .before .before .args .division .start) + (c .before .before .before .before .before .before .before .before .before .before .before .before .before .before .before .before .before .before .before .before .args .division .length) - (c .before .before .before .before .before .before .before .before .before .before .before .before .before .before .before .before .before .before .before .before .args .division .start) ≡ (c .before .before .before .before .before .before .before .before .before .before .before .before .before .before .before .before .before .before .before .before .args .division .length) = omega arith in writes-append (writes-append (writes-append (rw y at (c .before .before .before .before .before .before .before .before .before .before .before .before .before .before .before .put-part .ensures)) (c .before .before .before .before .before .before .before .before .before .before .before .put-byte .ensures)) (writes-as (ap dateText (c .before .before .before .before .before .before .before .printed-date .ensures)) (c .before .before .before .before .before .before .put-date .ensures))) (c .before .before .put-byte2 .ensures)
+returns c =
+    let c6 = c .before .before .before .before .before .before in
+    let c7 = c6 .before in
+    let c11 = c7 .before .before .before .before in
+    let c15 = c11 .before .before .before .before in
+    let c20 = c15 .before .before .before .before .before in
+    let y : (c20 .args .division .start) + (c20 .args .division .length) - (c20 .args .division .start) ≡ (c20 .args .division .length) = omega arith in writes-append (writes-append (writes-append (rw y at (c15 .put-part .ensures)) (c11 .put-byte .ensures)) (writes-as (ap dateText (c7 .printed-date .ensures)) (c6 .put-date .ensures))) (c .before .before .put-byte2 .ensures)
 
 pub put-line-end-spec : {M : Type 1} → statement M
 put-line-end-spec =

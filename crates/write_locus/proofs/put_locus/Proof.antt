@@ -20,7 +20,10 @@ same-length c = search needs
 
 returns : tie.Need-returns
 unfolding lineWith tableOf
-returns c = writes-append (writes-append (c .before .before .before .before .before .before .before .before .before .before .put-start .ensures) (c .before .before .before .before .before .before .put-middle .ensures)) (c .before .before .put-line-end .ensures)
+returns c =
+    let c6 = c .before .before .before .before .before .before in
+    let c10 = c6 .before .before .before .before in
+    writes-append (writes-append (c10 .put-start .ensures) (c6 .put-middle .ensures)) (c .before .before .put-line-end .ensures)
 
 pub put-locus-spec : {M : Type 1} → statement M
 put-locus-spec =

@@ -22,7 +22,11 @@ same-length c = search needs
 
 returns : tie.Need-returns
 unfolding lineMiddle
-returns c = writes-append (writes-append (writes-append (c .before .before .before .before .before .before .before .before .before .before .before .before .before .before .put-molecule-text .ensures) (c .before .before .before .before .before .before .before .before .before .before .put-byte .ensures)) (c .before .before .before .before .before .before .put-topology .ensures)) (c .before .before .put-byte2 .ensures)
+returns c =
+    let c6 = c .before .before .before .before .before .before in
+    let c10 = c6 .before .before .before .before in
+    let c14 = c10 .before .before .before .before in
+    writes-append (writes-append (writes-append (c14 .put-molecule-text .ensures) (c10 .put-byte .ensures)) (c6 .put-topology .ensures)) (c .before .before .put-byte2 .ensures)
 
 pub put-middle-spec : {M : Type 1} → statement M
 put-middle-spec =

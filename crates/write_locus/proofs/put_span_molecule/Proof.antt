@@ -1,4 +1,4 @@
--- `locusline::put_span_molecule` meets its contract.
+-- `write_locus::put_span_molecule` meets its contract.
 use Prim.Native.Nat.{_+_, _-_}
 use mathlib.Core.Path.{_≡_}
 use lib.ListN.{length}
@@ -26,7 +26,9 @@ same-length : tie.Need-same-length
 same-length c = search needs
 
 returns : tie.Need-returns
-returns c = let y : (c .before .before .before .before .before .before .before .before .args .molecule .start) + (c .before .before .before .before .before .before .before .before .args .molecule .length) - (c .before .before .before .before .before .before .before .before .args .molecule .start) ≡ (c .before .before .before .before .before .before .before .before .args .molecule .length) = omega arith in rw y at (c .before .before .put-molecule .ensures)
+returns c =
+    let c8 = c .before .before .before .before .before .before .before .before in
+    let y : (c8 .args .molecule .start) + (c8 .args .molecule .length) - (c8 .args .molecule .start) ≡ (c8 .args .molecule .length) = omega arith in rw y at (c .before .before .put-molecule .ensures)
 
 pub put-span-molecule-spec : {M : Type 1} → statement M
 put-span-molecule-spec =

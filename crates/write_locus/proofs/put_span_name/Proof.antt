@@ -1,4 +1,4 @@
--- `locusline::put_span_name` meets its contract.
+-- `write_locus::put_span_name` meets its contract.
 use Prim.Native.Nat.{_+_, _-_}
 use mathlib.Core.Path.{_≡_}
 use lib.ListN.{length}
@@ -26,7 +26,9 @@ same-length : tie.Need-same-length
 same-length c = search needs
 
 returns : tie.Need-returns
-returns c = let y : (c .before .before .before .before .before .before .before .before .args .name .start) + (c .before .before .before .before .before .before .before .before .args .name .length) - (c .before .before .before .before .before .before .before .before .args .name .start) ≡ (c .before .before .before .before .before .before .before .before .args .name .length) = omega arith in rw y at (c .before .before .put-printed-name .ensures)
+returns c =
+    let c8 = c .before .before .before .before .before .before .before .before in
+    let y : (c8 .args .name .start) + (c8 .args .name .length) - (c8 .args .name .start) ≡ (c8 .args .name .length) = omega arith in rw y at (c .before .before .put-printed-name .ensures)
 
 pub put-span-name-spec : {M : Type 1} → statement M
 put-span-name-spec =

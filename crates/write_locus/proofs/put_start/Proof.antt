@@ -19,7 +19,9 @@ chosen-name-requires : tie.Need-chosen-name-requires
 chosen-name-requires c κs = search needs
 
 put-name-requires : tie.Need-put-name-requires
-put-name-requires c κs = (c .before .before .before .before .before .before .before .before .before .before .pre .1, chosen-in (now (c .before .before .before .before .before .before .before .before .before .before .args .texts)) (c .before .before .before .before .before .before .before .before .before .before .args .head .name) (c .before .before .before .before .before .before .before .before .before .before .args .head .accession) _ (c .chosen-name .ensures) (c .before .before .before .before .before .before .before .before .before .before .pre .0 .name) (c .before .before .before .before .before .before .before .before .before .before .pre .0 .accession))
+put-name-requires c κs =
+    let c10 = c .before .before .before .before .before .before .before .before .before .before in
+    (c10 .pre .1, chosen-in (now (c10 .args .texts)) (c10 .args .head .name) (c10 .args .head .accession) _ (c .chosen-name .ensures) (c10 .pre .0 .name) (c10 .pre .0 .accession))
 
 slice-aggregate-put-bytes-2 : tie.Need-slice-aggregate-put-bytes-2
 slice-aggregate-put-bytes-2 c = search needs
@@ -31,7 +33,13 @@ same-length : tie.Need-same-length
 same-length c = search needs
 
 returns : tie.Need-returns
-returns c = writes-as (start-with (c .before .before .before .before .before .before .before .before .before .before .before .before .before .before .before .before .before .before .args .truncate) (c .before .before .before .before .before .before .before .before .before .before .before .before .before .before .before .before .before .before .args .escape) (now (c .before .before .before .before .before .before .before .before .before .before .before .before .before .before .before .before .before .before .args .texts)) (c .before .before .before .before .before .before .before .before .before .before .before .before .before .before .before .before .before .before .args .head) _ _ (c .before .before .before .before .before .before .before .before .before .before .before .before .before .before .before .printed-length .ensures) (c .before .before .before .before .before .before .before .before .chosen-name .ensures)) (writes-append (writes-append (c .before .before .before .before .before .before .before .before .before .before .before .before .put-bytes .ensures) (c .before .before .before .before .before .before .before .put-name .ensures)) (c .before .before .put-bytes2 .ensures))
+returns c =
+    let c7 = c .before .before .before .before .before .before .before in
+    let c8 = c7 .before in
+    let c12 = c8 .before .before .before .before in
+    let c15 = c12 .before .before .before in
+    let c18 = c15 .before .before .before in
+    writes-as (start-with (c18 .args .truncate) (c18 .args .escape) (now (c18 .args .texts)) (c18 .args .head) _ _ (c15 .printed-length .ensures) (c8 .chosen-name .ensures)) (writes-append (writes-append (c12 .put-bytes .ensures) (c7 .put-name .ensures)) (c .before .before .put-bytes2 .ensures))
 
 pub put-start-spec : {M : Type 1} → statement M
 put-start-spec =

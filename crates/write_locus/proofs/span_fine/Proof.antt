@@ -1,4 +1,4 @@
--- `locusline::span_fine` meets its contract.
+-- `write_locus::span_fine` meets its contract.
 use Prim.Native.Nat.{_+_, _-_}
 use mathlib.Core.Path.{_≡_}
 use lib.ListN.{length}
@@ -23,7 +23,9 @@ printed-name-fine-requires : tie.Need-printed-name-fine-requires
 printed-name-fine-requires c κs = search needs
 
 returns : tie.Need-returns
-returns c = let y : (c .before .before .before .before .args .name .start) + (c .before .before .before .before .args .name .length) - (c .before .before .before .before .args .name .start) ≡ (c .before .before .before .before .args .name .length) = omega arith in rw y at (c .printed-name-fine .ensures)
+returns c =
+    let c4 = c .before .before .before .before in
+    let y : (c4 .args .name .start) + (c4 .args .name .length) - (c4 .args .name .start) ≡ (c4 .args .name .length) = omega arith in rw y at (c .printed-name-fine .ensures)
 
 pub span-fine-spec : {M : Type 1} → statement M
 span-fine-spec =

@@ -1,4 +1,4 @@
--- `names::kept` meets its contract.
+-- `write_locus_name::kept` meets its contract.
 use denote.Ref.{now}
 use Rattle.write_locus_name.specs.Names.{kept-cut, kept-short, kept-all}
 use borrow.Author.Needs.{needs}

@@ -1,4 +1,4 @@
--- `names::printed_name_fine` meets its contract.
+-- `write_locus_name::printed_name_fine` meets its contract.
 use Rattle.write_locus_name.proofs.Laws.{cut-is}
 use Rattle.write_locus_name.specs.Names.{nameTest}
 use mathlib.Core.Path.{ap, _∙_}
@@ -26,7 +26,10 @@ escaped-name-fine-requires : tie.Need-escaped-name-fine-requires
 escaped-name-fine-requires c κs = search needs
 
 returns : tie.Need-returns
-returns c = (c .escaped-name-fine .ensures) ∙ ap nameTest (cut-is (now (c .before .before .before .before .before .args .name)) (c .before .before .before .before .before .args .n) _ _ (c .before .before .before .before .before .args .truncate) (c .before .before .before .before .before .args .escape) (c .before .before .before .width .ensures .is) (c .before .before .kept .ensures))
+returns c =
+    let c3 = c .before .before .before in
+    let c5 = c3 .before .before in
+    (c .escaped-name-fine .ensures) ∙ ap nameTest (cut-is (now (c5 .args .name)) (c5 .args .n) _ _ (c5 .args .truncate) (c5 .args .escape) (c3 .width .ensures .is) (c .before .before .kept .ensures))
 
 pub printed-name-fine-spec : {M : Type 1} → statement M
 printed-name-fine-spec =

@@ -1,4 +1,4 @@
--- `names::put_escaped_name` meets its contract.
+-- `write_locus_name::put_escaped_name` meets its contract.
 use Rattle.write_locus_name.proofs.Laws.{escaped-yes, escaped-no}
 use Rattle.base_pen.specs.Pen.{writes-as}
 use denote.Ref.{now}
@@ -19,7 +19,12 @@ same-length : tie.Need-same-length
 same-length c = search needs
 
 returns : tie.Need-returns
-returns c = writes-as (escaped-yes (c .before .before .before .before .before .before .before .before .before .args .escape) _ _ (now (c .before .before .before .before .before .before .before .before .before .args .name)) (c .before .before .before .before .before .both .ensures) (c .before .before .before .before .before .before .two-words .ensures) (c .before .before .before .before .if1 .taken)) (c .before .before .put-joined .ensures)
+returns c =
+    let c4 = c .before .before .before .before in
+    let c5 = c4 .before in
+    let c6 = c5 .before in
+    let c9 = c6 .before .before .before in
+    writes-as (escaped-yes (c9 .args .escape) _ _ (now (c9 .args .name)) (c5 .both .ensures) (c6 .two-words .ensures) (c4 .if1 .taken)) (c .before .before .put-joined .ensures)
 
 put-bytes-requires : tie.Need-put-bytes-requires
 put-bytes-requires c κs = search needs
@@ -28,7 +33,12 @@ same-length-2 : tie.Need-same-length-2
 same-length-2 c = search needs
 
 returns-2 : tie.Need-returns-2
-returns-2 c = writes-as (escaped-no (c .before .before .before .before .before .before .before .before .before .args .escape) _ _ (now (c .before .before .before .before .before .before .before .before .before .args .name)) (c .before .before .before .before .before .both .ensures) (c .before .before .before .before .before .before .two-words .ensures) (c .before .before .before .before .if1 .left)) (c .before .before .put-bytes .ensures)
+returns-2 c =
+    let c4 = c .before .before .before .before in
+    let c5 = c4 .before in
+    let c6 = c5 .before in
+    let c9 = c6 .before .before .before in
+    writes-as (escaped-no (c9 .args .escape) _ _ (now (c9 .args .name)) (c5 .both .ensures) (c6 .two-words .ensures) (c4 .if1 .left)) (c .before .before .put-bytes .ensures)
 
 pub put-escaped-name-spec : {M : Type 1} → statement M
 put-escaped-name-spec =

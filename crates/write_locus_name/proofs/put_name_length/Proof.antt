@@ -1,4 +1,4 @@
--- `names::put_name_length` meets its contract.
+-- `write_locus_name::put_name_length` meets its contract.
 use Rattle.write_locus_name.proofs.Laws.{gap-is}
 use Rattle.base_pen.specs.Pen.{writes-as, writes-append, writes-then}
 use Rattle.spec_format.specs.Write.{escapedName}
@@ -29,7 +29,13 @@ same-length : tie.Need-same-length
 same-length c = search needs
 
 returns : tie.Need-returns
-returns c = writes-append (writes-then (c .before .before .before .before .before .before .before .before .before .before .before .before .put-escaped-name .ensures) (c .before .before .before .before .before .before .put-spaces .ensures .up) (λ j. writes-as (gap-is (c .before .before .before .before .before .before .before .before .before .before .before .before .put-escaped-name .result) (c .before .before .before .before .before .before .before .before .before .before .before .before .before .before .before .before .args .at) _ _ (c .before .before .before .before .before .before .before .before .before .before .before .before .before .before .before .before .args .n) (escapedName (c .before .before .before .before .before .before .before .before .before .before .before .before .before .before .before .before .args .escape) (now (c .before .before .before .before .before .before .before .before .before .before .before .before .before .before .before .before .args .name))) (c .before .before .before .before .before .before .before .gap .ensures) (c .before .before .before .before .before .before .before .before .width .ensures .is) j) (c .before .before .before .before .before .before .put-spaces .ensures))) (c .before .before .put-decimal .ensures)
+returns c =
+    let c6 = c .before .before .before .before .before .before in
+    let c7 = c6 .before in
+    let c8 = c7 .before in
+    let c12 = c8 .before .before .before .before in
+    let c16 = c12 .before .before .before .before in
+    writes-append (writes-then (c12 .put-escaped-name .ensures) (c6 .put-spaces .ensures .up) (λ j. writes-as (gap-is (c12 .put-escaped-name .result) (c16 .args .at) _ _ (c16 .args .n) (escapedName (c16 .args .escape) (now (c16 .args .name))) (c7 .gap .ensures) (c8 .width .ensures .is) j) (c6 .put-spaces .ensures))) (c .before .before .put-decimal .ensures)
 
 pub put-name-length-spec : {M : Type 1} → statement M
 put-name-length-spec =

@@ -1,4 +1,4 @@
--- `names::put_printed_name` meets its contract.
+-- `write_locus_name::put_printed_name` meets its contract.
 use Rattle.write_locus_name.proofs.Laws.{cut-is}
 use Rattle.base_pen.specs.Pen.{writes-as}
 use Rattle.spec_format.specs.Write.{nameAndLength}
@@ -33,7 +33,11 @@ same-length : tie.Need-same-length
 same-length c = search needs
 
 returns : tie.Need-returns
-returns c = writes-as (ap (λ (w : List ℕ). nameAndLength w (decimal (c .before .before .before .before .before .before .before .before .before .args .n))) (cut-is (now (c .before .before .before .before .before .before .before .before .before .args .name)) (c .before .before .before .before .before .before .before .before .before .args .n) _ _ (c .before .before .before .before .before .before .before .before .before .args .truncate) (c .before .before .before .before .before .before .before .before .before .args .escape) (c .before .before .before .before .before .before .width .ensures .is) (c .before .before .before .before .before .kept .ensures))) (c .before .before .put-name-length .ensures)
+returns c =
+    let c5 = c .before .before .before .before .before in
+    let c6 = c5 .before in
+    let c9 = c6 .before .before .before in
+    writes-as (ap (λ (w : List ℕ). nameAndLength w (decimal (c9 .args .n))) (cut-is (now (c9 .args .name)) (c9 .args .n) _ _ (c9 .args .truncate) (c9 .args .escape) (c6 .width .ensures .is) (c5 .kept .ensures))) (c .before .before .put-name-length .ensures)
 
 pub put-printed-name-spec : {M : Type 1} → statement M
 put-printed-name-spec =

@@ -1,4 +1,4 @@
--- `locusparts::put_date` meets its contract.
+-- `write_locus_parts::put_date` meets its contract.
 use Rattle.base_pen.specs.Pen.{writes-append}
 use Rattle.spec_format.specs.Dates.{dateText}
 use borrow.Author.Needs.{needs}
@@ -19,7 +19,10 @@ same-length c = search needs
 
 returns : tie.Need-returns
 unfolding dateText
-returns c = writes-append (writes-append (c .before .before .before .before .before .before .before .before .before .before .put-day .ensures) (c .before .before .before .before .before .before .put-month .ensures)) (c .before .before .put-year .ensures)
+returns c =
+    let c6 = c .before .before .before .before .before .before in
+    let c10 = c6 .before .before .before .before in
+    writes-append (writes-append (c10 .put-day .ensures) (c6 .put-month .ensures)) (c .before .before .put-year .ensures)
 
 pub put-date-spec : {M : Type 1} → statement M
 put-date-spec =

@@ -1,4 +1,4 @@
--- `locusparts::put_day` meets its contract.
+-- `write_locus_parts::put_day` meets its contract.
 use Rattle.base_pen.specs.Pen.{writes-append}
 use borrow.Author.Needs.{needs}
 use Rattle.write_locus_parts.proofs.put_day.Statement.{statement}
@@ -23,7 +23,10 @@ same-length : tie.Need-same-length
 same-length c = search needs
 
 returns : tie.Need-returns
-returns c = writes-append (writes-append (c .before .before .before .before .before .before .before .before .before .before .put-byte .ensures) (c .before .before .before .before .before .before .put-byte2 .ensures)) (c .before .before .put-byte3 .ensures)
+returns c =
+    let c6 = c .before .before .before .before .before .before in
+    let c10 = c6 .before .before .before .before in
+    writes-append (writes-append (c10 .put-byte .ensures) (c6 .put-byte2 .ensures)) (c .before .before .put-byte3 .ensures)
 
 pub put-day-spec : {M : Type 1} → statement M
 put-day-spec =

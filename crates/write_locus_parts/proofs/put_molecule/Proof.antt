@@ -1,4 +1,4 @@
--- `locusparts::put_molecule` meets its contract.
+-- `write_locus_parts::put_molecule` meets its contract.
 use denote.Ref.{now}
 use Rattle.base_pen.specs.Pen.{writes-as}
 use Rattle.write_locus_parts.specs.Locus.{molecule-long, molecule-short}
@@ -13,7 +13,11 @@ same-length : tie.Need-same-length
 same-length c = search needs
 
 returns : tie.Need-returns
-returns c = simp (c .before .before .before .before .before .if1 .taken) (writes-as (molecule-long (now (c .before .before .before .before .before .before .before .before .args .molecule)) (c .before .before .before .before .if2 .taken)) (c .before .before .put-spaces .ensures))
+returns c =
+    let c4 = c .before .before .before .before in
+    let c5 = c4 .before in
+    let c8 = c5 .before .before .before in
+    simp (c5 .if1 .taken) (writes-as (molecule-long (now (c8 .args .molecule)) (c4 .if2 .taken)) (c .before .before .put-spaces .ensures))
 
 put-padded-requires : tie.Need-put-padded-requires
 put-padded-requires c κs = search needs
@@ -22,7 +26,11 @@ same-length-2 : tie.Need-same-length-2
 same-length-2 c = search needs
 
 returns-2 : tie.Need-returns-2
-returns-2 c = simp (c .before .before .before .before .before .if1 .taken) (writes-as (molecule-short (now (c .before .before .before .before .before .before .before .before .args .molecule)) (c .before .before .before .before .if2 .left)) (c .before .before .put-padded .ensures))
+returns-2 c =
+    let c4 = c .before .before .before .before in
+    let c5 = c4 .before in
+    let c8 = c5 .before .before .before in
+    simp (c5 .if1 .taken) (writes-as (molecule-short (now (c8 .args .molecule)) (c4 .if2 .left)) (c .before .before .put-padded .ensures))
 
 put-padded-requires-2 : tie.Need-put-padded-requires-2
 put-padded-requires-2 c κs = search needs

@@ -1,4 +1,4 @@
--- `locusparts::put_month` meets its contract.
+-- `write_locus_parts::put_month` meets its contract.
 use Rattle.base_pen.specs.Pen.{writes-nil, writes-as}
 use Prim.Native.Nat.{_+_, _-_, _*_}
 use mathlib.Core.Path.{_≡_}

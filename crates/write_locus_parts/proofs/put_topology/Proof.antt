@@ -1,4 +1,4 @@
--- `locusparts::put_topology` meets its contract.
+-- `write_locus_parts::put_topology` meets its contract.
 use borrow.Author.Needs.{needs}
 use Rattle.write_locus_parts.proofs.put_topology.Statement.{statement}
 use Rattle.write_locus_parts.proofs.put_topology.Tie as tie

@@ -1,4 +1,4 @@
--- `words::begins_second` meets its contract.
+-- `write_locus_words::begins_second` meets its contract.
 use Rattle.judge_rooms.specs.Steps.{both-is}
 use mathlib.Core.Bool.{not}
 use mathlib.Core.Path.{ap}

@@ -1,4 +1,4 @@
--- `words::byte_at` meets its contract.
+-- `write_locus_words::byte_at` meets its contract.
 use lib.ListN.{List·getD-eq-default}
 use mathlib.Core.Path.{sym}
 use denote.Ref.{now}

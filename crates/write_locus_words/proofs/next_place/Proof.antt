@@ -1,4 +1,4 @@
--- `words::next_place` meets its contract.
+-- `write_locus_words::next_place` meets its contract.
 use Rattle.write_locus_words.proofs.Laws.{place-blank, place-byte}
 use borrow.Author.Needs.{needs}
 use Rattle.write_locus_words.proofs.next_place.Statement.{statement}

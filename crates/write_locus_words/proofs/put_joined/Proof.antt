@@ -45,7 +45,22 @@ loop-less : tie.Need-loop-less Inv-loop μ-loop
 loop-less c = search needs
 
 loop-again : tie.Need-loop-again Inv-loop μ-loop
-loop-again c = (search needs, search needs, put-turn (now (c .before .before .before .before .before .before .before .before .before .before .before .before .before .args .name)) (c .before .before .before .before .before .before .before .before .before .before .loop .i) (c .before .before .before .before .before .before .before .before .before .before .loop .white) (c .before .before .before .before .before .before .before .before .white-from .result) (c .before .before .before .before .before .before .shown-byte .result) (c .left-of .result) (c .before .before .before .before .before .before .before .before .before .loop-test .taken) (c .before .before .before .before .before .before .before .before .white-from .ensures) (c .before .before .before .before .before .before .shown-byte .ensures) (c .left-of .ensures) _ _ _ _ _ _ _ (c .before .before .before .before .before .before .before .before .before .before .loop .place) (c .before .next-place .result) (c .before .before .before .before .before .before .before .before .before .before .loop .inv .2) (c .before .before .before .before .put-next .ensures) (c .before .next-place .ensures))
+loop-again c =
+    let c4 = c .before .before .before .before in
+    let c6 = c4 .before .before in
+    let c8 = c6 .before .before in
+    let c9 = c8 .before in
+    let c10 = c9 .before in
+    let c13 = c10 .before .before .before in
+    let loop = c10 .loop in
+    let white = c8 .white-from in
+    let shown = c6 .shown-byte in
+    let place = c .before .next-place in (
+      search needs,
+      search needs,
+      put-turn (now (c13 .args .name)) (loop .i) (loop .white) (white .result) (shown .result) (c .left-of .result) (c9 .loop-test .taken) (white .ensures) (shown .ensures)
+          (c .left-of .ensures) _ _ _ _ _ _ _ (loop .place) (place .result) (loop .inv .2) (c4 .put-next .ensures) (place .ensures),
+    )
 
 same-length : tie.Need-same-length Inv-loop μ-loop
 same-length c = search needs

@@ -1,4 +1,4 @@
--- `words::shown_byte` meets its contract.
+-- `write_locus_words::shown_byte` meets its contract.
 use Rattle.write_locus_words.proofs.Laws.{shown-white, shown-own}
 use Rattle.write_locus_words.proofs.shown_byte.Statement.{statement}
 use Rattle.write_locus_words.proofs.shown_byte.Tie as tie

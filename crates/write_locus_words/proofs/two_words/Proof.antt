@@ -33,7 +33,16 @@ begins-second-requires : tie.Need-begins-second-requires Inv-loop μ-loop
 begins-second-requires c κs = search needs
 
 returns : tie.Need-returns Inv-loop μ-loop
-returns c = two-yes (now (c .before .before .before .before .before .before .before .before .args .name)) (c .before .before .before .before .before .before .loop .i) (c .before .before .before .before .before .before .loop .white) (c .before .before .before .before .white-from .result) (c .before .before .shown-byte .result) (c .before .before .before .before .white-from .result - 1) (c .before .before .before .before .before .loop-test .taken) (c .before .before .before .before .white-from .ensures) (c .before .before .shown-byte .ensures) refl _ _ (c .before .before .before .before .before .before .loop .place) (c .before .before .before .before .before .before .loop .inv .1) (c .before .begins-second .ensures) (c .if1 .taken)
+returns c =
+    let c4 = c .before .before .before .before in
+    let c5 = c4 .before in
+    let c6 = c5 .before in
+    let c8 = c6 .before .before in
+    let loop = c6 .loop in
+    let white = c4 .white-from in
+    let shown = c .before .before .shown-byte in
+    two-yes (now (c8 .args .name)) (loop .i) (loop .white) (white .result) (shown .result) (white .result - 1) (c5 .loop-test .taken) (white .ensures) (shown .ensures) refl
+    _ _ (loop .place) (loop .inv .1) (c .before .begins-second .ensures) (c .if1 .taken)
 
 next-place-requires : tie.Need-next-place-requires Inv-loop μ-loop
 next-place-requires c κs = search needs
@@ -48,7 +57,21 @@ loop-less : tie.Need-loop-less Inv-loop μ-loop
 loop-less c = search needs
 
 loop-again : tie.Need-loop-again Inv-loop μ-loop
-loop-again c = (search needs, two-turn (now (c .before .before .before .before .before .before .before .before .before .before .args .name)) (c .before .before .before .before .before .before .before .before .loop .i) (c .before .before .before .before .before .before .before .before .loop .white) (c .before .before .before .before .before .before .white-from .result) (c .before .before .before .before .shown-byte .result) (c .left-of .result) (c .before .before .before .before .before .before .before .loop-test .taken) (c .before .before .before .before .before .before .white-from .ensures) (c .before .before .before .before .shown-byte .ensures) (c .left-of .ensures) _ _ (c .before .before .before .before .before .before .before .before .loop .place) (c .before .before .before .before .before .before .before .before .loop .inv .1) (c .before .before .before .begins-second .ensures) (c .before .next-place .result) (c .before .before .if1 .left) (c .before .next-place .ensures))
+loop-again c =
+    let c3 = c .before .before .before in
+    let c4 = c3 .before in
+    let c6 = c4 .before .before in
+    let c7 = c6 .before in
+    let c8 = c7 .before in
+    let c10 = c8 .before .before in
+    let loop = c8 .loop in
+    let white = c6 .white-from in
+    let shown = c4 .shown-byte in
+    let place = c .before .next-place in (
+      search needs,
+      two-turn (now (c10 .args .name)) (loop .i) (loop .white) (white .result) (shown .result) (c .left-of .result) (c7 .loop-test .taken) (white .ensures) (shown .ensures)
+          (c .left-of .ensures) _ _ (loop .place) (loop .inv .1) (c3 .begins-second .ensures) (place .result) (c .before .before .if1 .left) (place .ensures),
+    )
 
 returns-2 : tie.Need-returns-2 Inv-loop μ-loop
 returns-2 c = two-end (now (c .before .before .before .args .name)) (c .before .loop .i) (c .before .loop .white) (c .loop-test .left) _ (c .before .loop .place) (c .before .loop .inv .1)

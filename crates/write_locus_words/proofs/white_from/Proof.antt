@@ -1,4 +1,4 @@
--- `words::white_from` meets its contract.
+-- `write_locus_words::white_from` meets its contract.
 use Rattle.write_locus_words.proofs.Laws.{from-known, from-new}
 use lib.ListN.{drop}
 use denote.Ref.{now}
@@ -28,7 +28,11 @@ white-of-requires : tie.Need-white-of-requires
 white-of-requires c κs = search needs
 
 returns-2 : tie.Need-returns-2
-returns-2 c = from-new (c .before .before .before .before .before .before .args .n) (c .before .before .before .before .before .before .args .i) (now (c .before .before .before .before .before .before .args .s)) _ _ _ _ (c .before .before .before .before .if1 .left) (c .before .before .before .byte-at .ensures) (c .before .before .byte-at2 .ensures) (c .before .byte-at3 .ensures) (c .white-of .ensures)
+returns-2 c =
+    let c3 = c .before .before .before in
+    let c4 = c3 .before in
+    let c6 = c4 .before .before in
+    from-new (c6 .args .n) (c6 .args .i) (now (c6 .args .s)) _ _ _ _ (c4 .if1 .left) (c3 .byte-at .ensures) (c .before .before .byte-at2 .ensures) (c .before .byte-at3 .ensures) (c .white-of .ensures)
 
 pub white-from-spec : {M : Type 1} → statement M
 white-from-spec =

@@ -1,4 +1,4 @@
--- `words::white_one` meets its contract.
+-- `write_locus_words::white_one` meets its contract.
 use Rattle.write_locus_words.proofs.Laws.{either-is}
 use mathlib.Core.Path.{refl}
 use borrow.Author.Needs.{needs}

@@ -1,4 +1,4 @@
--- `words::white_two` meets its contract.
+-- `write_locus_words::white_two` meets its contract.
 use lib.Dec.{eqb}
 use Rattle.judge_rooms.specs.Steps.{both-is}
 use mathlib.Core.Path.{refl}

@@ -33,7 +33,16 @@ is-between-requires : tie.Need-is-between-requires Inv-loop μ-loop
 is-between-requires c κs = search needs
 
 returns : tie.Need-returns Inv-loop μ-loop
-returns c = prints-no (now (c .before .before .before .before .before .before .before .before .args .name)) (c .before .before .before .before .before .before .loop .i) (c .before .before .before .before .before .before .loop .white) (c .before .before .before .before .white-from .result) (c .before .before .shown-byte .result) (c .before .before .before .before .white-from .result - 1) (c .before .before .before .before .before .loop-test .taken) (c .before .before .before .before .white-from .ensures) (c .before .before .shown-byte .ensures) refl _ _ (c .before .before .before .before .before .before .loop .inv .1) (c .before .is-between .ensures) (c .if1 .taken)
+returns c =
+    let c4 = c .before .before .before .before in
+    let c5 = c4 .before in
+    let c6 = c5 .before in
+    let c8 = c6 .before .before in
+    let loop = c6 .loop in
+    let white = c4 .white-from in
+    let shown = c .before .before .shown-byte in
+    prints-no (now (c8 .args .name)) (loop .i) (loop .white) (white .result) (shown .result) (white .result - 1) (c5 .loop-test .taken) (white .ensures) (shown .ensures) refl
+    _ _ (loop .inv .1) (c .before .is-between .ensures) (c .if1 .taken)
 
 left-of-requires : tie.Need-left-of-requires Inv-loop μ-loop
 left-of-requires c κs = search needs
@@ -45,7 +54,19 @@ loop-less : tie.Need-loop-less Inv-loop μ-loop
 loop-less c = search needs
 
 loop-again : tie.Need-loop-again Inv-loop μ-loop
-loop-again c = (search needs, prints-turn (now (c .before .before .before .before .before .before .before .before .before .args .name)) (c .before .before .before .before .before .before .before .loop .i) (c .before .before .before .before .before .before .before .loop .white) (c .before .before .before .before .before .white-from .result) (c .before .before .before .shown-byte .result) (c .left-of .result) (c .before .before .before .before .before .before .loop-test .taken) (c .before .before .before .before .before .white-from .ensures) (c .before .before .before .shown-byte .ensures) (c .left-of .ensures) _ _ (c .before .before .before .before .before .before .before .loop .inv .1) (c .before .before .is-between .ensures) (c .before .if1 .left))
+loop-again c =
+    let c3 = c .before .before .before in
+    let c5 = c3 .before .before in
+    let c6 = c5 .before in
+    let c7 = c6 .before in
+    let c9 = c7 .before .before in
+    let loop = c7 .loop in
+    let white = c5 .white-from in
+    let shown = c3 .shown-byte in (
+      search needs,
+      prints-turn (now (c9 .args .name)) (loop .i) (loop .white) (white .result) (shown .result) (c .left-of .result) (c6 .loop-test .taken) (white .ensures) (shown .ensures)
+          (c .left-of .ensures) _ _ (loop .inv .1) (c .before .before .is-between .ensures) (c .before .if1 .left),
+    )
 
 returns-2 : tie.Need-returns-2 Inv-loop μ-loop
 returns-2 c = prints-end (now (c .before .before .before .args .name)) (c .before .loop .i) (c .before .loop .white) (c .loop-test .left) _ (c .before .loop .inv .1)

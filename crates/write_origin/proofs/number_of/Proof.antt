@@ -1,4 +1,4 @@
--- `origin::number_of` meets its contract.
+-- `write_origin::number_of` meets its contract.
 use Rattle.write_origin.specs.Number.{number-is}
 use borrow.Author.Needs.{needs}
 use Rattle.write_origin.proofs.number_of.Statement.{statement}
@@ -29,7 +29,14 @@ column-requires-8 : tie.Need-column-requires-8
 column-requires-8 c κs = search needs
 
 returns : tie.Need-returns
-returns c = simp (c .before .before .before .before .before .before .before .column .ensures, c .before .before .before .before .before .before .column2 .ensures, c .before .before .before .before .before .column3 .ensures, c .before .before .before .before .column4 .ensures, c .before .before .before .column5 .ensures, c .before .before .column6 .ensures, c .before .column7 .ensures, c .column8 .ensures) (number-is _ (c .before .before .before .before .before .before .before .before .pre .0) (c .before .before .before .before .before .before .before .before .pre .1))
+returns c =
+    let c3 = c .before .before .before in
+    let c4 = c3 .before in
+    let c5 = c4 .before in
+    let c6 = c5 .before in
+    let c7 = c6 .before in
+    let c8 = c7 .before in
+    simp (c7 .column .ensures, c6 .column2 .ensures, c5 .column3 .ensures, c4 .column4 .ensures, c3 .column5 .ensures, c .before .before .column6 .ensures, c .before .column7 .ensures, c .column8 .ensures) (number-is _ (c8 .pre .0) (c8 .pre .1))
 
 pub number-of-spec : {M : Type 1} → statement M
 number-of-spec =

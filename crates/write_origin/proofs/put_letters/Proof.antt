@@ -1,4 +1,4 @@
--- `origin::put_letters` meets its contract.
+-- `write_origin::put_letters` meets its contract.
 use Rattle.base_pen.specs.Pen.{writes-past-all}
 use Rattle.write_origin.specs.Measure.{letters-measured}
 use borrow.Author.Needs.{needs}

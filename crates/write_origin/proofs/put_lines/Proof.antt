@@ -1,4 +1,4 @@
--- `origin::put_lines` meets its contract.
+-- `write_origin::put_lines` meets its contract.
 use Rattle.spec_format.specs.Write.{letterLines}
 use Rattle.base_pen.specs.Pen.{Left, left-start}
 use Rattle.write_origin.specs.Whole.{line-turn, lines-are}

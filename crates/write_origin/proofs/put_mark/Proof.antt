@@ -1,4 +1,4 @@
--- `origin::put_mark` meets its contract.
+-- `write_origin::put_mark` meets its contract.
 use Rattle.base_pen.specs.Pen.{writes-nil, writes-append, writes-as}
 use Rattle.write_origin.specs.Origin.{mark-line, mark-ten, mark-none}
 use borrow.Author.Needs.{needs}
@@ -24,7 +24,11 @@ same-length : tie.Need-same-length
 same-length c = search needs
 
 returns : tie.Need-returns
-returns c = writes-as (mark-line _ (c .before .before .before .before .before .before .before .before .before .before .before .before .if1 .taken)) (writes-append (writes-append (c .before .before .before .before .before .before .before .before .before .before .put-byte .ensures) (c .before .before .before .before .before .before .put-nine .ensures)) (c .before .before .put-byte2 .ensures))
+returns c =
+    let c6 = c .before .before .before .before .before .before in
+    let c10 = c6 .before .before .before .before in
+    let c12 = c10 .before .before in
+    writes-as (mark-line _ (c12 .if1 .taken)) (writes-append (writes-append (c10 .put-byte .ensures) (c6 .put-nine .ensures)) (c .before .before .put-byte2 .ensures))
 
 put-byte-requires-3 : tie.Need-put-byte-requires-3
 put-byte-requires-3 c κs = search needs

@@ -1,4 +1,4 @@
--- `origin::put_origin` meets its contract.
+-- `write_origin::put_origin` meets its contract.
 use Rattle.base_pen.specs.Pen.{writes-nil, writes-append, writes-as}
 use Rattle.write_origin.specs.Origin.{origin-none, origin-some}
 use borrow.Author.Needs.{needs}
@@ -21,7 +21,10 @@ same-length : tie.Need-same-length
 same-length c = search needs
 
 returns-2 : tie.Need-returns-2
-returns-2 c = writes-as (origin-some _ (c .before .before .before .before .before .before .before .before .before .if1 .left)) (writes-append (c .before .before .before .before .before .before .put-bytes .ensures) (c .before .before .put-letters .ensures))
+returns-2 c =
+    let c6 = c .before .before .before .before .before .before in
+    let c9 = c6 .before .before .before in
+    writes-as (origin-some _ (c9 .if1 .left)) (writes-append (c6 .put-bytes .ensures) (c .before .before .put-letters .ensures))
 
 pub put-origin-spec : {M : Type 1} → statement M
 put-origin-spec =

@@ -1,4 +1,4 @@
--- `origin::put_tens` meets its contract.
+-- `write_origin::put_tens` meets its contract.
 use mathlib.Core.Path.{_≡_, refl}
 use Prim.Native.Nat.{_-_, _%_, _≤_, _<_}
 use lib.ListN.{length, drop}
@@ -34,12 +34,16 @@ loop-less : tie.Need-loop-less Inv-loop μ-loop
 loop-less c = omega (arith, c .before .before .before .before .ten-end .ensures .some, c .before .before .before .before .ten-end .ensures .inside)
 
 loop-again : tie.Need-loop-again Inv-loop μ-loop
-loop-again c = (
-  c .before .before .before .before .ten-end .ensures .inside,
-  (λ h. ten-next _ _ _ (c .before .before .before .before .before .before .before .before .before .before .loop .inv .1 (c .before .before .before .before .before .before .before .before .before .loop-test .taken)) (c .before .before .before .before .ten-end .ensures) h),
-  search needs,
-  origin-turn _ _ (c .before .before .before .before .before .before .before .before .before .before .loop .inv .3) (c .before .before .before .before .before .before .before .before .before .loop-test .taken) (c .before .before .before .before .before .before .before .before .before .before .loop .inv .1 (c .before .before .before .before .before .before .before .before .before .loop-test .taken)) (c .before .before .before .before .ten-end .ensures) (c .before .before .before .before .before .before .before .put-mark .ensures) (c .before .before .put-part .ensures),
-)
+loop-again c =
+    let c4 = c .before .before .before .before in
+    let c7 = c4 .before .before .before in
+    let c9 = c7 .before .before in
+    let c10 = c9 .before in (
+      c4 .ten-end .ensures .inside,
+      (λ h. ten-next _ _ _ (c10 .loop .inv .1 (c9 .loop-test .taken)) (c4 .ten-end .ensures) h),
+      search needs,
+      origin-turn _ _ (c10 .loop .inv .3) (c9 .loop-test .taken) (c10 .loop .inv .1 (c9 .loop-test .taken)) (c4 .ten-end .ensures) (c7 .put-mark .ensures) (c .before .before .put-part .ensures),
+    )
 
 put-byte-requires : tie.Need-put-byte-requires Inv-loop μ-loop
 put-byte-requires c κs = search needs

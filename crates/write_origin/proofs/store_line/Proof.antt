@@ -1,4 +1,4 @@
--- `origin::store_line` meets its contract.
+-- `write_origin::store_line` meets its contract.
 use Rattle.write_origin.specs.Number.{number-length}
 use Rattle.write_origin.specs.Whole.{thrice}
 use Prim.Native.Nat.{_+_}
@@ -38,7 +38,12 @@ same-length : tie.Need-same-length
 same-length c = search needs
 
 returns : tie.Need-returns
-returns c = rw (c .before .before .before .before .before .before .before .before .before .before .before .before .before .number-of .ensures) at (thrice (c .before .before .before .before .before .before .before .before .before .before .before .before .before .before .before .before .args .at + 76) (c .before .before .before .before .before .before .before .before .before .before .store-ten .ensures) (c .before .before .before .before .before .before .store-thirty .ensures) (c .before .before .store-thirty2 .ensures) (omega arith) (omega arith) (omega arith))
+returns c =
+    let c6 = c .before .before .before .before .before .before in
+    let c10 = c6 .before .before .before .before in
+    let c13 = c10 .before .before .before in
+    let c16 = c13 .before .before .before in
+    rw (c13 .number-of .ensures) at (thrice (c16 .args .at + 76) (c10 .store-ten .ensures) (c6 .store-thirty .ensures) (c .before .before .store-thirty2 .ensures) (omega arith) (omega arith) (omega arith))
 
 pub store-line-spec : {M : Type 1} → statement M
 store-line-spec =

@@ -1,4 +1,4 @@
--- `origin::store_ten` meets its contract.
+-- `write_origin::store_ten` meets its contract.
 use native.Mathlib.Nat.{add-zero}
 use lib.ListN.{length-set}
 use Rattle.base_pen.specs.Pen.{Left, left-start, left-bytes, left-done, writes-byte}

@@ -1,4 +1,4 @@
--- `origin::store_thirty` meets its contract.
+-- `write_origin::store_thirty` meets its contract.
 use Rattle.write_origin.specs.Whole.{thrice}
 use Prim.Native.Nat.{_+_}
 use native.Mathlib.Omega.{arith}
@@ -31,7 +31,11 @@ same-length : tie.Need-same-length
 same-length c = search needs
 
 returns : tie.Need-returns
-returns c = thrice (c .before .before .before .before .before .before .before .before .before .before .before .before .before .before .args .at + 33) (c .before .before .before .before .before .before .before .before .before .before .store-spaced .ensures) (c .before .before .before .before .before .before .store-spaced2 .ensures) (c .before .before .store-spaced3 .ensures) (omega arith) (omega arith) (omega arith)
+returns c =
+    let c6 = c .before .before .before .before .before .before in
+    let c10 = c6 .before .before .before .before in
+    let c14 = c10 .before .before .before .before in
+    thrice (c14 .args .at + 33) (c10 .store-spaced .ensures) (c6 .store-spaced2 .ensures) (c .before .before .store-spaced3 .ensures) (omega arith) (omega arith) (omega arith)
 
 pub store-thirty-spec : {M : Type 1} → statement M
 store-thirty-spec =

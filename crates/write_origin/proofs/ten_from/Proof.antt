@@ -1,4 +1,4 @@
--- `origin::ten_from` meets its contract.
+-- `write_origin::ten_from` meets its contract.
 use Rattle.write_origin.specs.Whole.{ten-is}
 use borrow.Author.Needs.{needs}
 use Rattle.write_origin.proofs.ten_from.Statement.{statement}

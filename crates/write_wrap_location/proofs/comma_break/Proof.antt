@@ -1,4 +1,4 @@
--- `commas::comma_break` meets its contract.
+-- `write_wrap_location::comma_break` meets its contract.
 use mathlib.Core.Path.{_≡_, refl, _∙_}
 use Prim.Native.Nat.{_≤_}
 use Rattle.spec_format.specs.Wrap.{lastComma}

@@ -1,4 +1,4 @@
--- `commas::put_commas` meets its contract.
+-- `write_wrap_location::put_commas` meets its contract.
 use denote.Ref.{now}
 use Rattle.base_pen.specs.Pen.{writes-as}
 use Rattle.write_wrap_location.specs.Commas.{commas-none}
@@ -13,7 +13,10 @@ same-length : tie.Need-same-length
 same-length c = search needs
 
 returns : tie.Need-returns
-returns c = writes-as (commas-none (c .before .before .before .before .before .before .before .args .width) (c .before .before .before .before .before .before .before .args .indent) (c .before .before .before .before .before .before .before .args .taken) (now (c .before .before .before .before .before .before .before .args .text)) (c .before .before .before .before .if1 .taken)) (c .before .before .put-byte .ensures)
+returns c =
+    let c4 = c .before .before .before .before in
+    let c7 = c4 .before .before .before in
+    writes-as (commas-none (c7 .args .width) (c7 .args .indent) (c7 .args .taken) (now (c7 .args .text)) (c4 .if1 .taken)) (c .before .before .put-byte .ensures)
 
 put-lines-requires : tie.Need-put-lines-requires
 put-lines-requires c κs = search needs

@@ -1,4 +1,4 @@
--- `commas::put_line` meets its contract.
+-- `write_wrap_location::put_line` meets its contract.
 use Rattle.base_pen.specs.Pen.{writes-append}
 use borrow.Author.Needs.{needs}
 use Rattle.write_wrap_location.proofs.put_line.Statement.{statement}
@@ -17,7 +17,10 @@ same-length : tie.Need-same-length
 same-length c = search needs
 
 returns : tie.Need-returns
-returns c = writes-append (writes-append (c .before .before .before .before .before .before .before .before .before .before .put-bytes .ensures) (c .before .before .before .before .before .before .put-byte .ensures)) (c .before .before .put-spaces .ensures)
+returns c =
+    let c6 = c .before .before .before .before .before .before in
+    let c10 = c6 .before .before .before .before in
+    writes-append (writes-append (c10 .put-bytes .ensures) (c6 .put-byte .ensures)) (c .before .before .put-spaces .ensures)
 
 pub put-line-spec : {M : Type 1} → statement M
 put-line-spec =

@@ -1,4 +1,4 @@
--- `commas::put_lines` meets its contract.
+-- `write_wrap_location::put_lines` meets its contract.
 use mathlib.Core.Path.{_≡_, refl}
 use Prim.Native.Nat.{_+_, _-_, _*_, _≤_}
 use lib.ListN.{length, drop}
@@ -59,15 +59,25 @@ put-line-requires : tie.Need-put-line-requires Inv-loop μ-loop
 put-line-requires c κs = search needs
 
 loop-less : tie.Need-loop-less Inv-loop μ-loop
-loop-less c = commas-fall (c .before .before .before .before .before .before .before .before .before .before .before .before .args .width) (c .before .before .before .before .before .before .before .before .before .before .before .before .args .indent) (c .before .before .before .before .before .before .before .before .before .loop .used) (length (now (c .before .before .before .before .before .before .before .before .before .before .before .before .args .text))) (c .before .before .before .before .before .before .before .before .before .loop .from) (search needs) (c .before .before .before .before .before .before .left-of .ensures) (c .before .before .before .before .before .comma-break .ensures) (search needs) (search needs)
+loop-less c =
+    let c5 = c .before .before .before .before .before in
+    let c6 = c5 .before in
+    let c9 = c6 .before .before .before in
+    let c12 = c9 .before .before .before in
+    commas-fall (c12 .args .width) (c12 .args .indent) (c9 .loop .used) (length (now (c12 .args .text))) (c9 .loop .from) (search needs) (c6 .left-of .ensures) (c5 .comma-break .ensures) (search needs) (search needs)
 
 loop-again : tie.Need-loop-again Inv-loop μ-loop
-loop-again c = (
-  search needs,
-  search needs,
-  search needs,
-  commas-turn (now (c .before .before .before .before .before .before .before .before .before .before .before .before .args .text)) (c .before .before .before .before .before .before .before .before .before .loop .from) (c .before .before .before .before .before .before .before .before .before .loop .inv .3) (search needs) (c .before .before .before .before .before .before .before .before .loop-test .taken) (c .before .before .before .before .before .before .left-of .ensures) (c .before .before .before .before .before .comma-break .ensures) (c .before .before .put-line .ensures),
-)
+loop-again c =
+    let c5 = c .before .before .before .before .before in
+    let c6 = c5 .before in
+    let c8 = c6 .before .before in
+    let c9 = c8 .before in
+    let c12 = c9 .before .before .before in (
+      search needs,
+      search needs,
+      search needs,
+      commas-turn (now (c12 .args .text)) (c9 .loop .from) (c9 .loop .inv .3) (search needs) (c8 .loop-test .taken) (c6 .left-of .ensures) (c5 .comma-break .ensures) (c .before .before .put-line .ensures),
+    )
 
 sub-put-bytes : tie.Need-sub-put-bytes Inv-loop μ-loop
 sub-put-bytes c = search needs
@@ -88,7 +98,12 @@ same-length : tie.Need-same-length Inv-loop μ-loop
 same-length c = search needs
 
 returns : tie.Need-returns Inv-loop μ-loop
-returns c = commas-done (now (c .before .before .before .before .before .before .before .before .before .before .before .before .before .args .text)) (c .before .before .before .before .before .before .before .before .before .before .loop .from) (c .before .before .before .before .before .before .before .before .before .before .loop .inv .3) (c .before .before .before .before .before .before .before .before .before .loop-test .left) (c .before .before .before .before .before .before .put-bytes .ensures) (c .before .before .put-byte .ensures)
+returns c =
+    let c6 = c .before .before .before .before .before .before in
+    let c9 = c6 .before .before .before in
+    let c10 = c9 .before in
+    let c13 = c10 .before .before .before in
+    commas-done (now (c13 .args .text)) (c10 .loop .from) (c10 .loop .inv .3) (c9 .loop-test .left) (c6 .put-bytes .ensures) (c .before .before .put-byte .ensures)
 
 pub put-lines-spec : {M : Type 1} → statement M
 put-lines-spec =

@@ -1,4 +1,4 @@
--- `wrap::fed_break` meets its contract.
+-- `write_wrap_text::fed_break` meets its contract.
 use Rattle.write_wrap_text.specs.Plain.{plain-feed, scanned}
 use Prim.Native.Nat.{_-_}
 use mathlib.Core.Path.{_≡_}

@@ -1,4 +1,4 @@
--- `wrap::full` meets its contract.
+-- `write_wrap_text::full` meets its contract.
 use borrow.Author.Tests.{eq-eqb, ne-eqb}
 use borrow.Author.Needs.{needs}
 use Rattle.write_wrap_text.proofs.full.Statement.{statement}

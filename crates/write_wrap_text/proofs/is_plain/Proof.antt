@@ -1,4 +1,4 @@
--- `wrap::is_plain` meets its contract.
+-- `write_wrap_text::is_plain` meets its contract.
 use borrow.Author.Tests.{eq-eqb, ne-eqb}
 use Prim.Native.Nat.{_-_}
 use mathlib.Core.Path.{_≡_}

@@ -1,4 +1,4 @@
--- `wrap::last_each` meets its contract.
+-- `write_wrap_text::last_each` meets its contract.
 use Rattle.write_wrap_text.specs.Plain.{lastTo, last-found, last-turn, last-none}
 use Prim.Native.Nat.{_-_, _≤_}
 use mathlib.Core.Path.{_≡_, refl}

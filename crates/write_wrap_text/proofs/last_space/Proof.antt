@@ -1,4 +1,4 @@
--- `wrap::last_space` meets its contract.
+-- `write_wrap_text::last_space` meets its contract.
 use native.Mathlib.Omega.{arith}
 use borrow.Author.Tests.{eq-eqb, ne-eqb}
 use borrow.Author.Needs.{needs}

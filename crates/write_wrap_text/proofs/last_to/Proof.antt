@@ -1,4 +1,4 @@
--- `wrap::last_to` meets its contract.
+-- `write_wrap_text::last_to` meets its contract.
 use Rattle.write_wrap_text.specs.Plain.{lastTo, last-passed, last-known, first-block}
 use Prim.Native.Nat.{_-_, _≤_}
 use mathlib.Core.Path.{_≡_, refl}
@@ -29,7 +29,10 @@ loop-less : tie.Need-loop-less Inv-loop μ-loop
 loop-less c = search needs
 
 loop-again : tie.Need-loop-again Inv-loop μ-loop
-loop-again c = (search needs, last-passed _ (c .before .before .before .before .before .args .n) _ (c .before .before .before .loop .inv .1) (c .before .before .loop-test .taken) (c .before .spaceless-block .ensures (not-false _ (c .if1 .left))))
+loop-again c =
+    let c3 = c .before .before .before in
+    let c5 = c3 .before .before in
+    (search needs, last-passed _ (c5 .args .n) _ (c3 .loop .inv .1) (c .before .before .loop-test .taken) (c .before .spaceless-block .ensures (not-false _ (c .if1 .left))))
 
 last-each-requires-2 : tie.Need-last-each-requires-2 Inv-loop μ-loop
 last-each-requires-2 c κs = search needs

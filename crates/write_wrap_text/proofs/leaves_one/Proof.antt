@@ -1,4 +1,4 @@
--- `wrap::leaves_one` meets its contract.
+-- `write_wrap_text::leaves_one` meets its contract.
 use mathlib.Core.Path.{sym}
 use borrow.Author.Tests.{le-ltb}
 use Prim.Native.Nat.{_+_, _-_}

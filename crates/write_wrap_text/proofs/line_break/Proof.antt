@@ -1,4 +1,4 @@
--- `wrap::line_break` meets its contract.
+-- `write_wrap_text::line_break` meets its contract.
 use Rattle.write_wrap_text.specs.Plain.{plain-whole, plain-full, scanned}
 use Prim.Native.Nat.{_-_}
 use mathlib.Core.Path.{_≡_}

@@ -1,4 +1,4 @@
--- `wrap::line_scan` meets its contract.
+-- `write_wrap_text::line_scan` meets its contract.
 use Prim.Native.Nat.{_+_, _-_, _*_, _≤_}
 use mathlib.Core.Path.{_≡_, refl, sym, _∙_}
 use lib.ListN.{length, getD, drop}
@@ -38,24 +38,32 @@ full-requires c κs = search needs
 
 returns : tie.Need-returns Inv-loop μ-loop
 returns c =
-    let inv = c .before .before .before .before .before .before .loop .inv in
-    let t = now (c .before .before .before .before .before .before .before .before .args .text) in
-    let e = c .before .before .before .columns .ensures .is in
-    let st : stops (getD t (c .before .before .before .before .before .before .loop .i) 0) (c .before .before .before .before .before .before .before .before .args .width) (c .before .before .before .before .before .before .loop .used + columns (c .before .before .before .before .before .before .before .before .args .quote) (getD t (c .before .before .before .before .before .before .loop .i) 0)) ≡ true =
+    let c3 = c .before .before .before in
+    let c5 = c3 .before .before in
+    let c6 = c5 .before in
+    let c8 = c6 .before .before in
+    let inv = c6 .loop .inv in
+    let t = now (c8 .args .text) in
+    let e = c3 .columns .ensures .is in
+    let st : stops (getD t (c6 .loop .i) 0) (c8 .args .width) (c6 .loop .used + columns (c8 .args .quote) (getD t (c6 .loop .i) 0)) ≡ true =
     rw (← e) (sym (c .before .before .stops .ensures) ∙ c .before .if1 .taken) in
-    breaks _ _ _ _ _ (sym (inv .3) ∙ scan-full _ _ _ _ _ t (c .before .before .before .before .before .loop-test .taken) st ∙ sym (c .full .ensures))
+    breaks _ _ _ _ _ (sym (inv .3) ∙ scan-full _ _ _ _ _ t (c5 .loop-test .taken) st ∙ sym (c .full .ensures))
 
 add-t15 : tie.Need-add-t15 Inv-loop μ-loop
 add-t15 c = search needs
 
 returns-2 : tie.Need-returns-2 Inv-loop μ-loop
 returns-2 c =
-    let inv = c .before .before .before .before .before .before .loop .inv in
-    let t = now (c .before .before .before .before .before .before .before .before .args .text) in
-    let e = c .before .before .before .columns .ensures .is in
-    let st : stops (getD t (c .before .before .before .before .before .before .loop .i) 0) (c .before .before .before .before .before .before .before .before .args .width) (c .before .before .before .before .before .before .loop .used + columns (c .before .before .before .before .before .before .before .before .args .quote) (getD t (c .before .before .before .before .before .before .loop .i) 0)) ≡ false =
+    let c3 = c .before .before .before in
+    let c5 = c3 .before .before in
+    let c6 = c5 .before in
+    let c8 = c6 .before .before in
+    let inv = c6 .loop .inv in
+    let t = now (c8 .args .text) in
+    let e = c3 .columns .ensures .is in
+    let st : stops (getD t (c6 .loop .i) 0) (c8 .args .width) (c6 .loop .used + columns (c8 .args .quote) (getD t (c6 .loop .i) 0)) ≡ false =
     rw (← e) (sym (c .before .before .stops .ensures) ∙ c .before .if1 .left) in
-    breaks _ _ _ _ _ (sym (inv .3) ∙ scan-feed _ _ _ _ _ t (c .before .before .before .before .before .loop-test .taken) st (c .if2 .taken))
+    breaks _ _ _ _ _ (sym (inv .3) ∙ scan-feed _ _ _ _ _ t (c5 .loop-test .taken) st (c .if2 .taken))
 
 last-space-requires : tie.Need-last-space-requires Inv-loop μ-loop
 last-space-requires c κs = search needs
@@ -68,12 +76,17 @@ loop-less c = search needs
 
 loop-again : tie.Need-loop-again Inv-loop μ-loop
 loop-again c =
-    let inv = c .before .before .before .before .before .before .before .loop .inv in
-    let t = now (c .before .before .before .before .before .before .before .before .before .args .text) in
-    let e = c .before .before .before .before .columns .ensures .is in
-    let st : stops (getD t (c .before .before .before .before .before .before .before .loop .i) 0) (c .before .before .before .before .before .before .before .before .before .args .width) (c .before .before .before .before .before .before .before .loop .used + columns (c .before .before .before .before .before .before .before .before .before .args .quote) (getD t (c .before .before .before .before .before .before .before .loop .i) 0)) ≡ false =
-    rw (← e) (sym (c .before .before .before .stops .ensures) ∙ c .before .before .if1 .left) in
-    (search needs, search needs, search needs, rw (e, c .last-space .ensures .is) (sym (scan-turn _ _ _ _ _ t (c .before .before .before .before .before .before .loop-test .taken) st (c .before .if2 .left)) ∙ inv .3))
+    let c3 = c .before .before .before in
+    let c4 = c3 .before in
+    let c6 = c4 .before .before in
+    let c7 = c6 .before in
+    let c9 = c7 .before .before in
+    let inv = c7 .loop .inv in
+    let t = now (c9 .args .text) in
+    let e = c4 .columns .ensures .is in
+    let st : stops (getD t (c7 .loop .i) 0) (c9 .args .width) (c7 .loop .used + columns (c9 .args .quote) (getD t (c7 .loop .i) 0)) ≡ false =
+    rw (← e) (sym (c3 .stops .ensures) ∙ c .before .before .if1 .left) in
+    (search needs, search needs, search needs, rw (e, c .last-space .ensures .is) (sym (scan-turn _ _ _ _ _ t (c6 .loop-test .taken) st (c .before .if2 .left)) ∙ inv .3))
 
 returns-3 : tie.Need-returns-3 Inv-loop μ-loop
 returns-3 c = breaks _ _ _ _ _ (sym (c .before .loop .inv .3) ∙ scan-end _ _ _ _ _ _ (c .loop-test .left))

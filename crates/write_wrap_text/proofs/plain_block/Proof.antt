@@ -1,4 +1,4 @@
--- `wrap::plain_block` meets its contract.
+-- `write_wrap_text::plain_block` meets its contract.
 use mathlib.Core.Bool.{true}
 use native.Mathlib.Nat.{add-zero}
 use Rattle.write_wrap_text.specs.Plain.{plainTo, block-turn}
@@ -37,7 +37,9 @@ loop-less : tie.Need-loop-less Inv-loop μ-loop
 loop-less c = search needs
 
 loop-again : tie.Need-loop-again Inv-loop μ-loop
-loop-again c = (omega arith, block-turn _ _ (c .before .before .before .before .loop .j) (c .before .before .before .before .loop .ok) (c .before .is-plain .result) (c .both .result) (c .before .before .before .before .loop .inv .1) (c .before .is-plain .ensures) (c .both .ensures))
+loop-again c =
+    let c4 = c .before .before .before .before in
+    (omega arith, block-turn _ _ (c4 .loop .j) (c4 .loop .ok) (c .before .is-plain .result) (c .both .result) (c4 .loop .inv .1) (c .before .is-plain .ensures) (c .both .ensures))
 
 returns : tie.Need-returns Inv-loop μ-loop
 returns c = let e : c .before .loop .j ≡ 16 = omega arith in rw e at (c .before .loop .inv .1)

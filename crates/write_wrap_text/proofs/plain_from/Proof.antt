@@ -1,4 +1,4 @@
--- `wrap::plain_from` meets its contract.
+-- `write_wrap_text::plain_from` meets its contract.
 use mathlib.Core.Bool.{true}
 use borrow.Author.Tests.{not-false}
 use Rattle.write_wrap_text.specs.Plain.{plainTo, plain-more}
@@ -35,7 +35,10 @@ loop-less : tie.Need-loop-less Inv-loop μ-loop
 loop-less c = search needs
 
 loop-again : tie.Need-loop-again Inv-loop μ-loop
-loop-again c = (omega arith, plain-more (now (c .before .before .before .before .before .before .args .text)) (c .before .before .before .before .loop .i) (c .before .before .before .before .loop .inv .1) (sym (c .before .is-plain .ensures) ∙ not-false _ (c .if1 .left)))
+loop-again c =
+    let c4 = c .before .before .before .before in
+    let c6 = c4 .before .before in
+    (omega arith, plain-more (now (c6 .args .text)) (c4 .loop .i) (c4 .loop .inv .1) (sym (c .before .is-plain .ensures) ∙ not-false _ (c .if1 .left)))
 
 returns-2 : tie.Need-returns-2 Inv-loop μ-loop
 returns-2 c = record { is = c .before .loop .inv .1; most = c .before .loop .inv .0 }

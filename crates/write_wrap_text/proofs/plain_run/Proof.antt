@@ -1,4 +1,4 @@
--- `wrap::plain_run` meets its contract.
+-- `write_wrap_text::plain_run` meets its contract.
 use mathlib.Core.Bool.{true}
 use borrow.Author.Tests.{not-false}
 use Rattle.write_wrap_text.specs.Plain.{plainTo, last-block}
@@ -49,7 +49,10 @@ plain-block-requires-2 : tie.Need-plain-block-requires-2 Inv-loop μ-loop
 plain-block-requires-2 c κs = search needs
 
 returns-3 : tie.Need-returns-3 Inv-loop μ-loop
-returns-3 c = last-block _ (c .before .before .before .before .loop .i) _ (c .before .before .if2 .left) (c .before .before .before .loop-test .left) (c .before .before .before .before .loop .inv .1) (c .before .plain-block2 .ensures (c .if3 .taken))
+returns-3 c =
+    let c3 = c .before .before .before in
+    let c4 = c3 .before in
+    last-block _ (c4 .loop .i) _ (c .before .before .if2 .left) (c3 .loop-test .left) (c4 .loop .inv .1) (c .before .plain-block2 .ensures (c .if3 .taken))
 
 plain-from-requires-3 : tie.Need-plain-from-requires-3 Inv-loop μ-loop
 plain-from-requires-3 c κs = search needs

@@ -1,4 +1,4 @@
--- `wrap::put_break` meets its contract.
+-- `write_wrap_text::put_break` meets its contract.
 use Rattle.base_pen.specs.Pen.{writes-append}
 use borrow.Author.Needs.{needs}
 use Rattle.write_wrap_text.proofs.put_break.Statement.{statement}

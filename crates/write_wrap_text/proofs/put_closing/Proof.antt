@@ -1,4 +1,4 @@
--- `wrap::put_closing` meets its contract.
+-- `write_wrap_text::put_closing` meets its contract.
 use Rattle.base_pen.specs.Pen.{writes-append}
 use borrow.Author.Needs.{needs}
 use Rattle.write_wrap_text.proofs.put_closing.Statement.{statement}
@@ -29,7 +29,11 @@ same-length-2 : tie.Need-same-length-2
 same-length-2 c = search needs
 
 returns-2 : tie.Need-returns-2
-returns-2 c = simp (c .before .before .before .before .before .before .before .before .before .before .if1 .taken, c .before .before .before .before .before .before .before .before .before .if2 .left) (writes-append (c .before .before .before .before .before .before .before .put-break .ensures) (c .before .before .put-bytes2 .ensures))
+returns-2 c =
+    let c7 = c .before .before .before .before .before .before .before in
+    let c9 = c7 .before .before in
+    let c10 = c9 .before in
+    simp (c10 .if1 .taken, c9 .if2 .left) (writes-append (c7 .put-break .ensures) (c .before .before .put-bytes2 .ensures))
 
 put-byte-requires : tie.Need-put-byte-requires
 put-byte-requires c κs = search needs

@@ -1,4 +1,4 @@
--- `wrap::put_each_shown` meets its contract.
+-- `write_wrap_text::put_each_shown` meets its contract.
 use Prim.Native.Nat.{_-_, _≤_}
 use mathlib.Core.Path.{_≡_, refl}
 use lib.ListN.{length, drop}

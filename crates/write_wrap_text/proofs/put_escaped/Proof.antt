@@ -1,4 +1,4 @@
--- `wrap::put_escaped` meets its contract.
+-- `write_wrap_text::put_escaped` meets its contract.
 use Rattle.base_pen.specs.Pen.{writes-as}
 use Rattle.write_wrap_text.specs.Loop.{escape-bare}
 use Rattle.write_wrap_text.specs.Plain.{escape-plain}

@@ -1,4 +1,4 @@
--- `wrap::put_shown` meets its contract.
+-- `write_wrap_text::put_shown` meets its contract.
 use borrow.Author.Tests.{eq-eqb, ne-eqb}
 use borrow.Author.Needs.{needs}
 use Rattle.write_wrap_text.proofs.put_shown.Statement.{statement}

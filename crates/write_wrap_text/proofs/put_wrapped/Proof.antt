@@ -1,4 +1,4 @@
--- `wrap::put_wrapped` meets its contract.
+-- `write_wrap_text::put_wrapped` meets its contract.
 use mathlib.Core.Path.{_≡_, refl}
 use Prim.Native.Nat.{_+_, _-_, _*_, _≤_}
 use lib.ListN.{length, drop}
@@ -51,7 +51,11 @@ part-put-escaped-end : tie.Need-part-put-escaped-end Inv-loop μ-loop
 part-put-escaped-end c = search needs
 
 put-escaped-requires : tie.Need-put-escaped-requires Inv-loop μ-loop
-put-escaped-requires c κs = line-plain (now (c .before .before .before .before .before .before .before .before .before .args .text)) (c .before .before .before .before .before .before .loop .from) (c .before .before .before .before .before .before .loop .inv .0) (c .before .before .before .before .line-break .ensures)
+put-escaped-requires c κs =
+    let c4 = c .before .before .before .before in
+    let c6 = c4 .before .before in
+    let c9 = c6 .before .before .before in
+    line-plain (now (c9 .args .text)) (c6 .loop .from) (c6 .loop .inv .0) (c4 .line-break .ensures)
 
 sub-leaves-one : tie.Need-sub-leaves-one Inv-loop μ-loop
 sub-leaves-one c = search needs
@@ -66,21 +70,38 @@ same-length : tie.Need-same-length Inv-loop μ-loop
 same-length c = search needs
 
 returns : tie.Need-returns Inv-loop μ-loop
-returns c = text-done (now (c .before .before .before .before .before .before .before .before .before .before .before .before .before .before .before .before .before .before .args .text)) (c .before .before .before .before .before .before .before .before .before .before .before .before .before .before .before .loop .from) (c .before .before .before .before .before .before .before .before .before .before .before .before .before .before .before .loop .inv .3) (c .before .before .before .before .before .before .before .before .before .before .before .before .before .before .before .loop .inv .0) (c .before .before .before .before .before .before .before .before .before .before .before .before .before .line-break .ensures .line) (c .before .before .before .before .before .if1 .taken) (c .before .before .before .before .before .before .before .before .put-escaped .ensures) (c .before .before .before .leaves-one .ensures) (c .before .before .put-closing .ensures)
+returns c =
+    let c3 = c .before .before .before in
+    let c5 = c3 .before .before in
+    let c8 = c5 .before .before .before in
+    let c13 = c8 .before .before .before .before .before in
+    let c15 = c13 .before .before in
+    let c18 = c15 .before .before .before in
+    text-done (now (c18 .args .text)) (c15 .loop .from) (c15 .loop .inv .3) (c15 .loop .inv .0) (c13 .line-break .ensures .line) (c5 .if1 .taken) (c8 .put-escaped .ensures) (c3 .leaves-one .ensures) (c .before .before .put-closing .ensures)
 
 put-break-requires : tie.Need-put-break-requires Inv-loop μ-loop
 put-break-requires c κs = search needs
 
 loop-less : tie.Need-loop-less Inv-loop μ-loop
-loop-less c = text-falls (c .before .before .before .before .before .before .before .before .before .before .before .before .before .before .before .before .before .args .indent) (now (c .before .before .before .before .before .before .before .before .before .before .before .before .before .before .before .before .before .args .text)) (c .before .before .before .before .before .before .before .before .before .before .before .before .before .before .loop .from) (search needs) (c .before .before .before .before .before .before .before .before .before .before .before .before .before .before .loop .inv .0) (c .before .before .before .before .before .before .before .before .before .before .before .before .line-break .ensures .line) (c .before .before .before .before .if1 .left)
+loop-less c =
+    let c4 = c .before .before .before .before in
+    let c12 = c4 .before .before .before .before .before .before .before .before in
+    let c14 = c12 .before .before in
+    let c17 = c14 .before .before .before in
+    text-falls (c17 .args .indent) (now (c17 .args .text)) (c14 .loop .from) (search needs) (c14 .loop .inv .0) (c12 .line-break .ensures .line) (c4 .if1 .left)
 
 loop-again : tie.Need-loop-again Inv-loop μ-loop
-loop-again c = (
-  search needs,
-  search needs,
-  search needs,
-  text-turn (now (c .before .before .before .before .before .before .before .before .before .before .before .before .before .before .before .before .before .args .text)) (c .before .before .before .before .before .before .before .before .before .before .before .before .before .before .loop .from) (c .before .before .before .before .before .before .before .before .before .before .before .before .before .before .loop .inv .3) (c .before .before .before .before .before .before .before .before .before .before .before .before .before .before .loop .inv .0) (search needs) (c .before .before .before .before .before .before .before .before .before .before .before .before .line-break .ensures .line) (c .before .before .before .before .if1 .left) (c .before .before .before .before .before .before .before .put-escaped .ensures) (c .before .before .put-break .ensures),
-)
+loop-again c =
+    let c4 = c .before .before .before .before in
+    let c7 = c4 .before .before .before in
+    let c12 = c7 .before .before .before .before .before in
+    let c14 = c12 .before .before in
+    let c17 = c14 .before .before .before in (
+      search needs,
+      search needs,
+      search needs,
+      text-turn (now (c17 .args .text)) (c14 .loop .from) (c14 .loop .inv .3) (c14 .loop .inv .0) (search needs) (c12 .line-break .ensures .line) (c4 .if1 .left) (c7 .put-escaped .ensures) (c .before .before .put-break .ensures),
+    )
 
 pub put-wrapped-spec : {M : Type 1} → statement M
 put-wrapped-spec =

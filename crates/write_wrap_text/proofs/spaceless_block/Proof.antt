@@ -1,4 +1,4 @@
--- `wrap::spaceless_block` meets its contract.
+-- `write_wrap_text::spaceless_block` meets its contract.
 use mathlib.Core.Bool.{true}
 use native.Mathlib.Nat.{add-zero}
 use Rattle.write_wrap_text.specs.Plain.{lastTo, spaceless-turn}

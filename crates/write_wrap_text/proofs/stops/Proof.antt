@@ -1,4 +1,4 @@
--- `wrap::stops` meets its contract.
+-- `write_wrap_text::stops` meets its contract.
 use mathlib.Core.Path.{_≡_}
 use borrow.Author.Tests.{lt-ltb, le-ltb}
 use lib.Dec.{ltb}
