@@ -2,6 +2,8 @@
 use read_feature_table::Features;
 use read_field_optional::MayEntry;
 use read_field_optional::MayEntryAt;
+use read_field_optional::may_field_at;
+use read_field_optional::may_location_at;
 use scan_bytes::Step;
 ghost use mathlib.Core.Bool.{false};
 ghost use Prim.Native.Nat.{_≤_};
@@ -27,15 +29,9 @@ fn contig_at(s: &[u8], at: usize) -> MayEntryAt
     requires { ⌜ at ≤ length (now s) ⌝ }
     ensures { λ r. ⌜ MayEnter (now (s .entry)) 0 false (contigPart (drop at (now (s .entry)))) r ⌝ }
 {
-    match read_field_optional::may_field_at(s, at, 0, b"BASE COUNT", false) {
+    match may_field_at(s, at, 0, b"BASE COUNT", false) {
         MayEntryAt::Cut => MayEntryAt::Cut,
-        MayEntryAt::Got { entry: _, next } => read_field_optional::may_location_at(
-            s,
-            next,
-            0,
-            b"CONTIG",
-            false,
-        ),
+        MayEntryAt::Got { entry: _, next } => may_location_at(s, next, 0, b"CONTIG", false),
     }
 }
 
