@@ -1,4 +1,5 @@
 -- The records that the contracts of the entry points cite.
+pub mod Lent
 pub mod Reads
 pub mod Writes
 pub mod Equal

@@ -1,2 +1,0 @@
--- Short names for contracts.
-pub mod Lent
