@@ -14,14 +14,9 @@ use Rattle.spec_format.specs.declared.Dated.{Dated}
 use Rattle.spec_format.specs.declared.Head.{Head}
 use Rattle.spec_format.specs.declared.Text.{Text}
 use Rattle.spec_format.specs.declared.Text.the-variants as text
-use Rattle.write_locus_name.specs.Names.{printedOf}
+use Rattle.write_locus_name.specs.Names.{chosen, printedOf}
 use Rattle.judge_rooms.specs.Facts.{TextIn}
 use Rattle.judge_rooms.specs.Parts.{referenceRooms}
-
--- the name to print
-abbrev pub chosen : Text → Text → Text
-chosen text.Absent accession = accession
-chosen (text.At s) accession = text.At s
 
 abbrev pub orUntitled : May (List ℕ) → List ℕ
 orUntitled absent = bytes "UNTITLED"

@@ -9,6 +9,7 @@ use spec_format::Length;
 use spec_format::Span;
 use spec_format::Text;
 use spec_format::printed_date;
+use write_locus_name::chosen_name;
 use write_locus_name::printed_name_fine;
 use write_locus_name::put_printed_name;
 use write_locus_parts::put_date;
@@ -25,7 +26,7 @@ ghost use Rattle.write_locus_name.specs.Names.{nameTest, printedOf};
 ghost use Rattle.base_pen.specs.Pen.{Writes};
 ghost use Rattle.judge_rooms.specs.Facts.{SpanIn, TextIn, HeadIn};
 ghost use Rattle.judge_rooms.specs.Parts.{referenceRooms};
-ghost use Rattle.write_locus.specs.Line.{chosen, orUntitled, nameWith, lineStart, lineMiddle, lineEnd, lineWith};
+ghost use Rattle.write_locus.specs.Line.{orUntitled, nameWith, lineStart, lineMiddle, lineEnd, lineWith};
 
 // The length that is printed: LOCUS's, else the letter count.
 fn printed_length(bases: Length, letters: usize) -> u32
@@ -35,16 +36,6 @@ fn printed_length(bases: Length, letters: usize) -> u32
     match bases {
         Length::Absent => letters as u32,
         Length::Bases(n) => n,
-    }
-}
-
-// LOCUS's name, else ACCESSION.
-fn chosen_name(name: Text, accession: Text) -> Text
-    ensures { λ r. ⌜ r ≡ chosen name accession ⌝ }
-{
-    match name {
-        Text::Absent => accession,
-        Text::At(s) => Text::At(s),
     }
 }
 

@@ -9,6 +9,13 @@ use lib.Seq.{take-all}
 use borrow.Author.Tests.{lt-ltb, le-ltb}
 use Rattle.spec_format.specs.Bytes.{some, all, printing}
 use Rattle.spec_format.specs.Write.{truncated, escapedName}
+use Rattle.spec_format.specs.declared.Text.{Text}
+use Rattle.spec_format.specs.declared.Text.the-variants as text
+
+-- the name to print: LOCUS's, else ACCESSION
+abbrev pub chosen : Text → Text → Text
+chosen text.Absent accession = accession
+chosen (text.At s) accession = text.At s
 
 -- what number 11 asks of a printed name
 abbrev pub nameTest : List ℕ → Bool

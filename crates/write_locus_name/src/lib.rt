@@ -1,9 +1,10 @@
-// The name that a LOCUS line prints: `truncate_locus` and `escape_locus` of writer.rs.
+// The name that a LOCUS line prints, and which it is: `truncate_locus` and `escape_locus` of writer.rs.
 use base_arith::both;
 use base_arith::left_of;
 use base_pen::put_bytes;
 use base_pen::put_spaces;
 use judge_text::printing_all;
+use spec_format::Text;
 use write_decimal::put_decimal;
 use write_decimal::width;
 use write_locus_words::put_joined;
@@ -15,7 +16,17 @@ ghost use lib.ListN.{length};
 ghost use Rattle.spec_format.specs.Bytes.{decimal};
 ghost use Rattle.spec_format.specs.Write.{escapedName, nameAndLength};
 ghost use Rattle.base_pen.specs.Pen.{Writes};
-ghost use Rattle.write_locus_name.specs.Names.{Kept, nameTest, printedOf};
+ghost use Rattle.write_locus_name.specs.Names.{Kept, chosen, nameTest, printedOf};
+
+// LOCUS's name, else ACCESSION.
+pub fn chosen_name(name: Text, accession: Text) -> Text
+    ensures { λ r. ⌜ r ≡ chosen name accession ⌝ }
+{
+    match name {
+        Text::Absent => accession,
+        Text::At(s) => Text::At(s),
+    }
+}
 
 // A name as it is, or its words joined by `_` where that is asked for and there are two or more.
 fn put_escaped_name(out: &mut [u8], at: usize, name: &[u8], escape: bool) -> usize

@@ -1,7 +1,7 @@
 -- By whether LOCUS has a name.
 use borrow.Author.Needs.{needs}
-use Rattle.write_locus.proofs.chosen_name.Statement.{statement}
-use Rattle.write_locus.proofs.chosen_name.Tie as tie
+use Rattle.write_locus_name.proofs.chosen_name.Statement.{statement}
+use Rattle.write_locus_name.proofs.chosen_name.Tie as tie
 
 enum-told : tie.Need-enum-told
 enum-told c = search needs
