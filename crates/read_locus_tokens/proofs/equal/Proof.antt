@@ -1,4 +1,4 @@
--- `tokens::equal` meets its contract. The invariant: the answer of the whole is the answer from here. Assumes nothing.
+-- `read_locus_tokens::equal` meets its contract. The invariant: the answer of the whole is the answer from here. Assumes nothing.
 use Rattle.spec_format.specs.Bytes.{same}
 use Rattle.read_locus_tokens.proofs.Digits.{deciding}
 use Prim.Native.Nat.{_-_, _≤_}

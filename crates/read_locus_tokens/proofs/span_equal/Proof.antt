@@ -1,4 +1,4 @@
--- `tokens::span_equal` meets its contract. Assumes nothing.
+-- `read_locus_tokens::span_equal` meets its contract. Assumes nothing.
 use Prim.Native.Nat.{_+_, _-_}
 use mathlib.Core.Path.{_≡_}
 use lib.ListN.{length}
@@ -23,7 +23,9 @@ equal-requires : tie.Need-equal-requires
 equal-requires c κs = search needs
 
 returns : tie.Need-returns
-returns c = let y : c .before .before .before .before .before .args .x .start + c .before .before .before .before .before .args .x .length - c .before .before .before .before .before .args .x .start ≡ c .before .before .before .before .before .args .x .length = omega arith in rw y at (c .equal .ensures)
+returns c =
+    let c5 = c .before .before .before .before .before in
+    let y : c5 .args .x .start + c5 .args .x .length - c5 .args .x .start ≡ c5 .args .x .length = omega arith in rw y at (c .equal .ensures)
 
 pub span-equal-spec : {M : Type 1} → statement M
 span-equal-spec =
