@@ -98,23 +98,6 @@ pub fn token_at(s: &[u8], at: usize, to: usize) -> Token
     }
 }
 
-// Whether two texts are equal.
-fn equal(t: &[u8], w: &[u8]) -> bool
-    ensures { λ r. ⌜ r ≡ same (now (t .entry)) (now (w .entry)) ⌝ }
-{
-    if t.len() != w.len() {
-        return false;
-    }
-    let mut i = 0;
-    while i < t.len() {
-        if t[i] != w[i] {
-            return false;
-        }
-        i += 1;
-    }
-    true
-}
-
 // The number that at most ten digits stand for.
 fn decimal_in(t: &[u8]) -> Decimal
     requires { ⌜ length (now t) ≤ 10 ⌝ }
@@ -157,13 +140,13 @@ fn place_from(t: &[u8], first: &[u8], second: &[u8], third: &[u8], later: u8) ->
     requires { ⌜ later ≤ 9 ⌝ }
     ensures { λ r. ⌜ Placed (now (t .entry)) (now (first .entry)) (now (second .entry)) (now (third .entry)) later r ⌝ }
 {
-    if equal(t, first) {
+    if base_keys::same_text(t, first) {
         return 1;
     }
-    if equal(t, second) {
+    if base_keys::same_text(t, second) {
         return 2;
     }
-    if equal(t, third) {
+    if base_keys::same_text(t, third) {
         return 3;
     }
     if later == 0 {
@@ -256,7 +239,7 @@ pub fn span_equal(s: &[u8], x: Span, w: &[u8]) -> bool
 {
     let start = x.start;
     let end = start + x.length;
-    equal(&s[start..end], w)
+    base_keys::same_text(&s[start..end], w)
 }
 
 pub fn span_bases(s: &[u8], x: Span) -> Length

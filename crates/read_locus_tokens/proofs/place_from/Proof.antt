@@ -4,30 +4,30 @@ use borrow.Author.Needs.{needs}
 use Rattle.read_locus_tokens.proofs.place_from.Statement.{statement}
 use Rattle.read_locus_tokens.proofs.place_from.Tie as tie
 
-equal-requires : tie.Need-equal-requires
-equal-requires c κs = search needs
+same-text-requires : tie.Need-same-text-requires
+same-text-requires c κs = search needs
 
 returns : tie.Need-returns
-returns c = place-first _ _ _ _ _ _ (c .before .equal .ensures) (c .if1 .taken)
+returns c = place-first _ _ _ _ _ _ (c .before .same-text .ensures) (c .if1 .taken)
 
-equal-requires-2 : tie.Need-equal-requires-2
-equal-requires-2 c κs = search needs
+same-text-requires-2 : tie.Need-same-text-requires-2
+same-text-requires-2 c κs = search needs
 
 returns-2 : tie.Need-returns-2
-returns-2 c = place-second _ _ _ _ _ _ (c .before .before .before .equal .ensures) _ (c .before .before .if1 .left) (c .before .equal2 .ensures) (c .if2 .taken)
+returns-2 c = place-second _ _ _ _ _ _ (c .before .before .before .same-text .ensures) _ (c .before .before .if1 .left) (c .before .same-text2 .ensures) (c .if2 .taken)
 
-equal-requires-3 : tie.Need-equal-requires-3
-equal-requires-3 c κs = search needs
+same-text-requires-3 : tie.Need-same-text-requires-3
+same-text-requires-3 c κs = search needs
 
 returns-3 : tie.Need-returns-3
-returns-3 c = place-third _ _ _ _ _ _ (c .before .before .before .before .before .equal .ensures) _ (c .before .before .before .before .if1 .left) (c .before .before .before .equal2 .ensures) _ (c .before .before .if2 .left) (c .before .equal3 .ensures) (c .if3 .taken)
+returns-3 c = place-third _ _ _ _ _ _ (c .before .before .before .before .before .same-text .ensures) _ (c .before .before .before .before .if1 .left) (c .before .before .before .same-text2 .ensures) _ (c .before .before .if2 .left) (c .before .same-text3 .ensures) (c .if3 .taken)
 
 returns-4 : tie.Need-returns-4
 returns-4 c =
     let c2 = c .before .before in
     let c4 = c2 .before .before in
     let c6 = c4 .before .before in
-    place-none _ _ _ _ _ _ (c6 .equal .ensures) _ (c4 .before .if1 .left) (c4 .equal2 .ensures) _ (c2 .before .if2 .left) (c2 .equal3 .ensures) (c .before .if3 .left) (c .if4 .taken)
+    place-none _ _ _ _ _ _ (c6 .same-text .ensures) _ (c4 .before .if1 .left) (c4 .same-text2 .ensures) _ (c2 .before .if2 .left) (c2 .same-text3 .ensures) (c .before .if3 .left) (c .if4 .taken)
 
 add-result : tie.Need-add-result
 add-result c = search needs
@@ -37,17 +37,17 @@ returns-5 c =
     let c2 = c .before .before in
     let c4 = c2 .before .before in
     let c6 = c4 .before .before in
-    place-later _ _ _ _ _ _ (c6 .equal .ensures) _ (c4 .before .if1 .left) (c4 .equal2 .ensures) _ (c2 .before .if2 .left) (c2 .equal3 .ensures) (c .before .if3 .left) (c .if4 .left)
+    place-later _ _ _ _ _ _ (c6 .same-text .ensures) _ (c4 .before .if1 .left) (c4 .same-text2 .ensures) _ (c2 .before .if2 .left) (c2 .same-text3 .ensures) (c .before .if3 .left) (c .if4 .left)
 
 pub place-from-spec : {M : Type 1} → statement M
 place-from-spec =
     tie.close
     (tie.spec
-    equal-requires
+    same-text-requires
     returns
-    equal-requires-2
+    same-text-requires-2
     returns-2
-    equal-requires-3
+    same-text-requires-3
     returns-3
     returns-4
     add-result
