@@ -35,28 +35,37 @@ pub fn comma_key(key: &[u8]) -> bool
     either(anticodon, same_text(key, b"transl_except"))
 }
 
-fn late_bare_key(key: &[u8]) -> bool
-    ensures { λ r. ⌜ r ≡ among (now (key .entry)) (bytes "number" ∷ bytes "rpt_type" ∷ bytes "rpt_unit_range" ∷ bytes "tag_peptide" ∷ bytes "transl_except" ∷ bytes "transl_table" ∷ []) ⌝ }
+// Whether it is one of three words, or `later` says that it is one of those after them.
+fn among_three(key: &[u8], first: &[u8], second: &[u8], third: &[u8], later: bool) -> bool
+    ensures { λ r. ⌜ r ≡ (same (now (key .entry)) (now (first .entry)) || (same (now (key .entry)) (now (second .entry)) || (same (now (key .entry)) (now (third .entry)) || later))) ⌝ }
 {
-    let transl_table = same_text(key, b"transl_table");
-    let transl_except = either(same_text(key, b"transl_except"), transl_table);
-    let tag_peptide = either(same_text(key, b"tag_peptide"), transl_except);
-    let rpt_unit_range = either(same_text(key, b"rpt_unit_range"), tag_peptide);
-    let rpt_type = either(same_text(key, b"rpt_type"), rpt_unit_range);
-    either(same_text(key, b"number"), rpt_type)
+    let from_third = either(same_text(key, third), later);
+    let from_second = either(same_text(key, second), from_third);
+    either(same_text(key, first), from_second)
+}
+
+// One of the later keys whose value is written without quotes.
+fn late_bare_key(key: &[u8]) -> bool
+    ensures { λ r. ⌜ r ≡ among (now (key .entry)) (bytes "mod_base" ∷ bytes "number" ∷ bytes "rpt_type" ∷ bytes "rpt_unit_range" ∷ bytes "tag_peptide" ∷ bytes "transl_except" ∷ bytes "transl_table" ∷ []) ⌝ }
+{
+    let last = same_text(key, b"transl_table");
+    let late = among_three(
+        key,
+        b"rpt_unit_range",
+        b"tag_peptide",
+        b"transl_except",
+        last,
+    );
+    among_three(key, b"mod_base", b"number", b"rpt_type", late)
 }
 
 // Its value is written without quotes.
 pub fn bare_key(key: &[u8]) -> bool
     ensures { λ r. ⌜ r ≡ bareKey (now (key .entry)) ⌝ }
 {
-    let mod_base = either(same_text(key, b"mod_base"), late_bare_key(key));
-    let estimated_length = either(same_text(key, b"estimated_length"), mod_base);
-    let direction = either(same_text(key, b"direction"), estimated_length);
-    let compare = either(same_text(key, b"compare"), direction);
-    let codon_start = either(same_text(key, b"codon_start"), compare);
-    let citation = either(same_text(key, b"citation"), codon_start);
-    either(same_text(key, b"anticodon"), citation)
+    let late = late_bare_key(key);
+    let middle = among_three(key, b"compare", b"direction", b"estimated_length", late);
+    among_three(key, b"anticodon", b"citation", b"codon_start", middle)
 }
 
 pub fn translation_key(key: &[u8]) -> bool

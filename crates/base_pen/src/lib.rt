@@ -4,7 +4,7 @@ ghost use mathlib.Core.Path.{_≡_};
 ghost use mathlib.Core.List.{[], _∷_};
 ghost use Prim.Native.Nat.{_+_, _-_, _≤_};
 ghost use lib.ListN.{length, take, drop, replicate};
-ghost use Rattle.base_pen.specs.Pen.{Writes};
+ghost use Rattle.base_pen.specs.Pen.{Wrote, Writes};
 
 pub fn put_byte(out: &mut [u8], at: usize, b: u8) -> usize
     ensures { λ r. ⌜ Writes (now (out .entry)) at (b ∷ []) (now (out .exit)) r ⌝ }
@@ -68,6 +68,18 @@ pub fn put_part(out: &mut [u8], at: usize, s: &[u8], from: usize, to: usize) -> 
     ensures { λ r. ⌜ Writes (now (out .entry)) at (take (to - from) (drop from (now (s .entry)))) (now (out .exit)) r ⌝ }
 {
     put_bytes(out, at, &s[from..to])
+}
+
+// Ten bytes, which fit. An array by value cannot lie in the room, so they go there as wide moves.
+pub fn store_ten(out: &mut [u8], at: usize, ten: &[u8; 10])
+    requires { ⌜ (at + 10 ≤ length (now out)) × (length (now ten) ≡ 10) ⌝ }
+    ensures { λ r. ⌜ Wrote (now (out .entry)) at (now (ten .entry)) (now (out .exit)) (at + 10) ⌝ }
+{
+    let mut j = 0;
+    while j < 10 {
+        out[at + j] = ten[j];
+        j += 1;
+    }
 }
 
 // n spaces, which all fit.

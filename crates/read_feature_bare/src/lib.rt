@@ -19,7 +19,7 @@ ghost use Rattle.scan_utf8.specs.States.{start, Ran};
 ghost use Rattle.read_feature_bare.specs.Bared.{bareText, Furthered, Bared};
 
 // A further line's text, and the line after it; or that none stands here.
-pub enum Further {
+enum Further {
     Line {
         from: usize,
         end: usize,
@@ -31,7 +31,7 @@ pub enum Further {
 }
 
 // A bare text's length, the place after it, whether all its bytes are visible, and the state in which it leaves the test of UTF-8.
-pub enum Bare {
+enum Bare {
     Got {
         length: usize,
         next: usize,
@@ -132,7 +132,7 @@ fn line_state(seen: bool, s: &[u8], from: usize, to: usize) -> State
 }
 
 // The text that `bareText` says; locations and values test it further.
-pub fn bare_at(s: &[u8], at: usize, indent: usize) -> Bare
+fn bare_at(s: &[u8], at: usize, indent: usize) -> Bare
     requires { ⌜ at ≤ length (now s) ⌝ }
     ensures { λ r. ⌜ Bared (now (s .entry)) at 0 true start (bareText indent (drop at (now (s .entry)))) (bare indent (drop at (now (s .entry)))) r ⌝ }
 {

@@ -15,7 +15,8 @@ use Rattle.spec_format.specs.Readers.{Ans, Got, No, Cut, bind, mapped, orElse, 
 use Rattle.spec_format.specs.Utf8.{utf8}
 use Rattle.spec_format.specs.Features.{special, escape, escaped, quotedEnd, quotedTurn, quoted}
 use Rattle.spec_loops.specs.Loops.{end-more, end-stop, end-no, end-cut}
-use Rattle.spec_loops.specs.Shrinks.{past-here, past-byte, past-then, past-drop, Leaves, leaves-got, leaves-no, leaves-cut, leaves-first, leaves-mapped, leaves-pick, leaves-length, tag-leaves, tag-loose, end-takes, quotedTurn-small}
+use Rattle.spec_loops.specs.Shrinks.{past-here, past-byte, past-then, past-drop}
+use Rattle.spec_loops.specs.Shrinks.{Leaves, leaves-got, leaves-no, leaves-cut, leaves-first, leaves-mapped, leaves-pick, leaves-length, tag-leaves, tag-loose, end-takes, quotedTurn-small}
 use Rattle.read_feature_joined.specs.Taken.{taken, taken-more, taken-stop}
 use Rattle.read_feature_quoted.specs.Escapes.{closing, quotedText}
 use Rattle.spec_format.specs.Impossible.{impossible}

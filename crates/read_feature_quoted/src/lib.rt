@@ -19,7 +19,7 @@ ghost use Rattle.scan_utf8.specs.States.{ascii, Ran};
 ghost use Rattle.read_feature_quoted.specs.Escapes.{feed, splitQuote, laterEscape, QuoteStep, StepOne, Escaped, Known, Onward, Plain, PlainRun, Closed, Turned, feedText, Pieced, quotedText};
 
 // What an escape stands for, a quote or a LF, and the place after it.
-pub enum Escape {
+enum Escape {
     Quote(usize),
     Feed(usize),
     No,
@@ -27,7 +27,7 @@ pub enum Escape {
 }
 
 // An escape, or the place after the value's end.
-pub enum Turn {
+enum Turn {
     Quote(usize),
     Feed(usize),
     Stop(usize),
@@ -36,13 +36,13 @@ pub enum Turn {
 }
 
 // Where a run of ordinary bytes ends, and whether they are known to be ASCII.
-pub struct Run {
-    pub end: usize,
-    pub ascii: bool,
+struct Run {
+    end: usize,
+    ascii: bool,
 }
 
 // The text's bytes up to `to`, then a LF where `feed` says so, and where the value goes on; or the last of its bytes, and how it ends. `ascii` where those bytes are known to be.
-pub enum Piece {
+enum Piece {
     On {
         to: usize,
         feed: bool,
@@ -127,7 +127,7 @@ fn later_escape(s: &[u8], at: usize, indent: usize) -> Escape
     }
 }
 
-pub fn escape_at(s: &[u8], at: usize, indent: usize) -> Escape
+fn escape_at(s: &[u8], at: usize, indent: usize) -> Escape
     requires { ⌜ at ≤ length (now s) ⌝ }
     ensures { λ r. ⌜ Escaped (now (s .entry)) at (escape indent (drop at (now (s .entry)))) r ⌝ }
 {

@@ -56,6 +56,7 @@ pub fn put_value(
     ensures { λ r. ⌜ Writes (now (room .entry)) place (readText quoted joined indent (drop at (now (s .entry)))) (now (room .exit)) r ⌝ }
 {
     if quoted {
+        // The value has an opening quote, a closing one and a LF besides its text, and no byte more: so nothing in it was undone.
         if next - at - long == 3 {
             return base_pen::put_part(room, place, s, at + 1, at + 1 + long);
         }

@@ -18,9 +18,9 @@ ghost use Rattle.read_field_entry.specs.Texts.{further, grownBy, Pieced,
 ghost use Rattle.read_field_entry.specs.Entries.{gapped, worded, Finds, Enters};
 
 // What is known of a text so far.
-pub struct Judge {
-    pub utf8: State,
-    pub visible: bool,
+struct Judge {
+    utf8: State,
+    visible: bool,
 }
 
 // A further line: its text from `from` up to `end`.
@@ -35,7 +35,7 @@ pub enum Piece {
 }
 
 // A text of several lines, joined.
-pub enum Joined {
+enum Joined {
     Got {
         length: usize,
         next: usize,
@@ -53,7 +53,7 @@ pub struct Entry {
     pub next: usize,
 }
 
-pub enum Found {
+enum Found {
     Got(Entry, Judge),
     No,
     Cut,
@@ -269,7 +269,7 @@ pub fn field_at(s: &[u8], at: usize, indent: usize, word: &[u8], keep: bool) -> 
 }
 
 // An entry whose text is a location: visible bytes, one at least.
-pub fn location_at(s: &[u8], at: usize, indent: usize, word: &[u8], keep: bool) -> EntryAt
+pub fn entry_location_at(s: &[u8], at: usize, indent: usize, word: &[u8], keep: bool) -> EntryAt
     requires { ⌜ (at ≤ length (now s)) × (indent < 4096) × (length (now word) < 4096) ⌝ }
     ensures { λ r. ⌜ Enters (now (s .entry)) at keep (passing locationText (fieldBytes indent (now (word .entry)) keep (drop at (now (s .entry))))) r ⌝ }
 {

@@ -119,7 +119,7 @@ pub fn may_location_at(s: &[u8], at: usize, indent: usize, word: &[u8], keep: bo
     requires { ⌜ (at ≤ length (now s)) × (indent < 4096) × (length (now word) < 4096) ⌝ }
     ensures { λ r. ⌜ MayEnter (now (s .entry)) at keep (optional (drop at (now (s .entry))) (passing locationText (fieldBytes indent (now (word .entry)) keep (drop at (now (s .entry)))))) r ⌝ }
 {
-    match read_field_entry::location_at(s, at, indent, word, keep) {
+    match read_field_entry::entry_location_at(s, at, indent, word, keep) {
         EntryAt::Cut => MayEntryAt::Cut,
         EntryAt::No => MayEntryAt::Got {
             entry: MayEntry::Absent,

@@ -187,25 +187,14 @@ fn ten_of(s: &[u8], at: usize) -> [u8; 10]
     t
 }
 
-fn store_ten(t: &[u8; 10], room: &mut [u8], place: usize) -> usize
-    requires { ⌜ (length (now t) ≡ 10) × (place + 10 ≤ length (now room)) ⌝ }
-    ensures { λ r. ⌜ Writes (now (room .entry)) place (now (t .entry)) (now (room .exit)) r × (r ≡ place + 10) ⌝ }
-{
-    let mut j = 0;
-    while j < 10 {
-        room[place + j] = t[j];
-        j += 1;
-    }
-    place + 10
-}
-
 // Ten bytes, which fit.
 fn copy_ten(s: &[u8], at: usize, room: &mut [u8], place: usize) -> usize
     requires { ⌜ (at + 10 ≤ length (now s)) × (place + 10 ≤ length (now room)) ⌝ }
     ensures { λ r. ⌜ Writes (now (room .entry)) place (ten (now (s .entry)) at) (now (room .exit)) r × (r ≡ place + 10) ⌝ }
 {
     let t = ten_of(s, at);
-    store_ten(&t, room, place)
+    base_pen::store_ten(room, place, &t);
+    place + 10
 }
 
 // Thirty letters of three groups, which fit.

@@ -55,9 +55,11 @@ module _ (name count unit : List ℕ) (molecule : May (List ℕ)) (topology divi
   abbrev found : ℕ → Bool → Dated → Locus
   found = valued name molecule division
 
+  abbrev shapeOf : ℕ → Date → Locus
+  shapeOf n o = pick (same topology (bytes "circular")) (found n true (dated.On o)) (pick (same topology (bytes "linear")) (found n false (dated.On o)) unknown)
+
   in-stages : locusFrom name count unit molecule topology division date ≡
-      pick (all (but 58) name) (atBases (basesOf count) (λ k. pick (same unit (bytes "bp")) (atDate (dateToken date)
-      (λ o. pick (same topology (bytes "circular")) (found k true (dated.On o)) (pick (same topology (bytes "linear")) (found k false (dated.On o)) unknown))) unknown)) unknown
+      pick (all (but 58) name) (atBases (basesOf count) (λ k. pick (same unit (bytes "bp")) (atDate (dateToken date) (shapeOf k)) unknown)) unknown
   unfolding locusFrom
   in-stages =
       staged (all (but 58) name) (all digit count) (leb (length count) 10) (leb (number 0 count) 4294967295) (same unit (bytes "bp"))
@@ -83,16 +85,8 @@ module _ (name count unit : List ℕ) (molecule : May (List ℕ)) (topology divi
           pub no-date : t ≡ dated.Absent → unknown ≡ whole
           no-date g = sym (in-stages ∙ rw (← ea, not-false a h, ← ec, k, ← eu, not-false u f, ← et, g))
 
-          module _ (o : Date) (g : t ≡ dated.On o) (y : Bool) (ey : y ≡ same topology (bytes "circular")) where
-            pub is-circular : y ≡ true → found n true (dated.On o) ≡ whole
-            is-circular i = sym (in-stages ∙ rw (← ea, not-false a h, ← ec, k, ← eu, not-false u f, ← et, g, ← ey, i))
-
-            module _ (i : y ≡ false) (x : Bool) (ex : x ≡ same topology (bytes "linear")) where
-              pub is-linear : x ≡ true → found n false (dated.On o) ≡ whole
-              is-linear j = sym (in-stages ∙ rw (← ea, not-false a h, ← ec, k, ← eu, not-false u f, ← et, g, ← ey, i, ← ex, j))
-
-              pub is-neither : x ≡ false → unknown ≡ whole
-              is-neither j = sym (in-stages ∙ rw (← ea, not-false a h, ← ec, k, ← eu, not-false u f, ← et, g, ← ey, i, ← ex, j))
+          pub by-shape : (o : Date) → t ≡ dated.On o → (r : Locus) → r ≡ shapeOf n o → r ≡ whole
+          by-shape o g r e = e ∙ sym (in-stages ∙ rw (← ea, not-false a h, ← ec, k, ← eu, not-false u f, ← et, g))
 
 -- what the next token says of the tokens
 module _ (s : List ℕ) (at to : ℕ) (r : Token) (n : NextToken s at to r) where

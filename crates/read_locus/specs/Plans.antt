@@ -1,14 +1,16 @@
 -- What the plan of a LOCUS line stands for, and what its makers promise.
 use Prim.Native.Nat.{ℕ}
 use mathlib.Core.Path.{_≡_}
+use mathlib.Core.Bool.{Bool, true, false}
 use mathlib.Core.List.{List, _∷_}
 use lib.ListN.{length}
-use Rattle.spec_format.specs.Bytes.{May, absent, is}
+use Rattle.spec_format.specs.Bytes.{pick, May, absent, is, bytes, same}
 use Rattle.spec_format.specs.Table.{Locus}
 use Rattle.spec_format.specs.Locus.{unknown, locusFrom}
 use Rattle.spec_format.specs.declared.Span.{Span}
 use Rattle.spec_format.specs.declared.Text.{Text}
 use Rattle.spec_format.specs.declared.Text.the-variants as text
+use Rattle.spec_format.specs.declared.Date.{Date}
 use Rattle.spec_format.specs.declared.Dated.the-variants as dated
 use Rattle.read_locus_tokens.specs.Parts.{spanned, Ends}
 use Rattle.read_locus.specs.declared.LocusPlan.{LocusPlan}
@@ -56,3 +58,12 @@ FieldsEnd to name count unit molecule topology division date = ThreeEnd to name 
 abbrev pub fieldsLocus : List ℕ → Span → Span → Span → Text → Span → Span → Span → Locus
 fieldsLocus s name count unit molecule topology division date =
     locusFrom (spanned s name) (spanned s count) (spanned s unit) (textIn s molecule) (spanned s topology) (spanned s division) (spanned s date)
+
+-- the values of a line, by its topology
+abbrev pub shapedLocus : List ℕ → Span → ℕ → Text → Span → Span → Date → Locus
+shapedLocus s name n molecule topology division date =
+    pick (same (spanned s topology) (bytes "circular")) (found true) (pick (same (spanned s topology) (bytes "linear")) (found false) unknown)
+  where
+    found : Bool → Locus
+    found circular =
+        record { name = is (spanned s name); length = is n; molecule = textIn s molecule; circular = circular; division = spanned s division; date = dated.On date }

@@ -8,8 +8,8 @@ use spec_format::Text;
 ghost use Prim.Native.Nat.{_-_, _≤_};
 ghost use lib.ListN.{length, take, drop};
 ghost use Rattle.spec_format.specs.Locus.{tokens, locusOf, locusLine};
-ghost use Rattle.read_locus_tokens.specs.Parts.{cut};
-ghost use Rattle.read_locus.specs.Plans.{Planned, ThreeEnd, SixEnd, FieldsEnd, threeThen, sixThen, fieldsLocus};
+ghost use Rattle.read_locus_tokens.specs.Parts.{cut, Ends};
+ghost use Rattle.read_locus.specs.Plans.{Planned, TextEnds, ThreeEnd, SixEnd, FieldsEnd, threeThen, sixThen, shapedLocus, fieldsLocus};
 
 // The values of a LOCUS line; texts are spans of the slice that was read.
 pub enum LocusPlan {
@@ -22,6 +22,42 @@ pub enum LocusPlan {
         division: Span,
         date: Date,
     },
+}
+
+// The values of a line whose other tokens are as they must be, if its topology is.
+fn shaped(
+    s: &[u8],
+    name: Span,
+    bases: u32,
+    molecule: Text,
+    topology: Span,
+    division: Span,
+    date: Date,
+) -> LocusPlan
+    requires { ⌜ Ends (length (now s)) name × (TextEnds (length (now s)) molecule × (Ends (length (now s)) topology × Ends (length (now s)) division)) ⌝ }
+    ensures { λ r. ⌜ Planned (now (s .entry)) (shapedLocus (now (s .entry)) name bases molecule topology division date) r ⌝ }
+{
+    if read_locus_tokens::span_equal(s, topology, b"circular") {
+        return LocusPlan::Known {
+            name: name,
+            length: bases,
+            molecule: molecule,
+            circular: true,
+            division: division,
+            date: date,
+        };
+    }
+    if read_locus_tokens::span_equal(s, topology, b"linear") {
+        return LocusPlan::Known {
+            name: name,
+            length: bases,
+            molecule: molecule,
+            circular: false,
+            division: division,
+            date: date,
+        };
+    }
+    LocusPlan::Unknown
 }
 
 // The values of a line's tokens, if each is as it must be.
@@ -50,27 +86,7 @@ fn values(
     let Dated::On(on) = read_locus_tokens::span_date(s, date) else {
         return LocusPlan::Unknown;
     };
-    if read_locus_tokens::span_equal(s, topology, b"circular") {
-        return LocusPlan::Known {
-            name: name,
-            length: length,
-            molecule: molecule,
-            circular: true,
-            division: division,
-            date: on,
-        };
-    }
-    if read_locus_tokens::span_equal(s, topology, b"linear") {
-        return LocusPlan::Known {
-            name: name,
-            length: length,
-            molecule: molecule,
-            circular: false,
-            division: division,
-            date: on,
-        };
-    }
-    LocusPlan::Unknown
+    shaped(s, name, length, molecule, topology, division, on)
 }
 
 // From the sixth token on: the molecule type is missing where there are six.

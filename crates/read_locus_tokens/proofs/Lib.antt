@@ -3,3 +3,4 @@ pub mod Cuts
 pub mod Worded
 pub mod Digits
 pub mod Counted
+pub mod Placing

@@ -1,11 +1,11 @@
 -- Tokens of a LOCUS line in a slice, and what the functions over them promise.
-use Prim.Native.Nat.{ℕ, suc, _+_, _-_, _≤_, _<_, _^_}
+use Prim.Native.Nat.{ℕ, zero, suc, _+_, _-_, _≤_, _<_, _^_}
 use mathlib.Core.Path.{_≡_}
 use mathlib.Core.Bool.{Bool, true, false, _&&_, _||_}
 use mathlib.Core.List.{List, [], _∷_}
 use lib.ListN.{length, take, drop}
 use lib.Dec.{leb}
-use Rattle.spec_format.specs.Bytes.{pick, all, digit, blank, visible, number}
+use Rattle.spec_format.specs.Bytes.{pick, all, same, digit, blank, visible, number}
 use Rattle.spec_format.specs.Dates.{made, months}
 use Rattle.spec_format.specs.Locus.{tokens, placeIn}
 use Rattle.spec_format.specs.declared.Span.{Span}
@@ -73,6 +73,15 @@ pub record Valued (t : List ℕ) (r : Decimal) : Type 0 where
 -- a length of 1 to 10 digits up to 4,294,967,295
 abbrev pub basesOf : List ℕ → Length
 basesOf t = pick (all digit t && (leb (length t) 10 && leb (number 0 t) 4294967295)) (bases.Bases (number 0 t)) bases.Absent
+
+-- the place of a word that may stand before those among which its place is n
+abbrev pub placeAfter : Bool → ℕ → ℕ
+placeAfter here n = elim here [ true ↦ 1 | false ↦ elim n [ zero ↦ 0 | suc k ↦ suc (suc k) ] ]
+
+-- the same for three words a, b, c
+pub record Placed (t a b c : List ℕ) (n r : ℕ) : Type 0 where
+  pub is : r ≡ placeAfter (same t a) (placeAfter (same t b) (placeAfter (same t c) n))
+  pub within : r ≤ n + 3
 
 -- a date whose day and year are digits
 abbrev pub dateOfParts : List ℕ → List ℕ → List ℕ → Dated

@@ -9,7 +9,7 @@ ghost use lib.ListN.{length};
 ghost use Rattle.spec_format.specs.Bytes.{all, same, blank, notBlank, but};
 ghost use Rattle.spec_format.specs.Dates.{months};
 ghost use Rattle.spec_format.specs.Locus.{placeIn, dateToken};
-ghost use Rattle.read_locus_tokens.specs.Parts.{cut, spanned, Ends, Scanned, NextToken, plainByte, Valued, basesOf, dateOfParts};
+ghost use Rattle.read_locus_tokens.specs.Parts.{cut, spanned, Ends, Scanned, NextToken, plainByte, Valued, basesOf, Placed, dateOfParts};
 
 // What stands next between blanks, and where it ends.
 pub enum Token {
@@ -98,23 +98,6 @@ pub fn token_at(s: &[u8], at: usize, to: usize) -> Token
     }
 }
 
-// Whether two texts are equal.
-fn equal(t: &[u8], w: &[u8]) -> bool
-    ensures { λ r. ⌜ r ≡ same (now (t .entry)) (now (w .entry)) ⌝ }
-{
-    if t.len() != w.len() {
-        return false;
-    }
-    let mut i = 0;
-    while i < t.len() {
-        if t[i] != w[i] {
-            return false;
-        }
-        i += 1;
-    }
-    true
-}
-
 // The number that at most ten digits stand for.
 fn decimal_in(t: &[u8]) -> Decimal
     requires { ⌜ length (now t) ≤ 10 ⌝ }
@@ -130,7 +113,7 @@ fn decimal_in(t: &[u8]) -> Decimal
         if b'9' < b {
             return Decimal::Not;
         }
-        v = 10 * v + (b - 48) as u64;
+        v = 10 * v + (b - b'0') as u64;
         i += 1;
     }
     Decimal::Value(v)
@@ -152,47 +135,34 @@ fn bases_in(t: &[u8]) -> Length
     Length::Bases(n as u32)
 }
 
+// The place of a text among three words and those after them, where `later` is its place; 0 where it is none.
+fn place_from(t: &[u8], first: &[u8], second: &[u8], third: &[u8], later: u8) -> u8
+    requires { ⌜ later ≤ 9 ⌝ }
+    ensures { λ r. ⌜ Placed (now (t .entry)) (now (first .entry)) (now (second .entry)) (now (third .entry)) later r ⌝ }
+{
+    if base_keys::same_text(t, first) {
+        return 1;
+    }
+    if base_keys::same_text(t, second) {
+        return 2;
+    }
+    if base_keys::same_text(t, third) {
+        return 3;
+    }
+    if later == 0 {
+        return 0;
+    }
+    later + 3
+}
+
 // The number of a month, 0 where there is none of that name.
 fn month_in(t: &[u8]) -> u8
     ensures { λ r. ⌜ r ≡ placeIn (now (t .entry)) months ⌝ }
 {
-    if equal(t, b"JAN") {
-        return 1;
-    }
-    if equal(t, b"FEB") {
-        return 2;
-    }
-    if equal(t, b"MAR") {
-        return 3;
-    }
-    if equal(t, b"APR") {
-        return 4;
-    }
-    if equal(t, b"MAY") {
-        return 5;
-    }
-    if equal(t, b"JUN") {
-        return 6;
-    }
-    if equal(t, b"JUL") {
-        return 7;
-    }
-    if equal(t, b"AUG") {
-        return 8;
-    }
-    if equal(t, b"SEP") {
-        return 9;
-    }
-    if equal(t, b"OCT") {
-        return 10;
-    }
-    if equal(t, b"NOV") {
-        return 11;
-    }
-    if equal(t, b"DEC") {
-        return 12;
-    }
-    0
+    let october = place_from(t, b"OCT", b"NOV", b"DEC", 0);
+    let july = place_from(t, b"JUL", b"AUG", b"SEP", october);
+    let april = place_from(t, b"APR", b"MAY", b"JUN", july);
+    place_from(t, b"JAN", b"FEB", b"MAR", april)
 }
 
 // The date of a day, a month and a year.
@@ -269,7 +239,7 @@ pub fn span_equal(s: &[u8], x: Span, w: &[u8]) -> bool
 {
     let start = x.start;
     let end = start + x.length;
-    equal(&s[start..end], w)
+    base_keys::same_text(&s[start..end], w)
 }
 
 pub fn span_bases(s: &[u8], x: Span) -> Length

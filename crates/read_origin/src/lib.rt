@@ -52,7 +52,7 @@ fn origin_word(s: &[u8], at: usize) -> Step
 }
 
 // The word alone, or else with a text, which is dropped.
-pub fn origin_at(s: &[u8], at: usize) -> Step
+fn origin_at(s: &[u8], at: usize) -> Step
     requires { ⌜ at ≤ length (now s) ⌝ }
     ensures { λ r. ⌜ Passed (now (s .entry)) at (originTag (drop at (now (s .entry)))) r ⌝ }
 {
@@ -106,7 +106,7 @@ fn slashes_after(s: &[u8], at: usize, first: usize, letters: usize) -> EndAt
 }
 
 // The letters at `at`, which must be as many as LOCUS says. The input may end with them only if LOCUS says how many there are.
-pub fn sequence_at(s: &[u8], at: usize, given: Length) -> EndAt
+fn sequence_at(s: &[u8], at: usize, given: Length) -> EndAt
     requires { ⌜ at ≤ length (now s) ⌝ }
     ensures { λ r. ⌜ Ends (now (s .entry)) given (sequenceThen (drop at (now (s .entry)))) r ⌝ }
 {

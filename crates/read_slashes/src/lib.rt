@@ -17,7 +17,7 @@ pub enum RecordEnd {
 }
 
 // The place after all empty lines that stand there.
-pub fn empty_lines(s: &[u8], at: usize) -> usize
+fn empty_lines(s: &[u8], at: usize) -> usize
     requires { ⌜ at ≤ length (now s) ⌝ }
     ensures { λ r. ⌜ EmptyPassed (now (s .entry)) at r ⌝ }
 {

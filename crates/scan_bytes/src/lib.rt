@@ -36,22 +36,22 @@ pub fn is_between(low: u8, high: u8, b: u8) -> bool
 pub fn is_visible(b: u8) -> bool
     ensures { λ r. ⌜ r ≡ visible b ⌝ }
 {
-    is_between(33, 126, b)
+    is_between(b'!', b'~', b)
 }
 
 pub fn is_digit(b: u8) -> bool
     ensures { λ r. ⌜ r ≡ digit b ⌝ }
 {
-    is_between(48, 57, b)
+    is_between(b'0', b'9', b)
 }
 
 pub fn is_letter(b: u8) -> bool
     ensures { λ r. ⌜ r ≡ letter b ⌝ }
 {
-    if is_between(65, 90, b) {
+    if is_between(b'A', b'Z', b) {
         return true;
     }
-    is_between(97, 122, b)
+    is_between(b'a', b'z', b)
 }
 
 pub fn is_blank(b: u8) -> bool

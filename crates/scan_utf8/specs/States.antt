@@ -27,16 +27,17 @@ charsFrom u t = chars (u .more) (u .low) (u .high) t
 abbrev pub ascii : ℕ → Bool
 ascii b = ltb b 128
 
+-- the first byte of a character of four bytes
+abbrev pub leadOfFour : ℕ → State
+leadOfFour b = pick (eqb b 240) (state 3 144 191) (pick (between 241 243 b) (state 3 128 191) (pick (eqb b 244) (state 3 128 143) failed))
+
 unfoldable pub leadOf : ℕ → State
 leadOf b =
     pick (ltb b 128) start
     (pick (between 194 223 b) (state 1 128 191)
     (pick (eqb b 224) (state 2 160 191)
     (pick (eqb b 237) (state 2 128 159)
-    (pick (between 225 239 b) (state 2 128 191)
-    (pick (eqb b 240) (state 3 144 191)
-    (pick (between 241 243 b) (state 3 128 191)
-    (pick (eqb b 244) (state 3 128 143) failed)))))))
+    (pick (between 225 239 b) (state 2 128 191) (leadOfFour b)))))
 
 unfoldable pub stepOf : State → ℕ → State
 stepOf u b = pick (eqb (u .more) 0) (leadOf b) (pick (between (u .low) (u .high) b) (state (u .more - 1) 128 191) failed)

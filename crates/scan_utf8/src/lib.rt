@@ -9,7 +9,7 @@ ghost use lib.Dec.{eqb};
 ghost use Rattle.spec_format.specs.Bytes.{all};
 ghost use Rattle.spec_format.specs.Utf8.{utf8};
 ghost use Rattle.scan_bytes.specs.Places.{part};
-ghost use Rattle.scan_utf8.specs.States.{start, failed, leadOf, stepOf, ascii, Ran};
+ghost use Rattle.scan_utf8.specs.States.{start, failed, leadOfFour, leadOf, stepOf, ascii, Ran};
 
 // What a text may go on with: `more` bytes of a character, the next of them `low` to `high`. No byte leads out of a state whose range is empty.
 pub struct State {
@@ -35,6 +35,25 @@ pub fn started() -> State
     }
 }
 
+// The numbers of `lead_of_four` and `lead` are those of UTF-8: 128 to 191 go on, 194 to 223 begin two bytes, 224 to 239 three, 240 to 244 four. After 224 and
+// 240 nothing that is too long for its character may stand, after 237 no surrogate, after 244 nothing above the last character.
+
+// The first byte of a character of four bytes.
+fn lead_of_four(b: u8) -> State
+    ensures { λ r. ⌜ r ≡ leadOfFour b ⌝ }
+{
+    if b == 240 {
+        return state_of(3, 144, 191);
+    }
+    if scan_bytes::is_between(241, 243, b) {
+        return state_of(3, 128, 191);
+    }
+    if b == 244 {
+        return state_of(3, 128, 143);
+    }
+    state_of(1, 1, 0)
+}
+
 // A character's first byte.
 fn lead(b: u8) -> State
     ensures { λ r. ⌜ r ≡ leadOf b ⌝ }
@@ -54,16 +73,7 @@ fn lead(b: u8) -> State
     if scan_bytes::is_between(225, 239, b) {
         return state_of(2, 128, 191);
     }
-    if b == 240 {
-        return state_of(3, 144, 191);
-    }
-    if scan_bytes::is_between(241, 243, b) {
-        return state_of(3, 128, 191);
-    }
-    if b == 244 {
-        return state_of(3, 128, 143);
-    }
-    state_of(1, 1, 0)
+    lead_of_four(b)
 }
 
 fn step(u: State, b: u8) -> State
@@ -128,7 +138,7 @@ pub fn utf8_on(u: State, s: &[u8], from: usize, to: usize) -> State
 pub fn utf8_feed(u: State) -> State
     ensures { λ r. ⌜ Ran u (10 ∷ []) r ⌝ }
 {
-    step(u, 10)
+    step(u, b'\n')
 }
 
 // Whether a text may end here.

@@ -1,5 +1,5 @@
--- One of six words, joined from the last to the first.
-use Rattle.base_keys.proofs.Laws.{either-is, last-is}
+-- One of seven words, from the last to the first.
+use Rattle.base_keys.proofs.Laws.{last-is}
 use borrow.Author.Needs.{needs}
 use Rattle.base_keys.proofs.late_bare_key.Statement.{statement}
 use Rattle.base_keys.proofs.late_bare_key.Tie as tie
@@ -10,53 +10,32 @@ slice-aggregate-same-text c = search needs
 same-text-requires : tie.Need-same-text-requires
 same-text-requires c κs = search needs
 
-slice-aggregate-same-text-2 : tie.Need-slice-aggregate-same-text-2
-slice-aggregate-same-text-2 c = search needs
+slice-aggregate-among-three : tie.Need-slice-aggregate-among-three
+slice-aggregate-among-three c = search needs
 
-same-text-requires-2 : tie.Need-same-text-requires-2
-same-text-requires-2 c κs = search needs
+slice-aggregate-among-three-2 : tie.Need-slice-aggregate-among-three-2
+slice-aggregate-among-three-2 c = search needs
 
-either-requires : tie.Need-either-requires
-either-requires c κs = search needs
+slice-aggregate-among-three-3 : tie.Need-slice-aggregate-among-three-3
+slice-aggregate-among-three-3 c = search needs
 
-slice-aggregate-same-text-3 : tie.Need-slice-aggregate-same-text-3
-slice-aggregate-same-text-3 c = search needs
+among-three-requires : tie.Need-among-three-requires
+among-three-requires c κs = search needs
 
-same-text-requires-3 : tie.Need-same-text-requires-3
-same-text-requires-3 c κs = search needs
+slice-aggregate-among-three-4 : tie.Need-slice-aggregate-among-three-4
+slice-aggregate-among-three-4 c = search needs
 
-either-requires-2 : tie.Need-either-requires-2
-either-requires-2 c κs = search needs
+slice-aggregate-among-three-5 : tie.Need-slice-aggregate-among-three-5
+slice-aggregate-among-three-5 c = search needs
 
-slice-aggregate-same-text-4 : tie.Need-slice-aggregate-same-text-4
-slice-aggregate-same-text-4 c = search needs
+slice-aggregate-among-three-6 : tie.Need-slice-aggregate-among-three-6
+slice-aggregate-among-three-6 c = search needs
 
-same-text-requires-4 : tie.Need-same-text-requires-4
-same-text-requires-4 c κs = search needs
-
-either-requires-3 : tie.Need-either-requires-3
-either-requires-3 c κs = search needs
-
-slice-aggregate-same-text-5 : tie.Need-slice-aggregate-same-text-5
-slice-aggregate-same-text-5 c = search needs
-
-same-text-requires-5 : tie.Need-same-text-requires-5
-same-text-requires-5 c κs = search needs
-
-either-requires-4 : tie.Need-either-requires-4
-either-requires-4 c κs = search needs
-
-slice-aggregate-same-text-6 : tie.Need-slice-aggregate-same-text-6
-slice-aggregate-same-text-6 c = search needs
-
-same-text-requires-6 : tie.Need-same-text-requires-6
-same-text-requires-6 c κs = search needs
-
-either-requires-5 : tie.Need-either-requires-5
-either-requires-5 c κs = search needs
+among-three-requires-2 : tie.Need-among-three-requires-2
+among-three-requires-2 c κs = search needs
 
 returns : tie.Need-returns
-returns c = either-is _ _ _ _ _ (c .either5 .ensures) (c .before .same-text6 .ensures) (either-is _ _ _ _ _ (c .before .before .before .either4 .ensures) (c .before .before .before .before .same-text5 .ensures) (either-is _ _ _ _ _ (c .before .before .before .before .before .before .either3 .ensures) (c .before .before .before .before .before .before .before .same-text4 .ensures) (either-is _ _ _ _ _ (c .before .before .before .before .before .before .before .before .before .either2 .ensures) (c .before .before .before .before .before .before .before .before .before .before .same-text3 .ensures) (either-is _ _ _ _ _ (c .before .before .before .before .before .before .before .before .before .before .before .before .either .ensures) (c .before .before .before .before .before .before .before .before .before .before .before .before .before .same-text2 .ensures) (last-is _ _ (c .before .before .before .before .before .before .before .before .before .before .before .before .before .before .before .same-text .ensures))))))
+returns c = rw (c .among-three2 .ensures, c .before .before .before .before .among-three .ensures, last-is _ _ (c .before .before .before .before .before .before .before .before .same-text .ensures))
 
 pub late-bare-key-spec : {M : Type 1} → statement M
 late-bare-key-spec =
@@ -64,19 +43,12 @@ late-bare-key-spec =
     (tie.spec
     slice-aggregate-same-text
     same-text-requires
-    slice-aggregate-same-text-2
-    same-text-requires-2
-    either-requires
-    slice-aggregate-same-text-3
-    same-text-requires-3
-    either-requires-2
-    slice-aggregate-same-text-4
-    same-text-requires-4
-    either-requires-3
-    slice-aggregate-same-text-5
-    same-text-requires-5
-    either-requires-4
-    slice-aggregate-same-text-6
-    same-text-requires-6
-    either-requires-5
+    slice-aggregate-among-three
+    slice-aggregate-among-three-2
+    slice-aggregate-among-three-3
+    among-three-requires
+    slice-aggregate-among-three-4
+    slice-aggregate-among-three-5
+    slice-aggregate-among-three-6
+    among-three-requires-2
     returns)

@@ -1,4 +1,4 @@
--- `bares::bare_value_at` meets its contract. Assumes nothing.
+-- `read_feature_bare::bare_value_at` meets its contract. Assumes nothing.
 use borrow.Author.Needs.{needs}
 use Rattle.read_feature_bare.proofs.Bares.{texts}
 use Rattle.read_feature_bare.proofs.bare_value_at.Statement.{statement}

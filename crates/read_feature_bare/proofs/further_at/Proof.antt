@@ -1,4 +1,4 @@
--- `bares::further_at` meets its contract. Assumes nothing.
+-- `read_feature_bare::further_at` meets its contract. Assumes nothing.
 use borrow.Author.Needs.{needs}
 use Rattle.scan_bytes.specs.Sequence.{sequence}
 use Rattle.read_feature_bare.proofs.Lines.{turns}

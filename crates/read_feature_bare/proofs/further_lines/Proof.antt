@@ -1,4 +1,4 @@
--- `bares::further_lines` meets its contract. Assumes nothing.
+-- `read_feature_bare::further_lines` meets its contract. Assumes nothing.
 use Prim.Native.Nat.{_-_}
 use lib.ListN.{length}
 use native.Mathlib.Omega.{arith}

@@ -1,4 +1,4 @@
--- `bares::further_start` meets its contract. Assumes nothing.
+-- `read_feature_bare::further_start` meets its contract. Assumes nothing.
 use native.Mathlib.Omega.{arith}
 use Rattle.scan_bytes.specs.Sequence.{sequence}
 use Rattle.read_feature_bare.proofs.Lines.{slashes, slash-stops}

@@ -1,4 +1,4 @@
--- `bares::line_state` meets its contract. Assumes nothing.
+-- `read_feature_bare::line_state` meets its contract. Assumes nothing.
 use Rattle.read_feature_bare.proofs.Bares.{visible-ran, started-ran}
 use borrow.Author.Needs.{needs}
 use Rattle.read_feature_bare.proofs.line_state.Statement.{statement}

@@ -1,4 +1,4 @@
--- `bares::location_at` meets its contract. Assumes nothing.
+-- `read_feature_bare::location_at` meets its contract. Assumes nothing.
 use borrow.Author.Needs.{needs}
 use Rattle.read_feature_bare.proofs.Bares.{locations}
 use Rattle.read_feature_bare.proofs.location_at.Statement.{statement}

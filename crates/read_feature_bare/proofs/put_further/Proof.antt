@@ -1,4 +1,4 @@
--- `bares::put_further` meets its contract. Assumes nothing.
+-- `read_feature_bare::put_further` meets its contract. Assumes nothing.
 use Prim.Native.Nat.{_-_}
 use lib.ListN.{length}
 use borrow.Author.Needs.{needs}

@@ -1,4 +1,4 @@
--- `heads::all_visible` meets its contract. The invariant: the answer of the whole is the answer from here. Assumes nothing.
+-- `read_feature_names::all_visible` meets its contract. The invariant: the answer of the whole is the answer from here. Assumes nothing.
 use Rattle.scan_bytes.specs.Places.{part}
 use Rattle.spec_format.specs.Bytes.{all, visible}
 use Rattle.read_feature_names.proofs.Heading.{passing-all}

@@ -1,4 +1,4 @@
--- `heads::features_header` meets its contract. Assumes nothing.
+-- `read_feature_names::features_header` meets its contract. Assumes nothing.
 use Rattle.spec_format.specs.Features.{featuresHeader}
 use Rattle.scan_bytes.specs.Sequence.{step-no, step-cut, step-is, step-places}
 use Prim.Native.Nat.{_-_}

@@ -1,4 +1,4 @@
--- `heads::header_gap` meets its contract. Assumes nothing.
+-- `read_feature_names::header_gap` meets its contract. Assumes nothing.
 use native.Mathlib.Nat.{le-trans}
 use Rattle.scan_bytes.specs.Sequence.{text-no, text-cut, text-is, text-places}
 use Prim.Native.Nat.{_-_}

@@ -1,4 +1,4 @@
--- `heads::header_words` meets its contract. Assumes nothing.
+-- `read_feature_names::header_words` meets its contract. Assumes nothing.
 use native.Mathlib.Nat.{le-trans}
 use Rattle.scan_bytes.specs.Sequence.{step-no, step-cut, step-is, step-places}
 use Rattle.read_feature_names.proofs.Heading.{emptied-from}
@@ -32,7 +32,11 @@ returns-2 : tie.Need-returns-2
 returns-2 c = record { is = step-cut _ _ _ _ _ (c .before .before .tag .ensures) (c .enum-told2 .given .1); place = tt }
 
 returns-3 : tie.Need-returns-3
-returns-3 c = let w = step-places (c .before .before .before .before .tag .ensures) (c .before .before .end .given .1) in rw (step-is (c .before .before .before .before .tag .ensures) (c .before .before .end .given .1)) (emptied-from _ _ _ _ _ (le-trans (c .before .before .before .before .before .before .before .pre .0) (w .0)) (c .line-end .ensures))
+returns-3 c =
+    let c2 = c .before .before in
+    let c4 = c2 .before .before in
+    let c7 = c4 .before .before .before in
+    let w = step-places (c4 .tag .ensures) (c2 .end .given .1) in rw (step-is (c4 .tag .ensures) (c2 .end .given .1)) (emptied-from _ _ _ _ _ (le-trans (c7 .pre .0) (w .0)) (c .line-end .ensures))
 
 pub header-words-spec : {M : Type 1} → statement M
 header-words-spec =

@@ -1,4 +1,4 @@
--- `heads::key_at` meets its contract. Assumes nothing.
+-- `read_feature_names::key_at` meets its contract. Assumes nothing.
 use Rattle.scan_bytes.specs.Sequence.{step-no, step-cut, step-is, step-places}
 use Prim.Native.Nat.{_-_}
 use borrow.Author.Needs.{needs}

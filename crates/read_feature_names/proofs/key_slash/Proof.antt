@@ -1,4 +1,4 @@
--- `heads::key_slash` meets its contract. Assumes nothing.
+-- `read_feature_names::key_slash` meets its contract. Assumes nothing.
 use Rattle.read_feature_names.proofs.Heading.{slash-cut, slash-no, slash-got}
 use Prim.Native.Nat.{_-_}
 use borrow.Author.Needs.{needs}

@@ -1,4 +1,4 @@
--- `heads::key_text` meets its contract. Assumes nothing.
+-- `read_feature_names::key_text` meets its contract. Assumes nothing.
 use Rattle.spec_format.specs.Features.{keyEnd}
 use Rattle.spec_format.specs.Utf8.{utf8}
 use Rattle.spec_format.specs.Readers.{until}
@@ -28,7 +28,11 @@ utf8-ok-requires : tie.Need-utf8-ok-requires
 utf8-ok-requires c κs = text-places (c .before .before .before .until-key-end .ensures) (c .before .end .given .1)
 
 returns : tie.Need-returns
-returns c = record { is = sym (pass-got utf8 (c .before .before .before .before .before .until-key-end .ensures) (c .before .before .before .end .given .1) (c .before .utf8-ok .ensures) (c .if1 .taken)); place = (c .before .before .before .before .before .before .before .pre .0, text-some (until keyEnd (drop (c .before .before .before .before .before .before .before .args .from) (now (c .before .before .before .before .before .before .before .args .s)))) (c .before .before .before .before .before .until-key-end .ensures) (c .before .before .before .end .given .1), text-places (c .before .before .before .before .before .until-key-end .ensures) (c .before .before .before .end .given .1) .1) }
+returns c =
+    let c3 = c .before .before .before in
+    let c5 = c3 .before .before in
+    let c7 = c5 .before .before in
+    record { is = sym (pass-got utf8 (c5 .until-key-end .ensures) (c3 .end .given .1) (c .before .utf8-ok .ensures) (c .if1 .taken)); place = (c7 .pre .0, text-some (until keyEnd (drop (c7 .args .from) (now (c7 .args .s)))) (c5 .until-key-end .ensures) (c3 .end .given .1), text-places (c5 .until-key-end .ensures) (c3 .end .given .1) .1) }
 
 returns-2 : tie.Need-returns-2
 returns-2 c = record { is = sym (pass-no utf8 (c .before .before .until-key-end .ensures) (c .enum-told .given .1)); place = tt }

@@ -1,4 +1,4 @@
--- `heads::kind_at` meets its contract. Assumes nothing.
+-- `read_feature_names::kind_at` meets its contract. Assumes nothing.
 use Rattle.scan_bytes.specs.Parts.{length-part}
 use Rattle.spec_format.specs.Features.{feature}
 use Rattle.spec_format.specs.Bytes.{but}
@@ -24,7 +24,10 @@ enum-known-first : tie.Need-enum-known-first
 enum-known-first c = search needs
 
 kind-from-requires : tie.Need-kind-from-requires
-kind-from-requires c κs = (text-some (until (but 32) (drop (c .before .before .before .before .before .args .at) (now (c .before .before .before .before .before .args .s)))) (c .before .before .before .spaces1 .ensures) (c .before .first .given .1), text-places (c .before .before .before .spaces1 .ensures) (c .before .first .given .1) .1)
+kind-from-requires c κs =
+    let c3 = c .before .before .before in
+    let c5 = c3 .before .before in
+    (text-some (until (but 32) (drop (c5 .args .at) (now (c5 .args .s)))) (c3 .spaces1 .ensures) (c .before .first .given .1), text-places (c3 .spaces1 .ensures) (c .before .first .given .1) .1)
 
 returns : tie.Need-returns
 unfolding feature

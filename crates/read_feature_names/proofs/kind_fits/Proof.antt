@@ -1,4 +1,4 @@
--- `heads::kind_fits` meets its contract. Assumes nothing.
+-- `read_feature_names::kind_fits` meets its contract. Assumes nothing.
 use Rattle.read_feature_names.proofs.Heading.{kind-slash, kind-plain}
 use Prim.Native.Nat.{_-_}
 use borrow.Author.Needs.{needs}

@@ -1,4 +1,4 @@
--- `heads::kind_from` meets its contract. Assumes nothing.
+-- `read_feature_names::kind_from` meets its contract. Assumes nothing.
 use borrow.Author.Tests.{not-true, not-false}
 use Rattle.spec_format.specs.Features.{kindText}
 use Rattle.spec_format.specs.Bytes.{space}
@@ -25,13 +25,20 @@ enum-known-end : tie.Need-enum-known-end
 enum-known-end c = search needs
 
 kind-fits-requires : tie.Need-kind-fits-requires
-kind-fits-requires c κs = (text-some (until space (drop (c .before .before .before .before .before .args .first) (now (c .before .before .before .before .before .args .s)))) (c .before .before .before .until-space .ensures) (c .before .end .given .1), text-places (c .before .before .before .until-space .ensures) (c .before .end .given .1) .1)
+kind-fits-requires c κs =
+    let c3 = c .before .before .before in
+    let c5 = c3 .before .before in
+    (text-some (until space (drop (c5 .args .first) (now (c5 .args .s)))) (c3 .until-space .ensures) (c .before .end .given .1), text-places (c3 .until-space .ensures) (c .before .end .given .1) .1)
 
 returns : tie.Need-returns
 returns c = record { is = rw (pass-bad kindText (c .before .before .before .before .before .until-space .ensures) (c .before .before .before .end .given .1) (c .before .kind-fits .ensures) (not-true _ (c .if1 .taken))); place = tt }
 
 kind-gap-requires : tie.Need-kind-gap-requires
-kind-gap-requires c κs = (c .before .before .before .before .before .before .before .pre .0, text-some (until space (drop (c .before .before .before .before .before .before .before .args .first) (now (c .before .before .before .before .before .before .before .args .s)))) (c .before .before .before .before .before .until-space .ensures) (c .before .before .before .end .given .1), text-places (c .before .before .before .before .before .until-space .ensures) (c .before .before .before .end .given .1) .1)
+kind-gap-requires c κs =
+    let c3 = c .before .before .before in
+    let c5 = c3 .before .before in
+    let c7 = c5 .before .before in
+    (c7 .pre .0, text-some (until space (drop (c7 .args .first) (now (c7 .args .s)))) (c5 .until-space .ensures) (c3 .end .given .1), text-places (c5 .until-space .ensures) (c3 .end .given .1) .1)
 
 returns-2 : tie.Need-returns-2
 returns-2 c = record { is = rw (pass-no kindText (c .before .before .until-space .ensures) (c .enum-told .given .1)); place = tt }

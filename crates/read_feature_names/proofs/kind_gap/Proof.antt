@@ -1,4 +1,4 @@
--- `heads::kind_gap` meets its contract. Assumes nothing.
+-- `read_feature_names::kind_gap` meets its contract. Assumes nothing.
 use Rattle.spec_format.specs.Bytes.{but}
 use Rattle.spec_format.specs.Readers.{until}
 use Rattle.read_feature_names.proofs.Heading.{gap-indent}
@@ -29,7 +29,12 @@ returns-2 : tie.Need-returns-2
 returns-2 c = record { is = text-cut _ _ _ _ _ (c .before .before .spaces1 .ensures) (c .enum-told2 .given .1); place = tt }
 
 returns-3 : tie.Need-returns-3
-returns-3 c = let l = text-some (until (but 32) (drop (c .before .before .before .before .before .args .end) (now (c .before .before .before .before .before .args .s)))) (c .before .before .before .spaces1 .ensures) (c .before .next .given .1) in let w = text-places (c .before .before .before .spaces1 .ensures) (c .before .next .given .1) in record { is = text-got _ _ _ _ _ _ _ (c .before .before .before .spaces1 .ensures) (c .before .next .given .1) (gap-indent _ _ _ _ _ (c .before .before .before .before .before .pre .0) (c .before .before .before .before .before .pre .1) (w .0) (w .1)); place = (c .before .before .before .before .before .pre .0, c .before .before .before .before .before .pre .1, l, w .1) }
+returns-3 c =
+    let c3 = c .before .before .before in
+    let c5 = c3 .before .before in
+    let l = text-some (until (but 32) (drop (c5 .args .end) (now (c5 .args .s)))) (c3 .spaces1 .ensures) (c .before .next .given .1) in
+    let w = text-places (c3 .spaces1 .ensures) (c .before .next .given .1) in
+    record { is = text-got _ _ _ _ _ _ _ (c3 .spaces1 .ensures) (c .before .next .given .1) (gap-indent _ _ _ _ _ (c5 .pre .0) (c5 .pre .1) (w .0) (w .1)); place = (c5 .pre .0, c5 .pre .1, l, w .1) }
 
 pub kind-gap-spec : {M : Type 1} → statement M
 kind-gap-spec =

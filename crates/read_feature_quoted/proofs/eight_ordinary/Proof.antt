@@ -1,4 +1,4 @@
--- `quotes::eight_ordinary` meets its contract. Assumes nothing.
+-- `read_feature_quoted::eight_ordinary` meets its contract. Assumes nothing.
 use Prim.Native.Nat.{_-_, _≤_}
 use mathlib.Core.Path.{_≡_}
 use native.Mathlib.Omega.{arith}
@@ -42,7 +42,11 @@ loop-less : tie.Need-loop-less Inv-loop μ-loop
 loop-less c = search needs
 
 loop-again : tie.Need-loop-again Inv-loop μ-loop
-loop-again c = (omega arith, onward-one (c .before .before .before .before .before .before .before .before .args .s .now) (c .before .before .before .before .before .before .before .before .args .at) (c .before .before .before .before .before .before .loop .j) (omega arith) _ _ _ _ _ (c .before .before .before .before .before .before .loop .inv .1) (c .before .before .before .is-ordinary .ensures) (c .before .before .is-ascii .ensures) (c .before .both .ensures) (c .both2 .ensures))
+loop-again c =
+    let c2 = c .before .before in
+    let c6 = c2 .before .before .before .before in
+    let c8 = c6 .before .before in
+    (omega arith, onward-one (c8 .args .s .now) (c8 .args .at) (c6 .loop .j) (omega arith) _ _ _ _ _ (c6 .loop .inv .1) (c2 .before .is-ordinary .ensures) (c2 .is-ascii .ensures) (c .before .both .ensures) (c .both2 .ensures))
 
 returns : tie.Need-returns Inv-loop μ-loop
 returns c = let e : c .before .loop .j ≡ 8 = omega arith in rw e at (c .before .loop .inv .1)

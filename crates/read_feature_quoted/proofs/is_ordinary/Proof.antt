@@ -1,4 +1,4 @@
--- `quotes::is_ordinary` meets its contract. Assumes nothing.
+-- `read_feature_quoted::is_ordinary` meets its contract. Assumes nothing.
 use borrow.Author.Needs.{needs}
 use Rattle.read_feature_quoted.proofs.Plains.{tests}
 use Rattle.read_feature_quoted.proofs.is_ordinary.Statement.{statement}

@@ -1,4 +1,4 @@
--- `quotes::plain_end` meets its contract. Assumes nothing.
+-- `read_feature_quoted::plain_end` meets its contract. Assumes nothing.
 use Prim.Native.Nat.{_-_}
 use lib.ListN.{length}
 use borrow.Author.Needs.{needs}

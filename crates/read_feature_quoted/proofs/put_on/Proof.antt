@@ -1,4 +1,4 @@
--- `quotes::put_on` meets its contract. Assumes nothing.
+-- `read_feature_quoted::put_on` meets its contract. Assumes nothing.
 use Prim.Native.Nat.{_-_}
 use lib.ListN.{length}
 use borrow.Author.Needs.{needs}

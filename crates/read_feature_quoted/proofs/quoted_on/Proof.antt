@@ -1,4 +1,4 @@
--- `quotes::quoted_on` meets its contract. Assumes nothing.
+-- `read_feature_quoted::quoted_on` meets its contract. Assumes nothing.
 use Prim.Native.Nat.{_-_}
 use lib.ListN.{length}
 use native.Mathlib.Omega.{arith}

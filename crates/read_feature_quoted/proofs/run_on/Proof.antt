@@ -1,4 +1,4 @@
--- `quotes::run_on` meets its contract. Assumes nothing.
+-- `read_feature_quoted::run_on` meets its contract. Assumes nothing.
 use borrow.Author.Needs.{needs}
 use Rattle.read_feature_quoted.proofs.Values.{known-ran}
 use Rattle.read_feature_quoted.proofs.run_on.Statement.{statement}

@@ -1,4 +1,4 @@
--- `quotes::special_at` meets its contract. Assumes nothing.
+-- `read_feature_quoted::special_at` meets its contract. Assumes nothing.
 use Prim.Native.Nat.{_-_}
 use lib.ListN.{length}
 use borrow.Author.Needs.{needs}

@@ -1,4 +1,4 @@
--- `values::put_value` meets its contract. Assumes nothing.
+-- `read_feature_value::put_value` meets its contract. Assumes nothing.
 use borrow.Author.Needs.{needs}
 use Rattle.read_feature_value.proofs.Readings.{puts}
 use Rattle.read_feature_value.proofs.put_value.Statement.{statement}

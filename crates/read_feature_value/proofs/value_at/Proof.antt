@@ -1,4 +1,4 @@
--- `values::value_at` meets its contract. Assumes nothing.
+-- `read_feature_value::value_at` meets its contract. Assumes nothing.
 use borrow.Author.Needs.{needs}
 use Rattle.read_feature_value.proofs.Readings.{readings, puts}
 use Rattle.read_feature_value.proofs.value_at.Statement.{statement}

@@ -1,4 +1,4 @@
--- `field::field_at` meets its contract. Assumes nothing.
+-- `read_field_entry::field_at` meets its contract. Assumes nothing.
 use borrow.Author.Needs.{needs}
 use Rattle.spec_format.specs.Header as header
 use Rattle.read_field_entry.proofs.Finding.{enter-no, enter-cut, enter-utf8, enter-other}

@@ -1,4 +1,4 @@
--- `field::found_at` meets its contract. Assumes nothing.
+-- `read_field_entry::found_at` meets its contract. Assumes nothing.
 use borrow.Author.Needs.{needs}
 use Rattle.scan_bytes.specs.Sequence.{sequence}
 use Rattle.spec_format.specs.Header.{fieldBytes}

@@ -1,4 +1,4 @@
--- `field::found_gap` meets its contract. Assumes nothing.
+-- `read_field_entry::found_gap` meets its contract. Assumes nothing.
 use denote.Ref.{now}
 use borrow.Author.Needs.{needs}
 use Rattle.scan_bytes.specs.Sequence.{text-places}

@@ -1,4 +1,4 @@
--- `field::found_text` meets its contract. Assumes nothing.
+-- `read_field_entry::found_text` meets its contract. Assumes nothing.
 use borrow.Author.Needs.{needs}
 use Rattle.read_field_entry.proofs.Finding.{finding}
 use Rattle.read_field_entry.proofs.found_text.Statement.{statement}

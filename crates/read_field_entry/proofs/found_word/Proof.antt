@@ -1,4 +1,4 @@
--- `field::found_word` meets its contract. Assumes nothing.
+-- `read_field_entry::found_word` meets its contract. Assumes nothing.
 use borrow.Author.Needs.{needs}
 use Rattle.scan_bytes.specs.Sequence.{sequence}
 use Rattle.read_field_entry.specs.Entries.{worded}

@@ -1,4 +1,4 @@
--- `field::further_line` meets its contract. Assumes nothing.
+-- `read_field_entry::further_line` meets its contract. Assumes nothing.
 use borrow.Author.Needs.{needs}
 use Rattle.scan_bytes.specs.Sequence.{sequence}
 use Rattle.read_field_entry.proofs.Turns.{piecing}

@@ -1,4 +1,4 @@
--- `field::further_lines` meets its contract. Assumes nothing.
+-- `read_field_entry::further_lines` meets its contract. Assumes nothing.
 use Prim.Native.Nat.{_+_, _-_, _≤_}
 use lib.ListN.{length, drop}
 use native.Mathlib.Omega.{arith}
@@ -29,14 +29,19 @@ enum-told c = search needs
 
 returns : tie.Need-returns Inv-loop μ-loop
 returns c =
-    let v = c .before .before .before .loop .inv in
-    reading-stop (c .before .before .before .before .before .args .columns) (c .before .before .before .before .before .args .keep) _ _ _ _ _ (now (c .before .before .before .before .before .args .s)) _ (c .before .before .before .loop .i) (v .3) (piece-is-no (c .before .before .further-line .ensures) (c .enum-told .given .1)) (v .0) (v .1) (v .2)
+    let c2 = c .before .before in
+    let c5 = c2 .before .before .before in
+    let v = c2 .before .loop .inv in
+    reading-stop (c5 .args .columns) (c5 .args .keep) _ _ _ _ _ (now (c5 .args .s)) _ (c2 .before .loop .i) (v .3) (piece-is-no (c2 .further-line .ensures) (c .enum-told .given .1)) (v .0) (v .1) (v .2)
 
 enum-told-2 : tie.Need-enum-told-2 Inv-loop μ-loop
 enum-told-2 c = search needs
 
 returns-2 : tie.Need-returns-2 Inv-loop μ-loop
-returns-2 c = reading-cut (c .before .before .before .before .before .args .columns) (c .before .before .before .before .before .args .keep) _ _ _ _ _ (drop (c .before .before .before .loop .i) (now (c .before .before .before .before .before .args .s))) (c .before .before .before .loop .inv .3) _ _ (piece-is-cut (c .before .before .further-line .ensures) (c .enum-told2 .given .1))
+returns-2 c =
+    let c2 = c .before .before in
+    let c5 = c2 .before .before .before in
+    reading-cut (c5 .args .columns) (c5 .args .keep) _ _ _ _ _ (drop (c2 .before .loop .i) (now (c5 .args .s))) (c2 .before .loop .inv .3) _ _ (piece-is-cut (c2 .further-line .ensures) (c .enum-told2 .given .1))
 
 enum-known-from : tie.Need-enum-known-from Inv-loop μ-loop
 enum-known-from c = search needs
@@ -55,14 +60,17 @@ loop-less c = omega (arith, piece-places (c .before .before .before .before .bef
 
 loop-again : tie.Need-loop-again Inv-loop μ-loop
 loop-again c =
-    let p = piece-places (c .before .before .before .before .before .further-line .ensures) (c .before .before .before .from .given .1) in
-    let v = c .before .before .before .before .before .before .loop .inv in
+    let c3 = c .before .before .before in
+    let c5 = c3 .before .before in
+    let c8 = c5 .before .before .before in
+    let p = piece-places (c5 .further-line .ensures) (c3 .from .given .1) in
+    let v = c5 .before .loop .inv in
     let g = c .grown .ensures in
-    let k = length-part (now (c .before .before .before .before .before .before .before .before .args .s)) _ _ (p .1) (omega arith) in (
+    let k = length-part (now (c8 .args .s)) _ _ (p .1) (omega arith) in (
       omega arith,
       omega arith,
-      grown-small (c .before .before .before .before .before .before .before .before .args .keep) (now (c .before .before .before .before .before .before .before .before .args .s)) _ _ _ _ _ _ _ _ p (v .2) g,
-      reading-more (c .before .before .before .before .before .before .before .before .args .columns) (c .before .before .before .before .before .before .before .before .args .keep) _ _ _ _ _ (drop (c .before .before .before .before .before .before .loop .i) (now (c .before .before .before .before .before .before .before .before .args .s))) (v .3) _ _ _ _ _ (piece-is (c .before .before .before .before .before .further-line .ensures) (c .before .before .before .from .given .1)) (c .before .judge-line .ensures) k g,
+      grown-small (c8 .args .keep) (now (c8 .args .s)) _ _ _ _ _ _ _ _ p (v .2) g,
+      reading-more (c8 .args .columns) (c8 .args .keep) _ _ _ _ _ (drop (c5 .before .loop .i) (now (c8 .args .s))) (v .3) _ _ _ _ _ (piece-is (c5 .further-line .ensures) (c3 .from .given .1)) (c .before .judge-line .ensures) k g,
     )
 
 pub further-lines-spec : {M : Type 1} → statement M

@@ -1,4 +1,4 @@
--- `field::grown` meets its contract. Assumes nothing.
+-- `read_field_entry::grown` meets its contract. Assumes nothing.
 use borrow.Author.Needs.{needs}
 use Rattle.read_field_entry.proofs.grown.Statement.{statement}
 use Rattle.read_field_entry.proofs.grown.Tie as tie

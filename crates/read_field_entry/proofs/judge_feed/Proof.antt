@@ -1,4 +1,4 @@
--- `field::judge_feed` meets its contract. Assumes nothing.
+-- `read_field_entry::judge_feed` meets its contract. Assumes nothing.
 use borrow.Author.Needs.{needs}
 use Rattle.read_field_entry.specs.Judges.{and-false}
 use Rattle.read_field_entry.proofs.judge_feed.Statement.{statement}

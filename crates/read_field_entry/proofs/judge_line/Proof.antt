@@ -1,4 +1,4 @@
--- `field::judge_line` meets its contract. Assumes nothing.
+-- `read_field_entry::judge_line` meets its contract. Assumes nothing.
 use borrow.Author.Needs.{needs}
 use Rattle.read_field_entry.specs.Judges.{judged-kept, judged-plain}
 use Rattle.read_field_entry.proofs.judge_line.Statement.{statement}

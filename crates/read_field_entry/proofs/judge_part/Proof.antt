@@ -1,4 +1,4 @@
--- `field::judge_part` meets its contract. Assumes nothing.
+-- `read_field_entry::judge_part` meets its contract. Assumes nothing.
 use mathlib.Core.Path.{_∙_}
 use borrow.Author.Needs.{needs}
 use Rattle.read_field_entry.proofs.judge_part.Statement.{statement}

@@ -1,4 +1,4 @@
--- `field::text_at` meets its contract. Assumes nothing.
+-- `read_field_entry::text_at` meets its contract. Assumes nothing.
 use denote.Ref.{now}
 use borrow.Author.Needs.{needs}
 use Rattle.scan_bytes.specs.Sequence.{line-places}
@@ -38,8 +38,12 @@ returns-2 c = search (text-no, text-cut, needs)
 
 returns-3 : tie.Need-returns-3
 returns-3 c =
-    text-got (c .before .before .before .before .before .before .before .before .args .columns) (c .before .before .before .before .before .before .before .before .args .keep) (now (c .before .before .before .before .before .before .before .before .args .s)) (c .before .before .before .before .before .before .before .before .args .at) _ (c .before .before .before .before .before .before .line-at .ensures) _ _ _ _ (c .before .before .before .before .end .given .1)
-    (rw (c .before .before .unjudged .ensures) at (c .before .judge-part .ensures)) (c .further-lines .ensures)
+    let c2 = c .before .before in
+    let c4 = c2 .before .before in
+    let c6 = c4 .before .before in
+    let c8 = c6 .before .before in
+    text-got (c8 .args .columns) (c8 .args .keep) (now (c8 .args .s)) (c8 .args .at) _ (c6 .line-at .ensures) _ _ _ _ (c4 .end .given .1)
+    (rw (c2 .unjudged .ensures) at (c .before .judge-part .ensures)) (c .further-lines .ensures)
 
 pub text-at-spec : {M : Type 1} → statement M
 text-at-spec =

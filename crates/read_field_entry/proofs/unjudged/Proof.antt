@@ -1,4 +1,4 @@
--- `field::unjudged` meets its contract. Assumes nothing.
+-- `read_field_entry::unjudged` meets its contract. Assumes nothing.
 use mathlib.Core.Path.{ap}
 use borrow.Author.Needs.{needs}
 use Rattle.scan_utf8.specs.declared.State.{State}

@@ -1,4 +1,4 @@
--- `header::dropped_at` meets its contract. Assumes nothing.
+-- `read_field_optional::dropped_at` meets its contract. Assumes nothing.
 use borrow.Author.Needs.{needs}
 use Rattle.read_field_optional.proofs.Choosing.{dropping}
 use Rattle.read_field_optional.proofs.dropped_at.Statement.{statement}

@@ -1,4 +1,4 @@
--- `header::either_word` meets its contract. Assumes nothing.
+-- `read_field_optional::either_word` meets its contract. Assumes nothing.
 use borrow.Author.Needs.{needs}
 use Rattle.read_field_optional.proofs.Choosing.{choosing}
 use Rattle.read_field_optional.proofs.either_word.Statement.{statement}

@@ -1,4 +1,4 @@
--- `header::may_field_at` meets its contract. Assumes nothing.
+-- `read_field_optional::may_field_at` meets its contract. Assumes nothing.
 use borrow.Author.Needs.{needs}
 use Rattle.read_field_optional.proofs.Choosing.{maying}
 use Rattle.read_field_optional.proofs.may_field_at.Statement.{statement}

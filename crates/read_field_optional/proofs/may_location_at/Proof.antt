@@ -1,11 +1,11 @@
--- `header::may_location_at` meets its contract. Assumes nothing.
+-- `read_field_optional::may_location_at` meets its contract. Assumes nothing.
 use borrow.Author.Needs.{needs}
 use Rattle.read_field_optional.proofs.Choosing.{maying}
 use Rattle.read_field_optional.proofs.may_location_at.Statement.{statement}
 use Rattle.read_field_optional.proofs.may_location_at.Tie as tie
 
-location-at-requires : tie.Need-location-at-requires
-location-at-requires c κs = search needs
+entry-location-at-requires : tie.Need-entry-location-at-requires
+entry-location-at-requires c κs = search needs
 
 enum-told : tie.Need-enum-told
 enum-told c = search needs
@@ -28,4 +28,4 @@ returns-3 c = search (maying, needs)
 pub may-location-at-spec : {M : Type 1} → statement M
 may-location-at-spec =
     tie.close
-    (tie.spec location-at-requires enum-told enum-told-2 enum-known-entry returns returns-2 returns-3)
+    (tie.spec entry-location-at-requires enum-told enum-told-2 enum-known-entry returns returns-2 returns-3)

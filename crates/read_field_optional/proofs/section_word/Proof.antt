@@ -1,4 +1,4 @@
--- `header::section_word` meets its contract. Assumes nothing.
+-- `read_field_optional::section_word` meets its contract. Assumes nothing.
 use borrow.Author.Needs.{needs}
 use Rattle.read_field_optional.specs.Fields.{sectionWord}
 use Rattle.read_field_optional.proofs.Choosing.{choosing}

@@ -1,4 +1,4 @@
--- `header::source_at` meets its contract. Assumes nothing.
+-- `read_field_optional::source_at` meets its contract. Assumes nothing.
 use borrow.Author.Needs.{needs}
 use Rattle.read_field_optional.specs.Knowing.{known-entry}
 use Rattle.read_field_optional.proofs.Choosing.{sourcing}

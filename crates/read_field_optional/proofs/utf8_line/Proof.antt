@@ -1,4 +1,4 @@
--- `header::utf8_line` meets its contract. Assumes nothing.
+-- `read_field_optional::utf8_line` meets its contract. Assumes nothing.
 use borrow.Author.Needs.{needs}
 use Rattle.scan_bytes.specs.Sequence.{line-places}
 use Rattle.read_field_optional.proofs.Choosing.{test-no, test-cut, test-true, test-false}

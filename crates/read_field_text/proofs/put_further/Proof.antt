@@ -1,4 +1,4 @@
--- `entrytexts::put_further` meets its contract. Assumes nothing.
+-- `read_field_text::put_further` meets its contract. Assumes nothing.
 use Prim.Native.Nat.{_-_, _≤_}
 use mathlib.Core.Path.{_≡_, refl}
 use lib.ListN.{length, drop}
@@ -34,7 +34,10 @@ same-length : tie.Need-same-length Inv-loop μ-loop
 same-length c = search needs
 
 returns : tie.Need-returns Inv-loop μ-loop
-returns c = putting-stop _ _ _ _ _ (c .before .before .before .before .before .before .args .columns) (c .before .before .before .before .before .before .args .keep) (drop (c .before .before .before .loop .i) (now (c .before .before .before .before .before .before .args .s))) (c .before .before .before .loop .inv .3) (piece-is-no (c .before .before .further-line .ensures) (c .enum-told .given .1))
+returns c =
+    let c2 = c .before .before in
+    let c6 = c2 .before .before .before .before in
+    putting-stop _ _ _ _ _ (c6 .args .columns) (c6 .args .keep) (drop (c2 .before .loop .i) (now (c6 .args .s))) (c2 .before .loop .inv .3) (piece-is-no (c2 .further-line .ensures) (c .enum-told .given .1))
 
 enum-told-2 : tie.Need-enum-told-2 Inv-loop μ-loop
 enum-told-2 c = search needs
@@ -43,7 +46,10 @@ same-length-2 : tie.Need-same-length-2 Inv-loop μ-loop
 same-length-2 c = search needs
 
 returns-2 : tie.Need-returns-2 Inv-loop μ-loop
-returns-2 c = putting-cut _ _ _ _ _ (c .before .before .before .before .before .before .args .columns) (c .before .before .before .before .before .before .args .keep) (drop (c .before .before .before .loop .i) (now (c .before .before .before .before .before .before .args .s))) (c .before .before .before .loop .inv .3) (piece-is-cut (c .before .before .further-line .ensures) (c .enum-told2 .given .1))
+returns-2 c =
+    let c2 = c .before .before in
+    let c6 = c2 .before .before .before .before in
+    putting-cut _ _ _ _ _ (c6 .args .columns) (c6 .args .keep) (drop (c2 .before .loop .i) (now (c6 .args .s))) (c2 .before .loop .inv .3) (piece-is-cut (c2 .further-line .ensures) (c .enum-told2 .given .1))
 
 enum-known-from : tie.Need-enum-known-from Inv-loop μ-loop
 enum-known-from c = search needs
@@ -56,11 +62,15 @@ loop-less c = omega (arith, piece-places (c .before .before .before .before .bef
 
 loop-again : tie.Need-loop-again Inv-loop μ-loop
 loop-again c =
-    let p = piece-places (c .before .before .before .before .before .before .before .further-line .ensures) (c .before .before .before .before .before .from .given .1) in (
+    let c2 = c .before .before in
+    let c5 = c2 .before .before .before in
+    let c7 = c5 .before .before in
+    let c11 = c7 .before .before .before .before in
+    let p = piece-places (c7 .further-line .ensures) (c5 .from .given .1) in (
       omega arith,
       omega arith,
       search needs,
-      putting-more _ _ _ _ _ (c .before .before .before .before .before .before .before .before .before .before .before .args .columns) (c .before .before .before .before .before .before .before .before .before .before .before .args .keep) (drop (c .before .before .before .before .before .before .before .before .loop .i) (now (c .before .before .before .before .before .before .before .before .before .before .before .args .s))) (c .before .before .before .before .before .before .before .before .loop .inv .3) _ _ _ _ (piece-is (c .before .before .before .before .before .before .before .further-line .ensures) (c .before .before .before .before .before .from .given .1)) (c .before .before .put-line .ensures),
+      putting-more _ _ _ _ _ (c11 .args .columns) (c11 .args .keep) (drop (c7 .before .loop .i) (now (c11 .args .s))) (c7 .before .loop .inv .3) _ _ _ _ (piece-is (c7 .further-line .ensures) (c5 .from .given .1)) (c2 .put-line .ensures),
     )
 
 pub put-further-spec : {M : Type 1} → statement M

@@ -1,4 +1,4 @@
--- `entrytexts::put_line` meets its contract. Assumes nothing.
+-- `read_field_text::put_line` meets its contract. Assumes nothing.
 use borrow.Author.Needs.{needs}
 use Rattle.read_field_text.proofs.Putting.{line-kept, line-plain}
 use Rattle.read_field_text.proofs.put_line.Statement.{statement}

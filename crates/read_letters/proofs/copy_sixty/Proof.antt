@@ -1,4 +1,4 @@
--- `letters::copy_sixty` meets its contract. Assumes nothing.
+-- `read_letters::copy_sixty` meets its contract. Assumes nothing.
 use Rattle.base_pen.specs.Pen.{writes-append}
 use borrow.Author.Needs.{needs}
 use Rattle.read_letters.proofs.copy_sixty.Statement.{statement}

@@ -1,4 +1,4 @@
--- `letters::copy_thirty` meets its contract. Assumes nothing.
+-- `read_letters::copy_thirty` meets its contract. Assumes nothing.
 use native.Mathlib.Omega.{arith}
 use Rattle.base_pen.specs.Pen.{writes-append}
 use borrow.Author.Needs.{needs}

@@ -1,4 +1,4 @@
--- `letters::count_from` meets its contract. The invariant: the answer of the whole is the answer from here. Assumes nothing.
+-- `read_letters::count_from` meets its contract. The invariant: the answer of the whole is the answer from here. Assumes nothing.
 use Rattle.spec_format.specs.Origin.{letters}
 use Rattle.read_letters.specs.Runs.{tally, plus}
 use Rattle.read_letters.proofs.Passing.{counting}

@@ -1,4 +1,4 @@
--- `letters::count_letters` meets its contract. The invariant: the answer of the whole is the answer from here. Assumes nothing.
+-- `read_letters::count_letters` meets its contract. The invariant: the answer of the whole is the answer from here. Assumes nothing.
 use Prim.Native.Nat.{_+_, _-_, _≤_}
 use mathlib.Core.Path.{_≡_}
 use lib.ListN.{length, drop}

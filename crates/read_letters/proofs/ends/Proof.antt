@@ -1,4 +1,4 @@
--- `letters::ends` meets its contract. Assumes nothing.
+-- `read_letters::ends` meets its contract. Assumes nothing.
 use mathlib.Core.Path.{refl}
 use Rattle.read_letters.proofs.Passing.{ends-law}
 use borrow.Author.Needs.{needs}

@@ -1,4 +1,4 @@
--- `letters::is_skipped` meets its contract. Assumes nothing.
+-- `read_letters::is_skipped` meets its contract. Assumes nothing.
 use Prim.Native.Nat.{_-_}
 use borrow.Author.Needs.{needs}
 use Rattle.read_letters.proofs.is_skipped.Statement.{statement}

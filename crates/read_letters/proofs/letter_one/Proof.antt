@@ -1,4 +1,4 @@
--- `letters::letter_one` meets its contract. Assumes nothing.
+-- `read_letters::letter_one` meets its contract. Assumes nothing.
 use mathlib.Core.Path.{sym, ap, _∙_}
 use Rattle.read_letters.specs.Runs.{one}
 use borrow.Author.Needs.{needs}

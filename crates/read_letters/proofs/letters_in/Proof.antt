@@ -1,4 +1,4 @@
--- `letters::letters_in` meets its contract. Assumes nothing.
+-- `read_letters::letters_in` meets its contract. Assumes nothing.
 use Prim.Native.Nat.{_+_, _-_, _≤_}
 use mathlib.Core.Path.{_≡_, sym}
 use lib.ListN.{getD}
@@ -38,7 +38,10 @@ loop-less : tie.Need-loop-less Inv-loop μ-loop
 loop-less c = search needs
 
 loop-again : tie.Need-loop-again Inv-loop μ-loop
-loop-again c = (omega arith, omega (arith, c .letter-one .ensures, one-most (letter (getD (c .before .before .before .before .before .args .s .now) (c .before .before .before .before .before .args .at + c .before .before .before .loop .j) 0))), omega (arith, c .letter-one .ensures, in-more (c .before .before .before .before .before .args .s .now) (c .before .before .before .before .before .args .at) (c .before .before .before .loop .j)))
+loop-again c =
+    let c3 = c .before .before .before in
+    let c5 = c3 .before .before in
+    (omega arith, omega (arith, c .letter-one .ensures, one-most (letter (getD (c5 .args .s .now) (c5 .args .at + c3 .loop .j) 0))), omega (arith, c .letter-one .ensures, in-more (c5 .args .s .now) (c5 .args .at) (c3 .loop .j)))
 
 returns : tie.Need-returns Inv-loop μ-loop
 returns c = let e : c .before .loop .j ≡ 65 = omega arith in rw e at (c .before .loop .inv .2)

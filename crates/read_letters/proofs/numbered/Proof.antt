@@ -1,4 +1,4 @@
--- `letters::numbered` meets its contract. Assumes nothing.
+-- `read_letters::numbered` meets its contract. Assumes nothing.
 use Rattle.read_letters.proofs.Passing.{runs-false, numbered-law}
 use borrow.Author.Needs.{needs}
 use Rattle.read_letters.proofs.numbered.Statement.{statement}

@@ -1,4 +1,4 @@
--- `letters::put_from` meets its contract. The invariant: the answer of the whole is the answer from here. Assumes nothing.
+-- `read_letters::put_from` meets its contract. The invariant: the answer of the whole is the answer from here. Assumes nothing.
 use Rattle.read_letters.specs.Runs.{sifted}
 use Rattle.read_letters.proofs.Passing.{left-letter, left-skip, left-stop, left-over}
 use Rattle.base_pen.specs.Pen.{Left, left-start}
@@ -34,7 +34,11 @@ loop-less : tie.Need-loop-less Inv-loop μ-loop
 loop-less c = search needs
 
 loop-again : tie.Need-loop-again Inv-loop μ-loop
-loop-again c = (search needs, search needs, left-letter _ _ (c .before .before .before .before .before .before .before .before .loop .inv .2) _ (c .before .before .before .before .before .before .before .loop-test .taken) (c .before .before .before .before .before .is-letter .ensures) (c .before .before .before .before .if1 .taken) (c .before .before .put-byte .ensures))
+loop-again c =
+    let c2 = c .before .before in
+    let c4 = c2 .before .before in
+    let c7 = c4 .before .before .before in
+    (search needs, search needs, left-letter _ _ (c7 .before .loop .inv .2) _ (c7 .loop-test .taken) (c4 .before .is-letter .ensures) (c4 .if1 .taken) (c2 .put-byte .ensures))
 
 is-skipped-requires : tie.Need-is-skipped-requires Inv-loop μ-loop
 is-skipped-requires c κs = search needs

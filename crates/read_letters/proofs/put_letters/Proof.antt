@@ -1,4 +1,4 @@
--- `letters::put_letters` meets its contract. The invariant: the answer of the whole is the answer from here. Assumes nothing.
+-- `read_letters::put_letters` meets its contract. The invariant: the answer of the whole is the answer from here. Assumes nothing.
 use Prim.Native.Nat.{_-_, _≤_}
 use mathlib.Core.Path.{_≡_, refl}
 use lib.ListN.{length, drop}

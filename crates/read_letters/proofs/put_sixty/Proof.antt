@@ -1,4 +1,4 @@
--- `letters::put_sixty` meets its contract. Assumes nothing.
+-- `read_letters::put_sixty` meets its contract. Assumes nothing.
 use Rattle.base_pen.specs.Pen.{writes-append}
 use borrow.Author.Needs.{needs}
 use Rattle.read_letters.proofs.put_sixty.Statement.{statement}

@@ -1,4 +1,4 @@
--- `letters::put_thirty` meets its contract. Assumes nothing.
+-- `read_letters::put_thirty` meets its contract. Assumes nothing.
 use Rattle.base_pen.specs.Pen.{writes-append}
 use Prim.Native.Nat.{_+_, _-_}
 use mathlib.Core.Path.{_≡_}
@@ -38,7 +38,12 @@ same-length : tie.Need-same-length
 same-length c = search needs
 
 returns : tie.Need-returns
-returns c = let e : c .before .before .before .before .before .before .before .before .before .before .before .before .before .before .args .at + 11 - (c .before .before .before .before .before .before .before .before .before .before .before .before .before .before .args .at + 1) ≡ 10 = omega arith in let f : c .before .before .before .before .before .before .before .before .before .before .before .before .before .before .args .at + 22 - (c .before .before .before .before .before .before .before .before .before .before .before .before .before .before .args .at + 12) ≡ 10 = omega arith in let g : c .before .before .before .before .before .before .before .before .before .before .before .before .before .before .args .at + 33 - (c .before .before .before .before .before .before .before .before .before .before .before .before .before .before .args .at + 23) ≡ 10 = omega arith in writes-append (rw e at (c .before .before .before .before .before .before .before .before .before .before .put-part .ensures)) (writes-append (rw f at (c .before .before .before .before .before .before .put-part2 .ensures)) (rw g at (c .before .before .put-part3 .ensures)))
+returns c =
+    let c2 = c .before .before in
+    let c6 = c2 .before .before .before .before in
+    let c10 = c6 .before .before .before .before in
+    let c14 = c10 .before .before .before .before in
+    let e : c14 .args .at + 11 - (c14 .args .at + 1) ≡ 10 = omega arith in let f : c14 .args .at + 22 - (c14 .args .at + 12) ≡ 10 = omega arith in let g : c14 .args .at + 33 - (c14 .args .at + 23) ≡ 10 = omega arith in writes-append (rw e at (c10 .put-part .ensures)) (writes-append (rw f at (c6 .put-part2 .ensures)) (rw g at (c2 .put-part3 .ensures)))
 
 pub put-thirty-spec : {M : Type 1} → statement M
 put-thirty-spec =

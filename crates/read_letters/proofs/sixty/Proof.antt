@@ -1,4 +1,4 @@
--- `letters::sixty` meets its contract. Assumes nothing.
+-- `read_letters::sixty` meets its contract. Assumes nothing.
 use Rattle.read_letters.proofs.Passing.{runs-false, sixty-law}
 use borrow.Author.Needs.{needs}
 use Rattle.read_letters.proofs.sixty.Statement.{statement}

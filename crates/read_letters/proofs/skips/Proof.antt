@@ -1,4 +1,4 @@
--- `letters::skips` meets its contract. The invariant: the answer of the whole is the answer from here. Assumes nothing.
+-- `read_letters::skips` meets its contract. The invariant: the answer of the whole is the answer from here. Assumes nothing.
 use mathlib.Core.List.{[]}
 use Rattle.read_letters.specs.Runs.{Runs}
 use Rattle.read_letters.proofs.Passing.{runs-none, skips-more}

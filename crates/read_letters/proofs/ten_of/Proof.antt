@@ -1,4 +1,4 @@
--- `letters::ten_of` meets its contract. Assumes nothing.
+-- `read_letters::ten_of` meets its contract. Assumes nothing.
 use Prim.Native.Nat.{_-_, _≤_}
 use mathlib.Core.Path.{_≡_, refl}
 use lib.ListN.{length, take, drop}

@@ -1,4 +1,4 @@
--- `letters::three_spaces` meets its contract. Assumes nothing.
+-- `read_letters::three_spaces` meets its contract. Assumes nothing.
 use Rattle.read_letters.proofs.Passing.{spacing}
 use borrow.Author.Needs.{needs}
 use Rattle.read_letters.proofs.three_spaces.Statement.{statement}

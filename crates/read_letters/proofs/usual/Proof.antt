@@ -1,4 +1,4 @@
--- `letters::usual` meets its contract. Assumes nothing.
+-- `read_letters::usual` meets its contract. Assumes nothing.
 use Rattle.read_letters.proofs.Passing.{runs-false, usual-law}
 use borrow.Author.Needs.{needs}
 use Rattle.read_letters.proofs.usual.Statement.{statement}

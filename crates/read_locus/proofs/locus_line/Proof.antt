@@ -1,4 +1,4 @@
--- `locus::locus_line` meets its contract. Assumes nothing.
+-- `read_locus::locus_line` meets its contract. Assumes nothing.
 use Rattle.read_locus.proofs.Lines.{not-plain, is-plain}
 use Prim.Native.Nat.{_-_}
 use borrow.Author.Needs.{needs}

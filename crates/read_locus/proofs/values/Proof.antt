@@ -1,5 +1,5 @@
--- `locus::values` meets its contract. Assumes nothing.
-use Rattle.read_locus.proofs.Lines.{no-name, no-bases, no-unit, no-date, is-circular, is-linear, is-neither}
+-- `read_locus::values` meets its contract. Assumes nothing.
+use Rattle.read_locus.proofs.Lines.{no-name, no-bases, no-unit, no-date, by-shape}
 use Prim.Native.Nat.{_-_}
 use lib.ListN.{length}
 use borrow.Author.Needs.{needs}
@@ -31,7 +31,11 @@ span-equal-requires : tie.Need-span-equal-requires
 span-equal-requires c κs = search needs
 
 returns-3 : tie.Need-returns-3
-returns-3 c = record { is = no-unit _ _ _ _ _ _ _ _ (c .before .before .before .before .before .before .before .before .span-named .ensures) (c .before .before .before .before .before .before .before .if1 .left) _ (c .before .before .before .before .before .before .span-bases .ensures) _ (c .before .before .before .before .length .given .1) _ (c .before .span-equal .ensures) (c .if2 .taken); within = tt }
+returns-3 c =
+    let c4 = c .before .before .before .before in
+    let c6 = c4 .before .before in
+    let c8 = c6 .before .before in
+    record { is = no-unit _ _ _ _ _ _ _ _ (c8 .span-named .ensures) (c6 .before .if1 .left) _ (c6 .span-bases .ensures) _ (c4 .length .given .1) _ (c .before .span-equal .ensures) (c .if2 .taken); within = tt }
 
 span-date-requires : tie.Need-span-date-requires
 span-date-requires c κs = search needs
@@ -43,28 +47,30 @@ enum-told-2 : tie.Need-enum-told-2
 enum-told-2 c = search needs
 
 returns-4 : tie.Need-returns-4
-returns-4 c = record { is = no-date _ _ _ _ _ _ _ _ (c .before .before .before .before .before .before .before .before .before .before .before .span-named .ensures) (c .before .before .before .before .before .before .before .before .before .before .if1 .left) _ (c .before .before .before .before .before .before .before .before .before .span-bases .ensures) _ (c .before .before .before .before .before .before .before .length .given .1) _ (c .before .before .before .before .span-equal .ensures) (c .before .before .before .if2 .left) _ (c .before .before .span-date .ensures) (c .enum-told2 .given .1); within = tt }
+returns-4 c =
+    let c2 = c .before .before in
+    let c4 = c2 .before .before in
+    let c7 = c4 .before .before .before in
+    let c9 = c7 .before .before in
+    let c11 = c9 .before .before in
+    record { is = no-date _ _ _ _ _ _ _ _ (c11 .span-named .ensures) (c9 .before .if1 .left) _ (c9 .span-bases .ensures) _ (c7 .length .given .1) _ (c4 .span-equal .ensures) (c2 .before .if2 .left) _ (c2 .span-date .ensures) (c .enum-told2 .given .1); within = tt }
 
-slice-aggregate-span-equal-2 : tie.Need-slice-aggregate-span-equal-2
-slice-aggregate-span-equal-2 c = search needs
-
-span-equal-requires-2 : tie.Need-span-equal-requires-2
-span-equal-requires-2 c κs = search needs
+shaped-requires : tie.Need-shaped-requires
+shaped-requires c κs = search needs
 
 returns-5 : tie.Need-returns-5
-returns-5 c = record { is = is-circular _ _ _ _ _ _ _ _ (c .before .before .before .before .before .before .before .before .before .before .before .before .before .before .before .span-named .ensures) (c .before .before .before .before .before .before .before .before .before .before .before .before .before .before .if1 .left) _ (c .before .before .before .before .before .before .before .before .before .before .before .before .before .span-bases .ensures) _ (c .before .before .before .before .before .before .before .before .before .before .before .length .given .1) _ (c .before .before .before .before .before .before .before .before .span-equal .ensures) (c .before .before .before .before .before .before .before .if2 .left) _ (c .before .before .before .before .before .before .span-date .ensures) _ (c .before .before .before .before .on .given .1) _ (c .before .span-equal2 .ensures) (c .if3 .taken); within = (c .before .before .before .before .before .before .before .before .before .before .before .before .before .before .before .before .before .pre .0 .0, (c .before .before .before .before .before .before .before .before .before .before .before .before .before .before .before .before .before .pre .1 .0, c .before .before .before .before .before .before .before .before .before .before .before .before .before .before .before .before .before .pre .1 .1 .1 .0)) }
-
-slice-aggregate-span-equal-3 : tie.Need-slice-aggregate-span-equal-3
-slice-aggregate-span-equal-3 c = search needs
-
-span-equal-requires-3 : tie.Need-span-equal-requires-3
-span-equal-requires-3 c κs = search needs
-
-returns-6 : tie.Need-returns-6
-returns-6 c = record { is = is-linear _ _ _ _ _ _ _ _ (c .before .before .before .before .before .before .before .before .before .before .before .before .before .before .before .before .before .before .span-named .ensures) (c .before .before .before .before .before .before .before .before .before .before .before .before .before .before .before .before .before .if1 .left) _ (c .before .before .before .before .before .before .before .before .before .before .before .before .before .before .before .before .span-bases .ensures) _ (c .before .before .before .before .before .before .before .before .before .before .before .before .before .before .length .given .1) _ (c .before .before .before .before .before .before .before .before .before .before .before .span-equal .ensures) (c .before .before .before .before .before .before .before .before .before .before .if2 .left) _ (c .before .before .before .before .before .before .before .before .before .span-date .ensures) _ (c .before .before .before .before .before .before .before .on .given .1) _ (c .before .before .before .before .span-equal2 .ensures) (c .before .before .before .if3 .left) _ (c .before .span-equal3 .ensures) (c .if4 .taken); within = (c .before .before .before .before .before .before .before .before .before .before .before .before .before .before .before .before .before .before .before .before .pre .0 .0, (c .before .before .before .before .before .before .before .before .before .before .before .before .before .before .before .before .before .before .before .before .pre .1 .0, c .before .before .before .before .before .before .before .before .before .before .before .before .before .before .before .before .before .before .before .before .pre .1 .1 .1 .0)) }
-
-returns-7 : tie.Need-returns-7
-returns-7 c = record { is = is-neither _ _ _ _ _ _ _ _ (c .before .before .before .before .before .before .before .before .before .before .before .before .before .before .before .before .before .before .span-named .ensures) (c .before .before .before .before .before .before .before .before .before .before .before .before .before .before .before .before .before .if1 .left) _ (c .before .before .before .before .before .before .before .before .before .before .before .before .before .before .before .before .span-bases .ensures) _ (c .before .before .before .before .before .before .before .before .before .before .before .before .before .before .length .given .1) _ (c .before .before .before .before .before .before .before .before .before .before .before .span-equal .ensures) (c .before .before .before .before .before .before .before .before .before .before .if2 .left) _ (c .before .before .before .before .before .before .before .before .before .span-date .ensures) _ (c .before .before .before .before .before .before .before .on .given .1) _ (c .before .before .before .before .span-equal2 .ensures) (c .before .before .before .if3 .left) _ (c .before .span-equal3 .ensures) (c .if4 .left); within = tt }
+returns-5 c =
+    let c2 = c .before .before in
+    let c4 = c2 .before .before in
+    let c6 = c4 .before .before in
+    let c9 = c6 .before .before .before in
+    let c11 = c9 .before .before in
+    let c13 = c11 .before .before in
+    record {
+      is = by-shape _ _ _ _ _ _ _ _ (c13 .span-named .ensures) (c11 .before .if1 .left) _ (c11 .span-bases .ensures) _ (c9 .length .given .1) _ (c6 .span-equal .ensures) (c4 .before .if2 .left)
+          _ (c4 .span-date .ensures) _ (c2 .on .given .1) _ (c .shaped .ensures .is);
+      within = c .shaped .ensures .within;
+    }
 
 pub values-spec : {M : Type 1} → statement M
 values-spec =
@@ -83,10 +89,5 @@ values-spec =
     enum-known-on
     enum-told-2
     returns-4
-    slice-aggregate-span-equal-2
-    span-equal-requires-2
-    returns-5
-    slice-aggregate-span-equal-3
-    span-equal-requires-3
-    returns-6
-    returns-7)
+    shaped-requires
+    returns-5)

@@ -1,4 +1,4 @@
--- `tokens::bases_in` meets its contract. Assumes nothing.
+-- `read_locus_tokens::bases_in` meets its contract. Assumes nothing.
 use Rattle.read_locus_tokens.proofs.Counted.{bases-not, bases-much, bases-some, bases-long}
 use Prim.Native.Nat.{_-_}
 use denote.Ref.{now}

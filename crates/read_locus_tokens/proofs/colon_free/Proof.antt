@@ -1,4 +1,4 @@
--- `tokens::colon_free` meets its contract. The invariant: the answer of the whole is the answer from here. Assumes nothing.
+-- `read_locus_tokens::colon_free` meets its contract. The invariant: the answer of the whole is the answer from here. Assumes nothing.
 use Rattle.spec_format.specs.Bytes.{all, but}
 use Rattle.read_locus_tokens.specs.Parts.{cut}
 use Rattle.read_locus_tokens.proofs.Cuts.{cutting}

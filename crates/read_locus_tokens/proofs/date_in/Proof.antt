@@ -1,4 +1,4 @@
--- `tokens::date_in` meets its contract. Assumes nothing.
+-- `read_locus_tokens::date_in` meets its contract. Assumes nothing.
 use lib.ListN.{length-take, length-drop}
 use lib.Seq.{length-take-le}
 use Rattle.read_locus_tokens.proofs.Counted.{date-short, date-long, date-dash, date-dashes, date-parts}
@@ -65,7 +65,10 @@ date-of-parts-requires : tie.Need-date-of-parts-requires
 date-of-parts-requires c κs = (simp length-take (omega arith), simp (length-take, length-drop) (omega arith))
 
 returns-5 : tie.Need-returns-5
-returns-5 c = date-parts (now (c .before .before .before .before .before .before .before .before .before .before .before .args .t)) _ (c .before .before .before .before .before .before .before .before .before .if1 .left) (c .before .before .before .before .before .before .before .before .if2 .left) (search needs) (search needs) (c .date-of-parts .ensures)
+returns-5 c =
+    let c8 = c .before .before .before .before .before .before .before .before in
+    let c11 = c8 .before .before .before in
+    date-parts (now (c11 .args .t)) _ (c8 .before .if1 .left) (c8 .if2 .left) (search needs) (search needs) (c .date-of-parts .ensures)
 
 pub date-in-spec : {M : Type 1} → statement M
 date-in-spec =

@@ -1,4 +1,4 @@
--- `tokens::date_of_parts` meets its contract. Assumes nothing.
+-- `read_locus_tokens::date_of_parts` meets its contract. Assumes nothing.
 use Rattle.read_locus_tokens.proofs.Counted.{date-no-day, date-no-year, date-made, value-below}
 use Prim.Native.Nat.{_-_}
 use native.Mathlib.Omega.{arith}
@@ -44,7 +44,13 @@ from-requires : tie.Need-from-requires
 from-requires c κs = search needs
 
 returns-3 : tie.Need-returns-3
-returns-3 c = date-made _ (now (c .before .before .before .before .before .before .before .before .before .before .before .before .before .args .month)) _ _ _ (c .before .before .before .before .before .before .before .before .before .decimal-in .ensures) (c .before .before .before .before .before .decimal-in2 .ensures) _ _ _ _ (c .before .before .before .before .before .before .before .d .given .1) (c .before .before .before .y .given .1) (c .before .month-in .ensures) (c .from .ensures)
+returns-3 c =
+    let c3 = c .before .before .before in
+    let c5 = c3 .before .before in
+    let c7 = c5 .before .before in
+    let c9 = c7 .before .before in
+    let c13 = c9 .before .before .before .before in
+    date-made _ (now (c13 .args .month)) _ _ _ (c9 .decimal-in .ensures) (c5 .decimal-in2 .ensures) _ _ _ _ (c7 .d .given .1) (c3 .y .given .1) (c .before .month-in .ensures) (c .from .ensures)
 
 pub date-of-parts-spec : {M : Type 1} → statement M
 date-of-parts-spec =

@@ -1,4 +1,4 @@
--- `tokens::decimal_in` meets its contract. The invariant: the answer of the whole is the answer from here. Assumes nothing.
+-- `read_locus_tokens::decimal_in` meets its contract. The invariant: the answer of the whole is the answer from here. Assumes nothing.
 use Prim.Native.Nat.{_^_, _-_, _≤_, _<_}
 use Rattle.read_locus_tokens.specs.Parts.{digitsAfter}
 use Rattle.read_locus_tokens.proofs.Digits.{deciding, ten-more, ten-billion}

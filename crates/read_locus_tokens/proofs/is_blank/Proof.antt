@@ -1,4 +1,4 @@
--- `tokens::is_blank` meets its contract. Assumes nothing.
+-- `read_locus_tokens::is_blank` meets its contract. Assumes nothing.
 use borrow.Author.Tests.{eq-eqb, ne-eqb}
 use Prim.Native.Nat.{_-_}
 use Rattle.read_locus_tokens.proofs.is_blank.Statement.{statement}

@@ -1,4 +1,4 @@
--- `tokens::is_plain` meets its contract. Assumes nothing.
+-- `read_locus_tokens::is_plain` meets its contract. Assumes nothing.
 use borrow.Author.Tests.{le-leb, lt-leb}
 use Prim.Native.Nat.{_-_}
 use borrow.Author.Needs.{needs}

@@ -1,4 +1,4 @@
--- `tokens::plain` meets its contract. The invariant: the answer of the whole is the answer from here. Assumes nothing.
+-- `read_locus_tokens::plain` meets its contract. The invariant: the answer of the whole is the answer from here. Assumes nothing.
 use Rattle.spec_format.specs.Bytes.{all}
 use Rattle.read_locus_tokens.specs.Parts.{cut, plainByte}
 use Rattle.read_locus_tokens.proofs.Cuts.{cutting}

@@ -1,4 +1,4 @@
--- `tokens::token_at` meets its contract. Assumes nothing.
+-- `read_locus_tokens::token_at` meets its contract. Assumes nothing.
 use Rattle.read_locus_tokens.proofs.Worded.{token-some, token-none}
 use Prim.Native.Nat.{_-_}
 use borrow.Author.Needs.{needs}

@@ -1,4 +1,4 @@
--- `tokens::word_end` meets its contract. The invariant: the answer of the whole is the answer from here. Assumes nothing.
+-- `read_locus_tokens::word_end` meets its contract. The invariant: the answer of the whole is the answer from here. Assumes nothing.
 use Rattle.spec_format.specs.Bytes.{notBlank}
 use Rattle.read_locus_tokens.specs.Parts.{cut, passed}
 use Rattle.read_locus_tokens.proofs.Cuts.{cutting}

@@ -1,4 +1,4 @@
--- `ending::end_at` meets its contract. Assumes nothing.
+-- `read_origin::end_at` meets its contract. Assumes nothing.
 use borrow.Author.Needs.{needs}
 use Rattle.read_origin.proofs.Laws.{ending}
 use Rattle.read_origin.proofs.end_at.Statement.{statement}

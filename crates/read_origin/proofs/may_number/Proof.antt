@@ -1,4 +1,4 @@
--- `ending::may_number` meets its contract. Assumes nothing.
+-- `read_origin::may_number` meets its contract. Assumes nothing.
 use borrow.Author.Needs.{needs}
 use Rattle.read_origin.proofs.may_number.Statement.{statement}
 use Rattle.read_origin.proofs.may_number.Tie as tie

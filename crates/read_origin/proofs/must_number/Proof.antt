@@ -1,4 +1,4 @@
--- `ending::must_number` meets its contract. Assumes nothing.
+-- `read_origin::must_number` meets its contract. Assumes nothing.
 use borrow.Author.Needs.{needs}
 use Rattle.read_origin.proofs.must_number.Statement.{statement}
 use Rattle.read_origin.proofs.must_number.Tie as tie

@@ -1,4 +1,4 @@
--- `ending::origin_word` meets its contract. Assumes nothing.
+-- `read_origin::origin_word` meets its contract. Assumes nothing.
 use borrow.Author.Needs.{needs}
 use Rattle.read_origin.proofs.Laws.{tagging}
 use Rattle.read_origin.proofs.origin_word.Statement.{statement}

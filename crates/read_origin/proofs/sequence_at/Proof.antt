@@ -1,4 +1,4 @@
--- `ending::sequence_at` meets its contract. Assumes nothing.
+-- `read_origin::sequence_at` meets its contract. Assumes nothing.
 use borrow.Author.Needs.{needs}
 use Rattle.read_origin.proofs.Laws.{sequencing}
 use Rattle.read_origin.proofs.sequence_at.Statement.{statement}

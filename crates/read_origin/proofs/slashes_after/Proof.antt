@@ -1,4 +1,4 @@
--- `ending::slashes_after` meets its contract. Assumes nothing.
+-- `read_origin::slashes_after` meets its contract. Assumes nothing.
 use borrow.Author.Needs.{needs}
 use Rattle.read_origin.proofs.Laws.{slashing}
 use Rattle.read_origin.proofs.slashes_after.Statement.{statement}

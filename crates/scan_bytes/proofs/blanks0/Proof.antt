@@ -1,4 +1,4 @@
--- `chars::blanks0` meets its contract. Assumes nothing.
+-- `scan_bytes::blanks0` meets its contract. Assumes nothing.
 use borrow.Author.Needs.{needs}
 use Rattle.scan_bytes.proofs.Scan.{stop-until}
 use Rattle.scan_bytes.proofs.blanks0.Statement.{statement}

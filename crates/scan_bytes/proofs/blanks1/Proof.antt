@@ -1,4 +1,4 @@
--- `chars::blanks1` meets its contract. Assumes nothing.
+-- `scan_bytes::blanks1` meets its contract. Assumes nothing.
 use borrow.Author.Needs.{needs}
 use Rattle.scan_bytes.proofs.Scan.{stop-until1}
 use Rattle.scan_bytes.proofs.blanks1.Statement.{statement}

@@ -1,4 +1,4 @@
--- `chars::blanks_end` meets its contract. Assumes nothing.
+-- `scan_bytes::blanks_end` meets its contract. Assumes nothing.
 use Prim.Native.Nat.{_-_, _≤_}
 use mathlib.Core.Path.{_≡_}
 use lib.ListN.{length}

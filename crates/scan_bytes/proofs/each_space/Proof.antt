@@ -1,4 +1,4 @@
--- `chars::each_space` meets its contract. Assumes nothing.
+-- `scan_bytes::each_space` meets its contract. Assumes nothing.
 use Prim.Native.Nat.{_≤_}
 use mathlib.Core.Path.{_≡_}
 use lib.ListN.{length, drop}

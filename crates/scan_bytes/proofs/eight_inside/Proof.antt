@@ -1,4 +1,4 @@
--- `chars::eight_inside` meets its contract. Assumes nothing.
+-- `scan_bytes::eight_inside` meets its contract. Assumes nothing.
 use Prim.Native.Nat.{_-_, _≤_}
 use mathlib.Core.Path.{_≡_}
 use native.Mathlib.Omega.{arith}

@@ -1,4 +1,4 @@
--- `chars::indent` meets its contract. Assumes nothing.
+-- `scan_bytes::indent` meets its contract. Assumes nothing.
 use native.Mathlib.Omega.{arith}
 use borrow.Author.Needs.{needs}
 use Rattle.scan_bytes.proofs.indent.Statement.{statement}

@@ -1,4 +1,4 @@
--- `chars::is_blank` meets its contract. Assumes nothing.
+-- `scan_bytes::is_blank` meets its contract. Assumes nothing.
 use borrow.Author.Needs.{needs}
 use Rattle.scan_bytes.proofs.Scan.{tests}
 use Rattle.scan_bytes.proofs.is_blank.Statement.{statement}

@@ -1,4 +1,4 @@
--- `chars::is_letter` meets its contract. Assumes nothing.
+-- `scan_bytes::is_letter` meets its contract. Assumes nothing.
 use borrow.Author.Needs.{needs}
 use Rattle.scan_bytes.proofs.Scan.{either-first, either-second}
 use Rattle.scan_bytes.proofs.is_letter.Statement.{statement}

@@ -1,4 +1,4 @@
--- `chars::line_at` meets its contract. Assumes nothing.
+-- `scan_bytes::line_at` meets its contract. Assumes nothing.
 use borrow.Author.Needs.{needs}
 use Rattle.scan_bytes.proofs.Scan.{lining}
 use Rattle.scan_bytes.proofs.line_at.Statement.{statement}

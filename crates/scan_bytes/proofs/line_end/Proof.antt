@@ -1,4 +1,4 @@
--- `chars::line_end` meets its contract. Assumes nothing.
+-- `scan_bytes::line_end` meets its contract. Assumes nothing.
 use borrow.Author.Needs.{needs}
 use Rattle.scan_bytes.proofs.Scan.{ending}
 use Rattle.scan_bytes.proofs.line_end.Statement.{statement}

@@ -1,4 +1,4 @@
--- `chars::sixteen_spaces` meets its contract. Assumes nothing.
+-- `scan_bytes::sixteen_spaces` meets its contract. Assumes nothing.
 use Prim.Native.Nat.{_-_, _≤_}
 use mathlib.Core.Path.{_≡_}
 use native.Mathlib.Omega.{arith}

@@ -1,4 +1,4 @@
--- `chars::spaces1` meets its contract. Assumes nothing.
+-- `scan_bytes::spaces1` meets its contract. Assumes nothing.
 use borrow.Author.Needs.{needs}
 use Rattle.scan_bytes.proofs.Scan.{stop-until1}
 use Rattle.scan_bytes.proofs.spaces1.Statement.{statement}

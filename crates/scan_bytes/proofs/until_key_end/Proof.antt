@@ -1,4 +1,4 @@
--- `chars::until_key_end` meets its contract. Assumes nothing.
+-- `scan_bytes::until_key_end` meets its contract. Assumes nothing.
 use borrow.Author.Needs.{needs}
 use Rattle.scan_bytes.proofs.Scan.{stop-until1}
 use Rattle.scan_bytes.proofs.until_key_end.Statement.{statement}

@@ -1,4 +1,4 @@
--- `chars::wide_indent` meets its contract. Assumes nothing.
+-- `scan_bytes::wide_indent` meets its contract. Assumes nothing.
 use native.Mathlib.Omega.{arith}
 use Rattle.scan_bytes.proofs.Scan.{both-ends, unindented}
 use borrow.Author.Needs.{needs}

@@ -1,4 +1,4 @@
--- `lines::feed_step`: no LF stands before the place reached, so what is left after the next one is the same from here.
+-- `scan_lines::feed_step`: no LF stands before the place reached, so what is left after the next one is the same from here.
 use Prim.Native.Nat.{_-_, _≤_}
 use mathlib.Core.Path.{_≡_}
 use lib.ListN.{length, drop}

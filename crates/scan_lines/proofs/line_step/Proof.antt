@@ -1,4 +1,4 @@
--- `lines::line_step`: past the end no line is begun; else it is `line_at`'s line, and the place after it.
+-- `scan_lines::line_step`: past the end no line is begun; else it is `line_at`'s line, and the place after it.
 use borrow.Author.Needs.{needs}
 use Rattle.scan_lines.proofs.Feeds.{fetching}
 use Rattle.scan_lines.proofs.line_step.Statement.{statement}

@@ -1,4 +1,4 @@
--- `lines::next_line` meets its contract: a walk of its MIR, by hand. The borrow of the reader is opened, `line_step` is called on its slice and place, the place is stored, and the borrow is closed.
+-- `scan_lines::next_line` meets its contract: a walk of its MIR, by hand. The borrow of the reader is opened, `line_step` is called on its slice and place, the place is stored, and the borrow is closed.
 -- Assumes nothing.
 use mathlib.Core.Path.{_≡_, refl, ap}
 use Prim.Native.Nat.{ℕ, _<_, _^_}

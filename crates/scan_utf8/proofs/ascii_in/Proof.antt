@@ -1,4 +1,4 @@
--- `utf8::ascii_in` meets its contract. Assumes nothing.
+-- `scan_utf8::ascii_in` meets its contract. Assumes nothing.
 use Prim.Native.Nat.{_-_, _≤_}
 use mathlib.Core.Path.{_≡_}
 use native.Mathlib.Omega.{arith}
@@ -38,7 +38,9 @@ loop-less c = search needs
 
 loop-again : tie.Need-loop-again Inv-loop μ-loop
 loop-again c =
-    (search needs, search needs, all-on ascii (now (c .before .before .before .before .before .before .args .s)) (c .before .before .before .before .before .before .args .from) (c .before .before .before .before .loop .i) _ _ _ (omega arith) (omega arith) (c .before .before .before .before .loop .inv .2) (c .before .is-ascii .ensures) (c .both .ensures))
+    let c4 = c .before .before .before .before in
+    let c6 = c4 .before .before in
+    (search needs, search needs, all-on ascii (now (c6 .args .s)) (c6 .args .from) (c4 .loop .i) _ _ _ (omega arith) (omega arith) (c4 .loop .inv .2) (c .before .is-ascii .ensures) (c .both .ensures))
 
 returns : tie.Need-returns Inv-loop μ-loop
 returns c = let e : c .before .loop .i ≡ c .before .before .before .args .to = omega arith in rw e at (c .before .loop .inv .2)

@@ -1,7 +1,7 @@
--- `utf8::lead` meets its contract. Assumes nothing.
+-- One way after the other, as `leadOf` tries them.
 use borrow.Author.Needs.{needs}
-use Rattle.scan_utf8.specs.States.{leadOf}
 use borrow.Author.Tests.{lt-ltb, le-ltb, eq-eqb, ne-eqb}
+use Rattle.scan_utf8.specs.States.{leadOf}
 use Rattle.scan_utf8.proofs.Chars.{pick-true, pick-false, pick-called, pick-called-not}
 use Rattle.scan_utf8.proofs.lead.Statement.{statement}
 use Rattle.scan_utf8.proofs.lead.Tie as tie
@@ -35,7 +35,10 @@ state-of-requires-4 c κs = search needs
 
 returns-4 : tie.Need-returns-4
 unfolding leadOf
-returns-4 c = pick-false _ _ _ _ (le-ltb _ _ (c .before .before .before .before .before .if1 .left)) (pick-called-not _ _ _ _ _ (c .before .before .before .before .is-between .ensures) (c .before .before .before .if2 .left) (pick-false _ _ _ _ (ne-eqb _ _ (c .before .before .if3 .left)) (pick-true _ _ _ _ (eq-eqb _ _ (c .before .if4 .taken)) (c .state-of4 .ensures))))
+returns-4 c =
+    let c2 = c .before .before in
+    let c4 = c2 .before .before in
+    pick-false _ _ _ _ (le-ltb _ _ (c4 .before .if1 .left)) (pick-called-not _ _ _ _ _ (c4 .is-between .ensures) (c2 .before .if2 .left) (pick-false _ _ _ _ (ne-eqb _ _ (c2 .if3 .left)) (pick-true _ _ _ _ (eq-eqb _ _ (c .before .if4 .taken)) (c .state-of4 .ensures))))
 
 is-between-requires-2 : tie.Need-is-between-requires-2
 is-between-requires-2 c κs = search needs
@@ -45,38 +48,22 @@ state-of-requires-5 c κs = search needs
 
 returns-5 : tie.Need-returns-5
 unfolding leadOf
-returns-5 c = pick-false _ _ _ _ (le-ltb _ _ (c .before .before .before .before .before .before .before .if1 .left)) (pick-called-not _ _ _ _ _ (c .before .before .before .before .before .before .is-between .ensures) (c .before .before .before .before .before .if2 .left) (pick-false _ _ _ _ (ne-eqb _ _ (c .before .before .before .before .if3 .left)) (pick-false _ _ _ _ (ne-eqb _ _ (c .before .before .before .if4 .left)) (pick-called _ _ _ _ _ (c .before .before .is-between2 .ensures) (c .before .if5 .taken) (c .state-of5 .ensures)))))
+returns-5 c =
+    let c2 = c .before .before in
+    let c4 = c2 .before .before in
+    let c6 = c4 .before .before in
+    pick-false _ _ _ _ (le-ltb _ _ (c6 .before .if1 .left)) (pick-called-not _ _ _ _ _ (c6 .is-between .ensures) (c4 .before .if2 .left) (pick-false _ _ _ _ (ne-eqb _ _ (c4 .if3 .left)) (pick-false _ _ _ _ (ne-eqb _ _ (c2 .before .if4 .left)) (pick-called _ _ _ _ _ (c2 .is-between2 .ensures) (c .before .if5 .taken) (c .state-of5 .ensures)))))
 
-state-of-requires-6 : tie.Need-state-of-requires-6
-state-of-requires-6 c κs = search needs
+lead-of-four-requires : tie.Need-lead-of-four-requires
+lead-of-four-requires c κs = search needs
 
 returns-6 : tie.Need-returns-6
 unfolding leadOf
-returns-6 c = pick-false _ _ _ _ (le-ltb _ _ (c .before .before .before .before .before .before .before .before .if1 .left)) (pick-called-not _ _ _ _ _ (c .before .before .before .before .before .before .before .is-between .ensures) (c .before .before .before .before .before .before .if2 .left) (pick-false _ _ _ _ (ne-eqb _ _ (c .before .before .before .before .before .if3 .left)) (pick-false _ _ _ _ (ne-eqb _ _ (c .before .before .before .before .if4 .left)) (pick-called-not _ _ _ _ _ (c .before .before .before .is-between2 .ensures) (c .before .before .if5 .left) (pick-true _ _ _ _ (eq-eqb _ _ (c .before .if6 .taken)) (c .state-of6 .ensures))))))
-
-is-between-requires-3 : tie.Need-is-between-requires-3
-is-between-requires-3 c κs = search needs
-
-state-of-requires-7 : tie.Need-state-of-requires-7
-state-of-requires-7 c κs = search needs
-
-returns-7 : tie.Need-returns-7
-unfolding leadOf
-returns-7 c = pick-false _ _ _ _ (le-ltb _ _ (c .before .before .before .before .before .before .before .before .before .before .if1 .left)) (pick-called-not _ _ _ _ _ (c .before .before .before .before .before .before .before .before .before .is-between .ensures) (c .before .before .before .before .before .before .before .before .if2 .left) (pick-false _ _ _ _ (ne-eqb _ _ (c .before .before .before .before .before .before .before .if3 .left)) (pick-false _ _ _ _ (ne-eqb _ _ (c .before .before .before .before .before .before .if4 .left)) (pick-called-not _ _ _ _ _ (c .before .before .before .before .before .is-between2 .ensures) (c .before .before .before .before .if5 .left) (pick-false _ _ _ _ (ne-eqb _ _ (c .before .before .before .if6 .left)) (pick-called _ _ _ _ _ (c .before .before .is-between3 .ensures) (c .before .if7 .taken) (c .state-of7 .ensures)))))))
-
-state-of-requires-8 : tie.Need-state-of-requires-8
-state-of-requires-8 c κs = search needs
-
-returns-8 : tie.Need-returns-8
-unfolding leadOf
-returns-8 c = pick-false _ _ _ _ (le-ltb _ _ (c .before .before .before .before .before .before .before .before .before .before .before .if1 .left)) (pick-called-not _ _ _ _ _ (c .before .before .before .before .before .before .before .before .before .before .is-between .ensures) (c .before .before .before .before .before .before .before .before .before .if2 .left) (pick-false _ _ _ _ (ne-eqb _ _ (c .before .before .before .before .before .before .before .before .if3 .left)) (pick-false _ _ _ _ (ne-eqb _ _ (c .before .before .before .before .before .before .before .if4 .left)) (pick-called-not _ _ _ _ _ (c .before .before .before .before .before .before .is-between2 .ensures) (c .before .before .before .before .before .if5 .left) (pick-false _ _ _ _ (ne-eqb _ _ (c .before .before .before .before .if6 .left)) (pick-called-not _ _ _ _ _ (c .before .before .before .is-between3 .ensures) (c .before .before .if7 .left) (pick-true _ _ _ _ (eq-eqb _ _ (c .before .if8 .taken)) (c .state-of8 .ensures))))))))
-
-state-of-requires-9 : tie.Need-state-of-requires-9
-state-of-requires-9 c κs = search needs
-
-returns-9 : tie.Need-returns-9
-unfolding leadOf
-returns-9 c = pick-false _ _ _ _ (le-ltb _ _ (c .before .before .before .before .before .before .before .before .before .before .before .if1 .left)) (pick-called-not _ _ _ _ _ (c .before .before .before .before .before .before .before .before .before .before .is-between .ensures) (c .before .before .before .before .before .before .before .before .before .if2 .left) (pick-false _ _ _ _ (ne-eqb _ _ (c .before .before .before .before .before .before .before .before .if3 .left)) (pick-false _ _ _ _ (ne-eqb _ _ (c .before .before .before .before .before .before .before .if4 .left)) (pick-called-not _ _ _ _ _ (c .before .before .before .before .before .before .is-between2 .ensures) (c .before .before .before .before .before .if5 .left) (pick-false _ _ _ _ (ne-eqb _ _ (c .before .before .before .before .if6 .left)) (pick-called-not _ _ _ _ _ (c .before .before .before .is-between3 .ensures) (c .before .before .if7 .left) (pick-false _ _ _ _ (ne-eqb _ _ (c .before .if8 .left)) (c .state-of9 .ensures))))))))
+returns-6 c =
+    let c2 = c .before .before in
+    let c4 = c2 .before .before in
+    let c6 = c4 .before .before in
+    pick-false _ _ _ _ (le-ltb _ _ (c6 .before .if1 .left)) (pick-called-not _ _ _ _ _ (c6 .is-between .ensures) (c4 .before .if2 .left) (pick-false _ _ _ _ (ne-eqb _ _ (c4 .if3 .left)) (pick-false _ _ _ _ (ne-eqb _ _ (c2 .before .if4 .left)) (pick-called-not _ _ _ _ _ (c2 .is-between2 .ensures) (c .before .if5 .left) (c .lead-of-four .ensures)))))
 
 pub lead-spec : {M : Type 1} → statement M
 lead-spec =
@@ -94,12 +81,5 @@ lead-spec =
     is-between-requires-2
     state-of-requires-5
     returns-5
-    state-of-requires-6
-    returns-6
-    is-between-requires-3
-    state-of-requires-7
-    returns-7
-    state-of-requires-8
-    returns-8
-    state-of-requires-9
-    returns-9)
+    lead-of-four-requires
+    returns-6)

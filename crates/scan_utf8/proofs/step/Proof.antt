@@ -1,4 +1,4 @@
--- `utf8::step` meets its contract. Assumes nothing.
+-- `scan_utf8::step` meets its contract. Assumes nothing.
 use borrow.Author.Needs.{needs}
 use Rattle.scan_utf8.specs.States.{stepOf}
 use Rattle.scan_utf8.proofs.Chars.{picks}

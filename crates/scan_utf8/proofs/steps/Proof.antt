@@ -1,4 +1,4 @@
--- `utf8::steps` meets its contract. Assumes nothing.
+-- `scan_utf8::steps` meets its contract. Assumes nothing.
 use Prim.Native.Nat.{_-_, _≤_}
 use mathlib.Core.Path.{_≡_}
 use native.Mathlib.Omega.{arith}
@@ -34,7 +34,9 @@ loop-less c = search needs
 
 loop-again : tie.Need-loop-again Inv-loop μ-loop
 loop-again c =
-    (search needs, search needs, ran-on (c .before .before .before .before .before .args .u) (now (c .before .before .before .before .before .args .s)) (c .before .before .before .before .before .args .from) (c .before .before .before .loop .i) _ _ (omega arith) (omega arith) (c .before .before .before .loop .inv .2) (c .step .ensures))
+    let c3 = c .before .before .before in
+    let c5 = c3 .before .before in
+    (search needs, search needs, ran-on (c5 .args .u) (now (c5 .args .s)) (c5 .args .from) (c3 .loop .i) _ _ (omega arith) (omega arith) (c3 .loop .inv .2) (c .step .ensures))
 
 returns : tie.Need-returns Inv-loop μ-loop
 returns c = let e : c .before .loop .i ≡ c .before .before .before .args .to = omega arith in rw e at (c .before .loop .inv .2)

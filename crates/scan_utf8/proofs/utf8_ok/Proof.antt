@@ -1,4 +1,4 @@
--- `utf8::utf8_ok` meets its contract. Assumes nothing.
+-- `scan_utf8::utf8_ok` meets its contract. Assumes nothing.
 use mathlib.Core.Path.{sym, _∙_}
 use borrow.Author.Needs.{needs}
 use Rattle.scan_utf8.specs.States.{ran-utf8}

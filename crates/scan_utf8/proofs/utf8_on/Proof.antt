@@ -1,4 +1,4 @@
--- `utf8::utf8_on` meets its contract. Assumes nothing.
+-- `scan_utf8::utf8_on` meets its contract. Assumes nothing.
 use borrow.Author.Needs.{needs}
 use Rattle.scan_utf8.proofs.Chars.{ascii-ran}
 use Rattle.scan_utf8.proofs.utf8_on.Statement.{statement}

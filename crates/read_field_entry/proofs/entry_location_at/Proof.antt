@@ -1,8 +1,8 @@
--- `field::location_at` meets its contract. Assumes nothing.
+-- `read_field_entry::entry_location_at` meets its contract. Assumes nothing.
 use borrow.Author.Needs.{needs}
 use Rattle.read_field_entry.proofs.Finding.{enter-no, enter-cut, enter-empty, enter-location, enter-unseen}
-use Rattle.read_field_entry.proofs.location_at.Statement.{statement}
-use Rattle.read_field_entry.proofs.location_at.Tie as tie
+use Rattle.read_field_entry.proofs.entry_location_at.Statement.{statement}
+use Rattle.read_field_entry.proofs.entry_location_at.Tie as tie
 
 found-at-requires : tie.Need-found-at-requires
 found-at-requires c κs = search needs
@@ -31,8 +31,8 @@ returns-4 c = search (enter-no, enter-cut, enter-empty, enter-location, enter-un
 returns-5 : tie.Need-returns-5
 returns-5 c = search (enter-no, enter-cut, enter-empty, enter-location, enter-unseen, needs)
 
-pub location-at-spec : {M : Type 1} → statement M
-location-at-spec =
+pub entry-location-at-spec : {M : Type 1} → statement M
+entry-location-at-spec =
     tie.close
     (tie.spec
     found-at-requires
