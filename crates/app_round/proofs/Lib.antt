@@ -1,1 +1,1 @@
-mod Loans
+pub mod Loans

@@ -82,7 +82,7 @@ fn read_into(
     qualifiers: &mut [usize],
     letters: &mut [u8],
 ) -> Next {
-    let answer = read_flat::read(
+    let answer = test_rows::read(
         s,
         at,
         texts,

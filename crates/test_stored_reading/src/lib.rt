@@ -92,7 +92,7 @@ fn read_lent(
     let e = lent(call, n, 5, qualifiers.len());
     let f = lent(call, n, 6, letters.len());
     let at = number_at(call, 0);
-    let answer = read_flat::read(
+    let answer = test_rows::read(
         input,
         at,
         &mut texts[0..a],

@@ -2,6 +2,7 @@
 use api_head::head_from;
 use api_told::tell_written;
 use spec_format::Head;
+use spec_format::How;
 use spec_format::WriteAnswer;
 use test_stored_lines::Checked;
 use test_stored_lines::count_answer;
@@ -24,25 +25,13 @@ fn write_by(
     head: Head,
     call: &[usize],
 ) -> WriteAnswer {
-    let width = number_at(call, 0);
-    let truncate = number_at(call, 1) != 0;
-    let escape = number_at(call, 2) != 0;
-    if keeping {
-        return write_flat::keep(
-            out,
-            texts,
-            references,
-            comments,
-            features,
-            qualifiers,
-            letters,
-            head,
-            width,
-            truncate,
-            escape,
-        );
-    }
-    write_flat::write(
+    let how = How {
+        keeping: keeping,
+        width: number_at(call, 0),
+        truncate: number_at(call, 1) != 0,
+        escape: number_at(call, 2) != 0,
+    };
+    test_rows::write(
         out,
         texts,
         references,
@@ -51,9 +40,7 @@ fn write_by(
         qualifiers,
         letters,
         head,
-        width,
-        truncate,
-        escape,
+        how,
     )
 }
 

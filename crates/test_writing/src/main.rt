@@ -3,6 +3,7 @@
 use spec_format::Date;
 use spec_format::Dated;
 use spec_format::Head;
+use spec_format::How;
 use spec_format::Length;
 use spec_format::ReadAnswer;
 use spec_format::SourceText;
@@ -103,7 +104,13 @@ fn write_plainly(
     escape: bool,
 ) -> WriteAnswer {
     let rows = [0usize; 0];
-    write_flat::write(
+    let plainly = How {
+        keeping: false,
+        width: width,
+        truncate: truncate,
+        escape: escape,
+    };
+    test_rows::write(
         out,
         texts,
         &rows,
@@ -112,9 +119,7 @@ fn write_plainly(
         qualifiers,
         letters,
         head,
-        width,
-        truncate,
-        escape,
+        plainly,
     )
 }
 
@@ -153,7 +158,13 @@ fn write_keeping(
     width: usize,
 ) -> WriteAnswer {
     let rows = [0usize; 0];
-    write_flat::keep(
+    let by_the_rules = How {
+        keeping: true,
+        width: width,
+        truncate: false,
+        escape: false,
+    };
+    test_rows::write(
         out,
         texts,
         &rows,
@@ -162,9 +173,7 @@ fn write_keeping(
         qualifiers,
         letters,
         head,
-        width,
-        false,
-        false,
+        by_the_rules,
     )
 }
 
@@ -583,7 +592,7 @@ fn read_back(s: &[u8]) {
     let mut features = [7usize; 6];
     let mut qualifiers = [7usize; 4];
     let mut letters = [35u8; 16];
-    let answer = read_flat::read(
+    let answer = test_rows::read(
         s,
         0,
         &mut texts,

@@ -1,0 +1,20 @@
+-- Four numbers and two behind them.
+use borrow.Author.Needs.{needs}
+use Rattle.base_pen.specs.Pen.{writes-append}
+use Rattle.test_rows.proofs.put_row.Statement.{statement}
+use Rattle.test_rows.proofs.put_row.Tie as tie
+
+put-four-requires : tie.Need-put-four-requires
+put-four-requires c κs = search needs
+
+put-two-requires : tie.Need-put-two-requires
+put-two-requires c κs = search needs
+
+same-length : tie.Need-same-length
+same-length c = search needs
+
+returns : tie.Need-returns
+returns c = writes-append (c .before .before .before .before .before .before .put-four .ensures) (c .before .before .put-two .ensures)
+
+pub put-row-spec : {M : Type 1} → statement M
+put-row-spec = tie.close (tie.spec put-four-requires put-two-requires same-length returns)

@@ -1,0 +1,3 @@
+-- Rows in a flat room, and what the tests get.
+pub mod Flats
+pub mod Through
