@@ -9,7 +9,7 @@ ghost use Rattle.scan_bytes.specs.Places.{part};
 ghost use Rattle.read_feature_table.specs.Reads.{Located, featureRest, FeatureRead, featuresIn, FeaturesRead};
 
 // How many qualifiers a feature has, the lengths of all its texts, and the place after it.
-pub enum FeatureAt {
+enum FeatureAt {
     Got {
         qualifiers: usize,
         bytes: usize,
@@ -62,7 +62,7 @@ fn feature_from(s: &[u8], at: usize, first: usize, end: usize, location: usize) 
     }
 }
 
-pub fn feature_at(s: &[u8], at: usize) -> FeatureAt
+fn feature_at(s: &[u8], at: usize) -> FeatureAt
     requires { ⌜ at ≤ length (now s) ⌝ }
     ensures { λ r. ⌜ FeatureRead (now (s .entry)) at (feature (drop at (now (s .entry)))) r ⌝ }
 {

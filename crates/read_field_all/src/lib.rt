@@ -1,4 +1,4 @@
-// The header's loop (`fill_seq_fields` of stream_parser.rs): where each entry stands that counts, and how many references and comments there are.
+// The header's loop (`fields` and `fill_seq_fields` of field.rs): where each entry stands that counts, and how many references and comments there are.
 use read_field_any::Field;
 use read_field_any::FieldAt;
 use read_field_entry::Entry;

@@ -1,4 +1,4 @@
--- `qualifiers::qualifier_at` meets its contract: one law for each way in which the key was read.
+-- `read_feature_qualifiers::qualifier_at` meets its contract: one law for each way in which the key was read.
 use borrow.Author.Needs.{needs}
 use Rattle.read_feature_qualifiers.proofs.Laws.{keying}
 use Rattle.read_feature_qualifiers.proofs.qualifier_at.Statement.{statement}

@@ -1,4 +1,4 @@
--- `qualifiers::qualifier_from` meets its contract: one law for each way in which the tail was read.
+-- `read_feature_qualifiers::qualifier_from` meets its contract: one law for each way in which the tail was read.
 use native.Mathlib.Omega.{arith}
 use borrow.Author.Needs.{needs}
 use Rattle.read_feature_qualifiers.proofs.Laws.{value-fits, tailing}

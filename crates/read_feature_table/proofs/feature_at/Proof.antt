@@ -1,4 +1,4 @@
--- `features::feature_at` meets its contract: one law for each way in which the kind was read.
+-- `read_feature_table::feature_at` meets its contract: one law for each way in which the kind was read.
 use borrow.Author.Needs.{needs}
 use Rattle.read_feature_table.proofs.Laws.{kinds}
 use Rattle.read_feature_table.proofs.feature_at.Statement.{statement}

@@ -1,4 +1,4 @@
--- `features::feature_from` meets its contract: one law for each way in which the location was read.
+-- `read_feature_table::feature_from` meets its contract: one law for each way in which the location was read.
 use borrow.Author.Needs.{needs}
 use Rattle.read_feature_table.proofs.Laws.{locating}
 use Rattle.read_feature_table.proofs.feature_from.Statement.{statement}

@@ -1,4 +1,4 @@
--- `features::feature_rest` meets its contract: one law for each way in which the qualifiers were read.
+-- `read_feature_table::feature_rest` meets its contract: one law for each way in which the qualifiers were read.
 use native.Mathlib.Omega.{arith}
 use borrow.Author.Needs.{needs}
 use Rattle.read_feature_table.proofs.Laws.{rest-fits, resting}

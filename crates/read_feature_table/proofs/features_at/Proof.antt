@@ -1,4 +1,4 @@
--- `features::features_at` meets its contract: what was counted and what is still to come are the whole.
+-- `read_feature_table::features_at` meets its contract: what was counted and what is still to come are the whole.
 use Prim.Native.Nat.{_-_}
 use lib.ListN.{length}
 use native.Mathlib.Omega.{arith}

@@ -1,4 +1,4 @@
--- `gather::entry_amount` meets its contract. Assumes nothing.
+-- `read_field_all::entry_amount` meets its contract. Assumes nothing.
 use borrow.Author.Needs.{needs}
 use Rattle.read_field_all.proofs.entry_amount.Statement.{statement}
 use Rattle.read_field_all.proofs.entry_amount.Tie as tie

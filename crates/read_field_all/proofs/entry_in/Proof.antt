@@ -1,4 +1,4 @@
--- `gather::entry_in` meets its contract. Assumes nothing.
+-- `read_field_all::entry_in` meets its contract. Assumes nothing.
 use borrow.Author.Needs.{needs}
 use Rattle.read_field_all.proofs.entry_in.Statement.{statement}
 use Rattle.read_field_all.proofs.entry_in.Tie as tie

@@ -1,4 +1,4 @@
--- `gather::header_at` meets its contract. Assumes nothing.
+-- `read_field_all::header_at` meets its contract. Assumes nothing.
 use Prim.Native.Nat.{_-_}
 use native.Mathlib.Omega.{arith}
 use lib.ListN.{length}

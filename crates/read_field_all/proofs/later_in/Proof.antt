@@ -1,4 +1,4 @@
--- `gather::later_in` meets its contract. Assumes nothing.
+-- `read_field_all::later_in` meets its contract. Assumes nothing.
 use borrow.Author.Needs.{needs}
 use Rattle.read_field_all.proofs.later_in.Statement.{statement}
 use Rattle.read_field_all.proofs.later_in.Tie as tie

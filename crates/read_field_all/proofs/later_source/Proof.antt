@@ -1,4 +1,4 @@
--- `gather::later_source` meets its contract. Assumes nothing.
+-- `read_field_all::later_source` meets its contract. Assumes nothing.
 use borrow.Author.Needs.{needs}
 use Rattle.read_field_all.proofs.later_source.Statement.{statement}
 use Rattle.read_field_all.proofs.later_source.Tie as tie

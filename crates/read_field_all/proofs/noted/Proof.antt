@@ -1,4 +1,4 @@
--- `gather::noted` meets its contract. Assumes nothing.
+-- `read_field_all::noted` meets its contract. Assumes nothing.
 use mathlib.Core.Path.{ap}
 use native.Mathlib.Omega.{arith}
 use Rattle.read_field_all.specs.declared.Amount.{Amount}
@@ -48,14 +48,29 @@ add-t21 : tie.Need-add-t21
 add-t21 c = omega (arith, ap (λ (a : Amount). a .bytes) (c .before .before .before .before .before .before .reference-amount .ensures), c .before .before .before .before .before .before .before .before .before .before .before .before .before .before .before .pre .reference-bytes)
 
 add-t22 : tie.Need-add-t22
-add-t22 c = omega (arith, ap (λ (a : Amount). a .count) (c .before .before .before .before .before .before .entry-amount .ensures), ap (λ (e : MayEntry). entryAmount e .count) (c .before .before .before .before .before .before .before .comment-in .ensures), c .before .before .before .before .before .before .before .before .before .before .before .before .before .before .before .before .before .pre .comments)
+add-t22 c =
+    let a = ap (λ (a : Amount). a .count) (c .before .before .before .before .before .before .entry-amount .ensures) in
+    let e = ap (λ (e : MayEntry). entryAmount e .count) (c .before .before .before .before .before .before .before .comment-in .ensures) in
+    let p = c .before .before .before .before .before .before .before .before .before .before .before .before .before .before .before .before .before .pre .comments in
+    omega (arith, a, e, p)
 
 add-t23 : tie.Need-add-t23
-add-t23 c = omega (arith, ap (λ (a : Amount). a .bytes) (c .before .before .before .before .before .before .before .before .entry-amount .ensures), ap (λ (e : MayEntry). entryAmount e .bytes) (c .before .before .before .before .before .before .before .before .before .comment-in .ensures), c .before .before .before .before .before .before .before .before .before .before .before .before .before .before .before .before .before .before .before .pre .comment-bytes)
+add-t23 c =
+    let a = ap (λ (a : Amount). a .bytes) (c .before .before .before .before .before .before .before .before .entry-amount .ensures) in
+    let e = ap (λ (e : MayEntry). entryAmount e .bytes) (c .before .before .before .before .before .before .before .before .before .comment-in .ensures) in
+    let p = c .before .before .before .before .before .before .before .before .before .before .before .before .before .before .before .before .before .before .before .pre .comment-bytes in
+    omega (arith, a, e, p)
 
 returns : tie.Need-returns
 unfolding noting
-returns c = rw (c .before .before .before .before .before .before .before .before .entry-amount .ensures, c .before .before .before .before .before .before .before .before .before .comment-in .ensures, c .before .before .before .before .before .before .before .before .before .before .reference-amount .ensures, c .before .before .before .before .before .before .before .before .before .before .before .later-source .ensures, c .before .before .before .before .before .before .before .before .before .before .before .before .later-in5 .ensures, c .before .before .before .before .before .before .before .before .before .before .before .before .before .later-in4 .ensures, c .before .before .before .before .before .before .before .before .before .before .before .before .before .before .later-in3 .ensures, c .before .before .before .before .before .before .before .before .before .before .before .before .before .before .before .later-in2 .ensures, c .before .before .before .before .before .before .before .before .before .before .before .before .before .before .before .before .later-in .ensures, c .before .before .before .before .before .before .before .before .before .before .before .before .before .before .before .before .before .twice-by .ensures, c .before .before .before .before .before .before .before .before .before .before .before .before .before .before .before .before .before .before .entry-in .ensures)
+returns c =
+    let c8 = c .before .before .before .before .before .before .before .before in
+    let c10 = c8 .before .before in
+    let c12 = c10 .before .before in
+    let c14 = c12 .before .before in
+    let c16 = c14 .before .before in
+    let c18 = c16 .before .before in
+    rw (c8 .entry-amount .ensures, c8 .before .comment-in .ensures, c10 .reference-amount .ensures, c10 .before .later-source .ensures, c12 .later-in5 .ensures, c12 .before .later-in4 .ensures, c14 .later-in3 .ensures, c14 .before .later-in2 .ensures, c16 .later-in .ensures, c16 .before .twice-by .ensures, c18 .entry-in .ensures)
 
 pub noted-spec : {M : Type 1} → statement M
 noted-spec =

@@ -1,4 +1,4 @@
--- `gather::only_if` meets its contract. Assumes nothing.
+-- `read_field_all::only_if` meets its contract. Assumes nothing.
 use Rattle.read_field_all.proofs.only_if.Statement.{statement}
 use Rattle.read_field_all.proofs.only_if.Tie as tie
 

@@ -1,4 +1,4 @@
--- `gather::reference_amount` meets its contract. Assumes nothing.
+-- `read_field_all::reference_amount` meets its contract. Assumes nothing.
 use borrow.Author.Needs.{needs}
 use Rattle.read_field_all.proofs.reference_amount.Statement.{statement}
 use Rattle.read_field_all.proofs.reference_amount.Tie as tie

@@ -1,4 +1,4 @@
--- `headerfields::from_dblink` meets its contract. Assumes nothing.
+-- `read_field_any::from_dblink` meets its contract. Assumes nothing.
 use borrow.Author.Needs.{needs}
 use Rattle.read_field_any.specs.Tries.{fromDblink}
 use Rattle.read_field_any.proofs.Laws.{entering}

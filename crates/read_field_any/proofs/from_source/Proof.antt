@@ -1,4 +1,4 @@
--- `headerfields::from_source` meets its contract. Assumes nothing.
+-- `read_field_any::from_source` meets its contract. Assumes nothing.
 use borrow.Author.Needs.{needs}
 use Rattle.read_field_any.specs.Tries.{fromSource}
 use Rattle.read_field_any.proofs.Laws.{nesting}

@@ -1,4 +1,4 @@
--- `headerfields::header_field_at` meets its contract. Assumes nothing.
+-- `read_field_any::header_field_at` meets its contract. Assumes nothing.
 use borrow.Author.Needs.{needs}
 use Rattle.read_field_any.proofs.Laws.{entering, field-tried}
 use Rattle.read_field_any.proofs.header_field_at.Statement.{statement}

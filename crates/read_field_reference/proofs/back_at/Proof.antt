@@ -1,4 +1,4 @@
--- `references::back_at` meets its contract. Assumes nothing.
+-- `read_field_reference::back_at` meets its contract. Assumes nothing.
 use borrow.Author.Needs.{needs}
 use Rattle.read_field_reference.proofs.Laws.{known-pair, known-end, backing}
 use Rattle.read_field_reference.proofs.back_at.Statement.{statement}

@@ -1,4 +1,4 @@
--- `references::end_at` meets its contract. Assumes nothing.
+-- `read_field_reference::end_at` meets its contract. Assumes nothing.
 use borrow.Author.Needs.{needs}
 use Rattle.read_field_optional.specs.Knowing.{known-may}
 use Rattle.read_field_reference.proofs.Laws.{ending}
@@ -36,7 +36,12 @@ may-length-requires-2 : tie.Need-may-length-requires-2
 may-length-requires-2 c κs = search needs
 
 add-t19 : tie.Need-add-t19
-add-t19 c = let w = known-may (c .before .before .before .before .before .before .before .before .before .before .may-field-at .ensures) (c .before .before .before .before .before .before .before .before .pubmed .given .1) in let v = known-may (c .before .before .before .before .before .may-field-at2 .ensures) (c .before .before .before .remark .given .1) in let n = c .before .may-length .ensures in let i = c .may-length2 .ensures in search needs
+add-t19 c =
+    let w = known-may (c .before .before .before .before .before .before .before .before .before .before .may-field-at .ensures) (c .before .before .before .before .before .before .before .before .pubmed .given .1) in
+    let v = known-may (c .before .before .before .before .before .may-field-at2 .ensures) (c .before .before .before .remark .given .1) in
+    let n = c .before .may-length .ensures in
+    let i = c .may-length2 .ensures in
+    search needs
 
 returns : tie.Need-returns
 returns c = search (ending, needs)

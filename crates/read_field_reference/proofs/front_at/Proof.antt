@@ -1,4 +1,4 @@
--- `references::front_at` meets its contract. Assumes nothing.
+-- `read_field_reference::front_at` meets its contract. Assumes nothing.
 use borrow.Author.Needs.{needs}
 use Rattle.read_field_optional.specs.Knowing.{known-may}
 use Rattle.read_field_reference.proofs.Laws.{known-pair, fronting}
@@ -39,7 +39,11 @@ may-length-requires : tie.Need-may-length-requires
 may-length-requires c κs = search needs
 
 add-t24 : tie.Need-add-t24
-add-t24 c = let w = known-pair (c .before .before .before .before .before .before .before .before .before .pair-at .ensures) (c .before .before .before .before .before .before .before .text .given .1) in let v = known-may (c .before .before .before .before .may-field-at .ensures) (c .before .before .entry .given .1) in let n = c .may-length .ensures in search needs
+add-t24 c =
+    let w = known-pair (c .before .before .before .before .before .before .before .before .before .pair-at .ensures) (c .before .before .before .before .before .before .before .text .given .1) in
+    let v = known-may (c .before .before .before .before .may-field-at .ensures) (c .before .before .entry .given .1) in
+    let n = c .may-length .ensures in
+    search needs
 
 returns : tie.Need-returns
 returns c = search (fronting, needs)

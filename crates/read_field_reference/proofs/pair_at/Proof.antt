@@ -1,4 +1,4 @@
--- `references::pair_at` meets its contract. Assumes nothing.
+-- `read_field_reference::pair_at` meets its contract. Assumes nothing.
 use borrow.Author.Needs.{needs}
 use Rattle.read_field_optional.specs.Knowing.{known-entry, known-may}
 use Rattle.read_field_reference.proofs.Laws.{pairing}
@@ -30,7 +30,11 @@ may-length-requires : tie.Need-may-length-requires
 may-length-requires c κs = search needs
 
 add-t15 : tie.Need-add-t15
-add-t15 c = let w = known-entry (c .before .before .before .before .before .before .before .before .before .field-at .ensures) (c .before .before .before .before .before .before .before .text .given .1) in let v = known-may (c .before .before .before .before .before .may-field-at .ensures) (c .before .before .before .entry .given .1) in let n = c .before .may-length .ensures in search needs
+add-t15 c =
+    let w = known-entry (c .before .before .before .before .before .before .before .before .before .field-at .ensures) (c .before .before .before .before .before .before .before .text .given .1) in
+    let v = known-may (c .before .before .before .before .before .may-field-at .ensures) (c .before .before .before .entry .given .1) in
+    let n = c .before .may-length .ensures in
+    search needs
 
 returns : tie.Need-returns
 returns c = search (pairing, needs)

@@ -1,4 +1,4 @@
--- `references::reference_at` meets its contract. Assumes nothing.
+-- `read_field_reference::reference_at` meets its contract. Assumes nothing.
 use borrow.Author.Needs.{needs}
 use Rattle.read_field_reference.proofs.Laws.{known-front, known-back, referring}
 use Rattle.read_field_reference.proofs.reference_at.Statement.{statement}
@@ -32,7 +32,10 @@ joined-requires : tie.Need-joined-requires
 joined-requires c κs = search needs
 
 add-t14 : tie.Need-add-t14
-add-t14 c = let w = known-front (c .before .before .before .before .before .before .before .before .front-at .ensures) (c .before .before .before .before .before .before .front .given .1) in let v = known-back (c .before .before .before .before .back-at .ensures) (c .before .before .back .given .1) in search needs
+add-t14 c =
+    let w = known-front (c .before .before .before .before .before .before .before .before .front-at .ensures) (c .before .before .before .before .before .before .front .given .1) in
+    let v = known-back (c .before .before .before .before .back-at .ensures) (c .before .before .back .given .1) in
+    search needs
 
 returns : tie.Need-returns
 returns c = search (referring, needs)
