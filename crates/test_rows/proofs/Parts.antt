@@ -13,7 +13,7 @@ use base.Logic.{ent, sep}
 use base.Fml.{Fml}
 use prog.Wp.{Heap}
 use ghost.Atoms.{Atoms, sem}
-use types.Kit.{Given, ‵, _⊛_, _$_, _∵_, !, qed, by, move, use1, use2, rewrite, split, join, done}
+use types.Kit.{Given, ‵, _$_, _∵_, !, qed, by, use2, rewrite, done}
 use types.SemTy.{cells}
 use denote.RattleType.{RattleType}
 use denote.Memory.{mem}

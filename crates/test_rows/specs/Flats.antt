@@ -1,7 +1,6 @@
 -- The rows of structs that stand in a flat room: a row fetched from it, a turn of the loop that fetches, and one of the loop that puts.
 use Prim.Native.Nat.{ℕ, zero, suc, _+_, _*_, _≤_, _<_}
 use native.Mathlib.Nat.{not-suc-le-zero, le-of-suc-le-suc, suc-add}
-use native.Mathlib.Numerals.{add-one}
 use native.Mathlib.Omega.{arith}
 use mathlib.Core.Path.{_≡_, refl, sym, ap, _∙_}
 use mathlib.Core.List.{List, [], _∷_, _++_}
@@ -47,7 +46,8 @@ take-stored (x ∷ rows) (suc i) f h = ap (λ (l : List Feature). x ∷ l) (take
 six-more : (i : ℕ) → 6 * (i + 1) ≡ 6 * i + 6
 six-more i = omega arith
 
-pub fetched-on : (rows : List Feature) (i : ℕ) (f : Feature) (t : List ℕ) → i < length rows → flat (take i rows) ≡ take (6 * i) t → numbers f ≡ take 6 (drop (6 * i) t) → flat (take (i + 1) (set rows i f)) ≡ take (6 * (i + 1)) t
+pub fetched-on : (rows : List Feature) (i : ℕ) (f : Feature) (t : List ℕ) → i < length rows
+    → flat (take i rows) ≡ take (6 * i) t → numbers f ≡ take 6 (drop (6 * i) t) → flat (take (i + 1) (set rows i f)) ≡ take (6 * (i + 1)) t
 fetched-on rows i f t h e q =
     let z : i + 1 ≡ suc i = omega arith in
     rw z (ap flat (take-stored rows i f h)) ∙ flat-append (take i rows) (f ∷ []) ∙ rw (flat-one f, e, q, six-more i) (sym (take-add (6 * i) 6 t))
@@ -74,14 +74,16 @@ row-next n rows i d h k =
     let l : length (take n rows) ≡ n = length-take-le n rows k in
     ap flat (drop-cons (take n rows) i d (omega (arith, l))) ∙ rw (getD-taken n rows i d h, z)
 
-pub put-on : (l x m o : List ℕ) (j k n : ℕ) (rows : List Feature) (i : ℕ) (d : Feature) → Left l 0 x m j (flat (drop i (take n rows))) → i < n → n ≤ length rows → Writes m j (numbers (getD rows i d)) o k → Left l 0 x o k (flat (drop (i + 1) (take n rows)))
+pub put-on : (l x m o : List ℕ) (j k n : ℕ) (rows : List Feature) (i : ℕ) (d : Feature)
+    → Left l 0 x m j (flat (drop i (take n rows))) → i < n → n ≤ length rows → Writes m j (numbers (getD rows i d)) o k → Left l 0 x o k (flat (drop (i + 1) (take n rows)))
 put-on l x m o j k n rows i d p h q w = left-step (left-as (row-next n rows i d h q) p) w
 
 none-left : (ys : List Feature) (n : ℕ) → length ys ≤ n → flat (drop n ys) ≡ []
 unfolding flat
 none-left ys n h = rw (drop-of-length-le ys {i = n} h)
 
-pub put-done : (l m : List ℕ) (j n : ℕ) (rows : List Feature) (i : ℕ) → Left l 0 (flat (take n rows)) m j (flat (drop i (take n rows))) → n ≤ i → n ≤ length rows → n ≤ 42 → m ≡ sets l 0 (flat (take n rows))
+pub put-done : (l m : List ℕ) (j n : ℕ) (rows : List Feature) (i : ℕ)
+    → Left l 0 (flat (take n rows)) m j (flat (drop i (take n rows))) → n ≤ i → n ≤ length rows → n ≤ 42 → m ≡ sets l 0 (flat (take n rows))
 put-done l m j n rows i p h k s =
     let e : length (take n rows) ≡ n = length-take-le n rows k in
     let z : flat (drop i (take n rows)) ≡ [] = none-left (take n rows) i (omega (arith, e)) in

@@ -8,7 +8,7 @@ use spec_format::Span;
 use spec_format::Unread;
 use spec_format::Unwritten;
 use spec_format::WriteAnswer;
-ghost use Prim.Native.Nat.{_*_, _+_, _<_, _≤_};
+ghost use Prim.Native.Nat.{_*_, _+_, _/_, _<_, _≤_};
 ghost use lib.ListN.{length, take, drop};
 ghost use lib.Seq.{sets};
 ghost use mathlib.Core.Path.{_≡_};
@@ -16,7 +16,7 @@ ghost use Rattle.base_pen.specs.Pen.{Writes};
 ghost use Rattle.base_rows.specs.Rows.{numbers, flat};
 ghost use Rattle.spec_contracts.specs.Writes.{WriteAnswered};
 ghost use Rattle.spec_format.specs.Rooms.{roomsIn};
-ghost use Rattle.test_rows.specs.Through.{Through};
+ghost use Rattle.test_rows.specs.Through.{first, Through};
 
 // As many rows as any test lends: the rooms of stored answers have 256 numbers. A flat room of more rows is refused, by 3 in reading and by 10 in writing, so that a test which lends it fails.
 const MOST_ROWS: usize = 42;
@@ -133,7 +133,9 @@ pub fn read(
     features: &mut [usize],
     qualifiers: &mut [usize],
     letters: &mut [u8],
-) -> ReadAnswer {
+) -> ReadAnswer
+    ensures { λ r. ⌜ (length (now (features .entry)) / 6 ≤ 42 → Through (now (s .entry)) at (6 * (length (now (features .entry)) / 6)) (roomsIn (now (texts .entry)) (now (references .entry)) (now (comments .entry)) (now (features .entry)) (now (qualifiers .entry)) (now (letters .entry))) (roomsIn (now (texts .exit)) (now (references .exit)) (now (comments .exit)) (now (features .exit)) (now (qualifiers .exit)) (now (letters .exit))) r) ⌝ }
+{
     let n = features.len() / 6;
     if MOST_ROWS < n {
         return ReadAnswer::Refused(Unread::BadPlace);
@@ -194,7 +196,9 @@ pub fn write(
     letters: &[u8],
     head: Head,
     how: How,
-) -> WriteAnswer {
+) -> WriteAnswer
+    ensures { λ r. ⌜ (length (now (features .entry)) / 6 ≤ 42 → WriteAnswered how (first (6 * (length (now (features .entry)) / 6)) (roomsIn (now (texts .entry)) (now (references .entry)) (now (comments .entry)) (now (features .entry)) (now (qualifiers .entry)) (now (letters .entry)))) head (now (out .entry)) (now (out .exit)) r) ⌝ }
+{
     let n = features.len() / 6;
     if MOST_ROWS < n {
         return WriteAnswer::Refused(Unwritten::BadRooms);
