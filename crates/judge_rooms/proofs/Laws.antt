@@ -1,13 +1,12 @@
 -- The steps of a feature's tests, as its functions take them.
 use Prim.Native.Nat.{ℕ, _+_, _-_, _/_, _≤_, _<_}
-use mathlib.Core.Path.{_≡_, refl, sym, ap, _∙_}
+use mathlib.Core.Path.{_≡_, refl, sym, _∙_}
 use mathlib.Core.Bool.{Bool, true, false, _&&_, not, false≢true}
-use mathlib.Core.List.{List}
 use native.Mathlib.Omega.{arith}
 use lib.ListN.{length, getD}
 use borrow.Author.Tests.{not-true, not-false, le-leb, lt-leb, eq-eqb, ne-eqb}
 use Rattle.spec_format.specs.Rooms.{Rooms, rowsFine, spanFine, rowTextFine, qualifierRowFine, qualifiersFine, countsFine}
-use Rattle.judge_rooms.specs.Parts.{Within, featureNext, qualifierRooms, featureRooms}
+use Rattle.judge_rooms.specs.Parts.{Within, featureNext, qualifierRooms}
 use Rattle.judge_rooms.specs.Steps.{span-within}
 use Rattle.judge_rooms.specs.declared.Next.the-variants as next
 use Rattle.judge_rooms.specs.Facts.{CountsIn, counts-in}
@@ -58,3 +57,8 @@ module _ (r : Rooms) (at from : ℕ) (b : Bool) (h : b ≡ (rowTextFine r (r .fe
 
 pub counts-held : (r : Rooms) (h : Head) (a : Bool) → a ≡ countsFine r h → not a ≡ false → CountsIn r h
 counts-held r h a e t = counts-in r h (sym e ∙ not-false a t)
+
+-- the last test, where the definition has one more that holds of itself
+pub last : (a x : Bool) → a ≡ x → a ≡ (x && true)
+last a true e = e
+last a false e = e

@@ -1,15 +1,14 @@
 -- What is known of rooms and a head for which number 10 is not due.
 use Prim.Native.Nat.{ℕ, zero, suc, _+_, _-_, _*_, _/_, _≤_, _<_}
-use mathlib.Core.Path.{_≡_, refl, sym, ap, _∙_}
+use mathlib.Core.Path.{_≡_, refl}
 use mathlib.Core.Bool.{Bool, true, false, _&&_, not, false≢true}
 use mathlib.Core.List.{List}
 use native.Mathlib.Omega.{arith}
 use native.Mathlib.Decide.{decLe}
 use native.Mathlib.Nat.{lt-of-not-le}
 use lib.ListN.{length, getD}
-use lib.Dec.{eqb, leb}
-use borrow.Author.Tests.{not-true, not-false, leb-true, eqb-true, ne-eqb}
-use Rattle.spec_format.specs.Bytes.{pick}
+use lib.Dec.{eqb}
+use borrow.Author.Tests.{leb-true, eqb-true, ne-eqb}
 use Rattle.spec_format.specs.Record.{most}
 use Rattle.spec_format.specs.Rooms.{Rooms, spanFine, textFine, sourceFine, rowTextFine, rowPerhapsFine, rowsFine, referenceRowFine, commentRowFine, qualifierRowFine, qualifiersFine, featuresFine, lengthsFine, headFine, countsFine, roomsFine}
 use Rattle.spec_format.specs.declared.Span.{Span}

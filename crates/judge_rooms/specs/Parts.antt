@@ -7,6 +7,7 @@ use lib.ListN.{length, getD}
 use lib.Dec.{eqb}
 use Rattle.spec_format.specs.Bytes.{pick}
 use Rattle.spec_format.specs.Rooms.{Rooms, rowTextFine, qualifiersFine, roomsIn}
+use Rattle.spec_format.specs.declared.Head.{Head}
 use Rattle.judge_rooms.specs.declared.Next.{Next}
 use Rattle.judge_rooms.specs.declared.Next.the-variants as next
 
@@ -22,6 +23,29 @@ qualifierRooms t q = roomsIn t [] [] [] q []
 
 abbrev pub featureRooms : List ℕ → List ℕ → List ℕ → Rooms
 featureRooms t f q = roomsIn t [] [] f q []
+
+-- the head of a table without its features
+abbrev pub noRows : Head → Head
+noRows h =
+    record {
+      name = h .name;
+      length = h .length;
+      molecule = h .molecule;
+      circular = h .circular;
+      division = h .division;
+      date = h .date;
+      definition = h .definition;
+      accession = h .accession;
+      version = h .version;
+      dblink = h .dblink;
+      keywords = h .keywords;
+      source = h .source;
+      references = h .references;
+      comments = h .comments;
+      features = 0;
+      contig = h .contig;
+      letters = h .letters;
+    }
 
 -- the test of a feature's qualifiers, and that their end is a number
 pub record Within (r : Rooms) (from first count : ℕ) (ok : Bool) : Type 0 where

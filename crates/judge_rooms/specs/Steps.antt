@@ -1,17 +1,15 @@
 -- Steps of tests: two in a row, rows one after the other, features one after the other.
-use Prim.Native.Nat.{ℕ, zero, suc, _+_, _-_, _*_, _/_, _≤_, _<_}
-use mathlib.Core.Path.{_≡_, refl, sym, ap, _∙_}
+use Prim.Native.Nat.{ℕ, zero, suc, _+_, _-_, _*_, _≤_, _<_}
+use mathlib.Core.Path.{_≡_, refl, sym, _∙_}
 use mathlib.Core.Bool.{Bool, true, false, _&&_, not, false≢true}
-use mathlib.Core.List.{List, []}
 use native.Mathlib.Omega.{arith}
 use native.Mathlib.Decide.{decLe}
 use native.Mathlib.Nat.{lt-of-not-le}
-use lib.ListN.{length, getD}
+use lib.ListN.{getD}
 use lib.Dec.{eqb, leb}
-use borrow.Author.Tests.{not-true, not-false, leb-true, eqb-true}
-use Rattle.spec_format.specs.Bytes.{pick}
-use Rattle.spec_format.specs.Rooms.{Rooms, rowsFine, spanFine, rowTextFine, qualifierRowFine, qualifiersFine, featuresFine, roomsIn}
-use Rattle.judge_rooms.specs.Parts.{Within, featureNext, featureRooms}
+use borrow.Author.Tests.{not-true, not-false, leb-true}
+use Rattle.spec_format.specs.Rooms.{Rooms, rowsFine, spanFine, rowTextFine, qualifierRowFine, qualifiersFine, featuresFine}
+use Rattle.judge_rooms.specs.Parts.{featureNext, featureRooms}
 use Rattle.judge_rooms.specs.declared.Next.{Next}
 use Rattle.judge_rooms.specs.declared.Next.the-variants as next
 
@@ -117,16 +115,3 @@ module _ (r : Rooms) (i n from : ℕ) where
 pub next-alike : (r : Rooms) (at from : ℕ) → featureNext (featureRooms (r .texts) (r .features) (r .qualifiers)) at from ≡ featureNext r at from
 unfolding featureNext qualifiersFine qualifierRowFine
 next-alike r at from = refl
-
-features-none : (r : Rooms) (i from : ℕ) → featuresFine (featureRooms (r .texts) (r .features) (r .qualifiers)) i from 0 ≡ featuresFine r i from 0
-unfolding featuresFine
-features-none r i from = refl
-
-pub features-alike : (r : Rooms) (i from n : ℕ) → featuresFine (featureRooms (r .texts) (r .features) (r .qualifiers)) i from n ≡ featuresFine r i from n
-features-alike r i from zero = features-none r i from
-features-alike r i from (suc n) = rw (features-step, features-step, next-alike) (go (λ f. features-alike r (i + 1) f n) (featureNext r (6 * i) from))
-  where
-    go : ((f : ℕ) → featuresFine (featureRooms (r .texts) (r .features) (r .qualifiers)) (i + 1) f n ≡ featuresFine r (i + 1) f n) → (o : Next)
-        → afterNext (featureRooms (r .texts) (r .features) (r .qualifiers)) i n o ≡ afterNext r i n o
-    go ih (next.From f) = ih f
-    go ih next.Wrong = refl

@@ -9,9 +9,9 @@ ghost use mathlib.Core.Path.{_≡_};
 ghost use mathlib.Core.Bool.{_&&_};
 ghost use mathlib.Core.List.{[]};
 ghost use Prim.Native.Nat.{_+_, _-_, _*_, _/_, _≤_, _<_};
-ghost use lib.ListN.{length, getD};
-ghost use Rattle.spec_format.specs.Rooms.{spanFine, textFine, sourceFine, rowTextFine, rowPerhapsFine, rowsFine, referenceRowFine, commentRowFine, qualifierRowFine, qualifiersFine, featuresFine, lengthsFine, headFine, countsFine, roomsFine, roomsIn};
-ghost use Rattle.judge_rooms.specs.Parts.{referenceRooms, commentRooms, qualifierRooms, featureRooms, featureNext, Within};
+ghost use lib.ListN.{length};
+ghost use Rattle.spec_format.specs.Rooms.{spanFine, textFine, sourceFine, rowTextFine, rowPerhapsFine, rowsFine, referenceRowFine, commentRowFine, qualifierRowFine, lengthsFine, headFine, countsFine, roomsFine, roomsIn};
+ghost use Rattle.judge_rooms.specs.Parts.{referenceRooms, commentRooms, qualifierRooms, featureRooms, featureNext, noRows, Within};
 
 // No sum is made, so none can wrap.
 pub fn span_fine(room: usize, start: usize, n: usize) -> bool
@@ -184,38 +184,20 @@ pub fn feature_next(
     Next::From(first + count)
 }
 
-fn features_fine(texts: &[u8], features: &[usize], qualifiers: &[usize], n: usize) -> bool
-    requires { ⌜ 6 * n ≤ length (now features) ⌝ }
-    ensures { λ r. ⌜ r ≡ featuresFine (featureRooms (now (texts .entry)) (now (features .entry)) (now (qualifiers .entry))) 0 0 n ⌝ }
-{
-    let mut from = 0;
-    let mut i = 0;
-    while i < n {
-        let Next::From(next) = feature_next(texts, features, qualifiers, 6 * i, from) else {
-            return false;
-        };
-        from = next;
-        i += 1;
-    }
-    true
-}
-
 // Rooms of rows are measured in rows.
 fn lengths_fine(
     texts: &[u8],
     references: &[usize],
     comments: &[usize],
-    features: &[usize],
     qualifiers: &[usize],
     letters: &[u8],
 ) -> bool
-    ensures { λ r. ⌜ r ≡ lengthsFine (roomsIn (now (texts .entry)) (now (references .entry)) (now (comments .entry)) (now (features .entry)) (now (qualifiers .entry)) (now (letters .entry))) ⌝ }
+    ensures { λ r. ⌜ r ≡ lengthsFine (roomsIn (now (texts .entry)) (now (references .entry)) (now (comments .entry)) [] (now (qualifiers .entry)) (now (letters .entry))) ⌝ }
 {
     let one = both(qualifiers.len() / 4 <= MOST, letters.len() <= MOST);
-    let two = both(features.len() / 6 <= MOST, one);
-    let three = both(comments.len() / 2 <= MOST, two);
-    let four = both(references.len() / 14 <= MOST, three);
-    both(texts.len() <= MOST, four)
+    let two = both(comments.len() / 2 <= MOST, one);
+    let three = both(references.len() / 14 <= MOST, two);
+    both(texts.len() <= MOST, three)
 }
 
 // The texts of LOCUS, and what else there is to test.
@@ -272,49 +254,38 @@ fn head_fine(texts: &[u8], head: Head) -> bool
     locus_texts_fine(room, name, molecule, division, header)
 }
 
-fn counts_fine(
-    references: &[usize],
-    comments: &[usize],
-    features: &[usize],
-    letters: &[u8],
-    head: Head,
-) -> bool
-    ensures { λ r. ⌜ r ≡ countsFine (roomsIn [] (now (references .entry)) (now (comments .entry)) (now (features .entry)) [] (now (letters .entry))) head ⌝ }
+fn counts_fine(references: &[usize], comments: &[usize], letters: &[u8], head: Head) -> bool
+    ensures { λ r. ⌜ r ≡ countsFine (roomsIn [] (now (references .entry)) (now (comments .entry)) [] [] (now (letters .entry))) (noRows head) ⌝ }
 {
     let one = both(
-        head.features <= features.len() / 6,
+        head.comments <= comments.len() / 2,
         head.letters <= letters.len(),
     );
-    let two = both(head.comments <= comments.len() / 2, one);
-    both(head.references <= references.len() / 14, two)
+    both(head.references <= references.len() / 14, one)
 }
 
-// Number 10 is not due.
-pub fn rooms_fine(
+// Number 10 is not due for anything but the features: of each of those `feature_next` says it.
+pub fn rest_fine(
     texts: &[u8],
     references: &[usize],
     comments: &[usize],
-    features: &[usize],
     qualifiers: &[usize],
     letters: &[u8],
     head: Head,
 ) -> bool
-    ensures { λ r. ⌜ r ≡ roomsFine (roomsIn (now (texts .entry)) (now (references .entry)) (now (comments .entry)) (now (features .entry)) (now (qualifiers .entry)) (now (letters .entry))) head ⌝ }
+    ensures { λ r. ⌜ r ≡ roomsFine (roomsIn (now (texts .entry)) (now (references .entry)) (now (comments .entry)) [] (now (qualifiers .entry)) (now (letters .entry))) (noRows head) ⌝ }
 {
-    if !lengths_fine(texts, references, comments, features, qualifiers, letters) {
+    if !lengths_fine(texts, references, comments, qualifiers, letters) {
         return false;
     }
     if !head_fine(texts, head) {
         return false;
     }
-    if !counts_fine(references, comments, features, letters, head) {
+    if !counts_fine(references, comments, letters, head) {
         return false;
     }
     if !references_fine(texts, references, head.references) {
         return false;
     }
-    if !comments_fine(texts, comments, head.comments) {
-        return false;
-    }
-    features_fine(texts, features, qualifiers, head.features)
+    comments_fine(texts, comments, head.comments)
 }

@@ -1,4 +1,4 @@
--- The four counts, joined from the last to the first.
+-- The three counts, joined from the last to the first.
 use Rattle.spec_format.specs.Rooms.{countsFine}
 use Rattle.judge_rooms.specs.Steps.{both-is}
 use borrow.Author.Needs.{needs}
@@ -11,12 +11,9 @@ both-requires c κs = search needs
 both-requires-2 : tie.Need-both-requires-2
 both-requires-2 c κs = search needs
 
-both-requires-3 : tie.Need-both-requires-3
-both-requires-3 c κs = search needs
-
 returns : tie.Need-returns
 unfolding countsFine
 returns c = search (both-is, needs) depth 20 fits 20000
 
 pub counts-fine-spec : {M : Type 1} → statement M
-counts-fine-spec = tie.close (tie.spec both-requires both-requires-2 both-requires-3 returns)
+counts-fine-spec = tie.close (tie.spec both-requires both-requires-2 returns)

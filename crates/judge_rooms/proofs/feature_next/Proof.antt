@@ -22,7 +22,9 @@ both-requires : tie.Need-both-requires
 both-requires c κs = search needs
 
 returns : tie.Need-returns
-returns c = texts-wrong (featureRooms (now (c .before .before .before .before .before .before .before .args .texts)) (now (c .before .before .before .before .before .before .before .args .features)) (now (c .before .before .before .before .before .before .before .args .qualifiers))) _ _ _ (both-is _ _ _ _ _ (c .before .both .ensures) (c .before .before .before .row-text-fine .ensures) (c .before .before .row-text-fine2 .ensures)) (c .if1 .taken)
+returns c =
+    let a = c .before .before .before .before .before .before .before .args in
+    texts-wrong (featureRooms (now (a .texts)) (now (a .features)) (now (a .qualifiers))) _ _ _ (both-is _ _ _ _ _ (c .before .both .ensures) (c .before .before .before .row-text-fine .ensures) (c .before .before .row-text-fine2 .ensures)) (c .if1 .taken)
 
 add-first : tie.Need-add-first
 add-first c = search needs
@@ -43,19 +45,28 @@ shared-slice-read-count : tie.Need-shared-slice-read-count
 shared-slice-read-count c = search needs
 
 returns-2 : tie.Need-returns-2
-returns-2 c = no-qualifiers (featureRooms (now (c .before .before .before .before .before .before .before .before .before .before .args .texts)) (now (c .before .before .before .before .before .before .before .before .before .before .args .features)) (now (c .before .before .before .before .before .before .before .before .before .before .args .qualifiers))) _ _ _ (both-is _ _ _ _ _ (c .before .before .before .before .both .ensures) (c .before .before .before .before .before .before .row-text-fine .ensures) (c .before .before .before .before .before .row-text-fine2 .ensures)) (c .before .before .before .if1 .left) (c .if2 .taken)
+returns-2 c =
+    let a = c .before .before .before .before .before .before .before .before .before .before .args in
+    let d = c .before .before .before in
+    no-qualifiers (featureRooms (now (a .texts)) (now (a .features)) (now (a .qualifiers))) _ _ _ (both-is _ _ _ _ _ (d .before .both .ensures) (d .before .before .before .row-text-fine .ensures) (d .before .before .row-text-fine2 .ensures)) (d .if1 .left) (c .if2 .taken)
 
 qualifiers-fine-requires : tie.Need-qualifiers-fine-requires
 qualifiers-fine-requires c κs = search needs
 
 returns-3 : tie.Need-returns-3
-returns-3 c = qualifiers-wrong (featureRooms (now (c .before .before .before .before .before .before .before .before .before .before .before .before .args .texts)) (now (c .before .before .before .before .before .before .before .before .before .before .before .before .args .features)) (now (c .before .before .before .before .before .before .before .before .before .before .before .before .args .qualifiers))) _ _ _ (both-is _ _ _ _ _ (c .before .before .before .before .before .before .both .ensures) (c .before .before .before .before .before .before .before .before .row-text-fine .ensures) (c .before .before .before .before .before .before .before .row-text-fine2 .ensures)) (c .before .before .before .before .before .if1 .left) (c .before .before .if2 .left) _ (c .before .qualifiers-fine .ensures) (c .if3 .taken)
+returns-3 c =
+    let a = c .before .before .before .before .before .before .before .before .before .before .before .before .args in
+    let d = c .before .before .before .before .before in
+    qualifiers-wrong (featureRooms (now (a .texts)) (now (a .features)) (now (a .qualifiers))) _ _ _ (both-is _ _ _ _ _ (d .before .both .ensures) (d .before .before .before .row-text-fine .ensures) (d .before .before .row-text-fine2 .ensures)) (d .if1 .left) (c .before .before .if2 .left) _ (c .before .qualifiers-fine .ensures) (c .if3 .taken)
 
 add-t13 : tie.Need-add-t13
 add-t13 c = omega (arith, c .before .qualifiers-fine .ensures .end (not-false _ (c .if3 .left)))
 
 returns-4 : tie.Need-returns-4
-returns-4 c = qualifiers-end (featureRooms (now (c .before .before .before .before .before .before .before .before .before .before .before .before .args .texts)) (now (c .before .before .before .before .before .before .before .before .before .before .before .before .args .features)) (now (c .before .before .before .before .before .before .before .before .before .before .before .before .args .qualifiers))) _ _ _ (both-is _ _ _ _ _ (c .before .before .before .before .before .before .both .ensures) (c .before .before .before .before .before .before .before .before .row-text-fine .ensures) (c .before .before .before .before .before .before .before .row-text-fine2 .ensures)) (c .before .before .before .before .before .if1 .left) (c .before .before .if2 .left) _ (c .before .qualifiers-fine .ensures) (c .if3 .left)
+returns-4 c =
+    let a = c .before .before .before .before .before .before .before .before .before .before .before .before .args in
+    let d = c .before .before .before .before .before in
+    qualifiers-end (featureRooms (now (a .texts)) (now (a .features)) (now (a .qualifiers))) _ _ _ (both-is _ _ _ _ _ (d .before .both .ensures) (d .before .before .before .row-text-fine .ensures) (d .before .before .row-text-fine2 .ensures)) (d .if1 .left) (c .before .before .if2 .left) _ (c .before .qualifiers-fine .ensures) (c .if3 .left)
 
 pub feature-next-spec : {M : Type 1} → statement M
 feature-next-spec =

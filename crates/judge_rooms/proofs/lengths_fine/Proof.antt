@@ -1,4 +1,4 @@
--- The six rooms, joined from the last to the first.
+-- The five rooms, joined from the last to the first.
 use Rattle.spec_format.specs.Rooms.{lengthsFine}
 use Rattle.judge_rooms.specs.Steps.{both-is}
 use borrow.Author.Needs.{needs}
@@ -17,9 +17,6 @@ both-requires-3 c κs = search needs
 both-requires-4 : tie.Need-both-requires-4
 both-requires-4 c κs = search needs
 
-both-requires-5 : tie.Need-both-requires-5
-both-requires-5 c κs = search needs
-
 returns : tie.Need-returns
 unfolding lengthsFine
 returns c = search (both-is, needs) depth 20 fits 20000
@@ -32,5 +29,4 @@ lengths-fine-spec =
     both-requires-2
     both-requires-3
     both-requires-4
-    both-requires-5
     returns)
