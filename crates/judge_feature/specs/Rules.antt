@@ -1,18 +1,16 @@
 -- What a rule asks of features, and what is known of the rooms where they lie.
-use Prim.Native.Nat.{ℕ, _+_, _*_, _≤_, _<_}
+use Prim.Native.Nat.{ℕ, _+_, _≤_, _<_}
 use mathlib.Core.Path.{_≡_, refl}
 use mathlib.Core.Bool.{Bool, true, _&&_}
 use mathlib.Core.List.{List}
-use lib.ListN.{length, getD}
+use lib.ListN.{length}
 use Rattle.spec_format.specs.Bytes.{all}
 use Rattle.spec_format.specs.Table.{Qualifier, Feature}
 use Rattle.spec_format.specs.Features.{locationText}
-use Rattle.spec_format.specs.Rooms.{Rooms}
 use Rattle.spec_format.specs.WellFormed.{ifIs, kindFine, keyFine, valueFine, qualifierFine, featureFine}
 use Rattle.spec_format.specs.Keeping.{kindKept, noSlash, valueKept, qualifierKept, featureKept}
-use Rattle.spec_format.specs.declared.Head.{Head}
 use Rattle.judge_rooms.specs.Parts.{featureRooms}
-use Rattle.judge_rooms.specs.Facts.{QualifierIn, QualifiersIn, FeatureIn, RoomsIn}
+use Rattle.judge_rooms.specs.Facts.{QualifierIn, QualifiersIn, FeatureIn}
 use Rattle.judge_header.specs.declared.Rule.{Rule}
 use Rattle.judge_header.specs.declared.Rule.the-variants as rule
 
@@ -65,17 +63,3 @@ pub record FeatureKnown (texts features qualifiers : List ℕ) (at : ℕ) : Type
   pub small : length texts ≤ 16777216
   pub row : at + 5 < length features
   pub inside : FeatureIn (featureRooms texts features qualifiers) at
-
-pub record FeaturesKnown (texts features qualifiers : List ℕ) (n : ℕ) : Type 0 where
-  pub small : length texts ≤ 16777216
-  pub long : 6 * n ≤ length features
-  pub each : (i : ℕ) → i < n → FeatureIn (featureRooms texts features qualifiers) (6 * i)
-
--- rooms for which number 10 is not due
-pub features-known : (r : Rooms) (h : Head) → RoomsIn r h → FeaturesKnown (r .texts) (r .features) (r .qualifiers) (h .features)
-features-known r h k =
-    record {
-      small = k .lengths .texts;
-      long = k .counts .features;
-      each = λ i l. record { kind = k .feature i l .kind; location = k .feature i l .location; qualifiers = k .feature i l .qualifiers };
-    }

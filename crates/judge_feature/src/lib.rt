@@ -10,15 +10,14 @@ use judge_text::value_kept;
 use judge_text::without;
 use scan_utf8::utf8_ok;
 ghost use mathlib.Core.Path.{_≡_};
-ghost use mathlib.Core.List.{[]};
 ghost use Prim.Native.Nat.{_+_, _-_, _*_, _≤_, _<_};
-ghost use lib.ListN.{length, getD};
+ghost use lib.ListN.{length};
 ghost use Rattle.spec_format.specs.Bytes.{all};
 ghost use Rattle.spec_format.specs.Rooms.{textIn, perhapsIn, rowsFrom, qualifierIn, featureIn};
 ghost use Rattle.spec_format.specs.WellFormed.{ifIs, valueFine};
 ghost use Rattle.judge_rooms.specs.Parts.{qualifierRooms, featureRooms};
 ghost use Rattle.judge_header.specs.Rules.{RowKnown};
-ghost use Rattle.judge_feature.specs.Rules.{widthOf, kindOf, locationOf, keyOf, valueOf, qualifierOf, featureOf, QualifierKnown, QualifiersKnown, FeatureKnown, FeaturesKnown};
+ghost use Rattle.judge_feature.specs.Rules.{widthOf, kindOf, locationOf, keyOf, valueOf, qualifierOf, featureOf, QualifierKnown, QualifiersKnown, FeatureKnown};
 
 fn value_fine(key: &[u8], value: &[u8]) -> bool
     ensures { λ r. ⌜ r ≡ valueFine (now (key .entry)) (now (value .entry)) ⌝ }
@@ -68,7 +67,7 @@ fn location_passes(rule: Rule, location: &[u8]) -> bool
     }
 }
 
-fn key_at(rule: Rule, texts: &[u8], rows: &[usize], at: usize) -> bool
+fn key_row_passes(rule: Rule, texts: &[u8], rows: &[usize], at: usize) -> bool
     requires { ⌜ (60 ≤ widthOf rule) × RowKnown (now texts) (now rows) at ⌝ }
     ensures { λ r. ⌜ r ≡ keyOf rule (textIn (now (texts .entry)) (now (rows .entry)) at) ⌝ }
 {
@@ -78,7 +77,7 @@ fn key_at(rule: Rule, texts: &[u8], rows: &[usize], at: usize) -> bool
     key_passes(rule, &texts[start..end])
 }
 
-fn kind_at(rule: Rule, texts: &[u8], rows: &[usize], at: usize) -> bool
+fn kind_row_passes(rule: Rule, texts: &[u8], rows: &[usize], at: usize) -> bool
     requires { ⌜ (60 ≤ widthOf rule) × RowKnown (now texts) (now rows) at ⌝ }
     ensures { λ r. ⌜ r ≡ kindOf rule (textIn (now (texts .entry)) (now (rows .entry)) at) ⌝ }
 {
@@ -88,7 +87,7 @@ fn kind_at(rule: Rule, texts: &[u8], rows: &[usize], at: usize) -> bool
     kind_passes(rule, &texts[start..end])
 }
 
-fn location_at(rule: Rule, texts: &[u8], rows: &[usize], at: usize) -> bool
+fn location_row_passes(rule: Rule, texts: &[u8], rows: &[usize], at: usize) -> bool
     requires { ⌜ RowKnown (now texts) (now rows) at ⌝ }
     ensures { λ r. ⌜ r ≡ locationOf rule (textIn (now (texts .entry)) (now (rows .entry)) at) ⌝ }
 {
@@ -99,7 +98,7 @@ fn location_at(rule: Rule, texts: &[u8], rows: &[usize], at: usize) -> bool
 }
 
 // The value of a qualifier, whose key stands before it.
-fn value_at(rule: Rule, texts: &[u8], rows: &[usize], at: usize) -> bool
+fn value_row_passes(rule: Rule, texts: &[u8], rows: &[usize], at: usize) -> bool
     requires { ⌜ QualifierKnown (now texts) (now rows) at ⌝ }
     ensures { λ r. ⌜ r ≡ ifIs (valueOf rule (textIn (now (texts .entry)) (now (rows .entry)) at)) (perhapsIn (now (texts .entry)) (now (rows .entry)) (at + 2)) ⌝ }
 {
@@ -121,8 +120,8 @@ fn qualifier_passes(rule: Rule, texts: &[u8], qualifiers: &[usize], at: usize) -
     ensures { λ r. ⌜ r ≡ qualifierOf rule (qualifierIn (qualifierRooms (now (texts .entry)) (now (qualifiers .entry))) at) ⌝ }
 {
     both(
-        key_at(rule, texts, qualifiers, at),
-        value_at(rule, texts, qualifiers, at),
+        key_row_passes(rule, texts, qualifiers, at),
+        value_row_passes(rule, texts, qualifiers, at),
     )
 }
 
@@ -141,6 +140,7 @@ fn qualifiers_pass(rule: Rule, texts: &[u8], qualifiers: &[usize], first: usize,
     true
 }
 
+// The feature whose row of six numbers is at a place.
 pub fn feature_passes(
     rule: Rule,
     texts: &[u8],
@@ -151,10 +151,10 @@ pub fn feature_passes(
     requires { ⌜ (60 ≤ widthOf rule) × FeatureKnown (now texts) (now features) (now qualifiers) at ⌝ }
     ensures { λ r. ⌜ r ≡ featureOf rule (featureIn (featureRooms (now (texts .entry)) (now (features .entry)) (now (qualifiers .entry))) at) ⌝ }
 {
-    if !kind_at(rule, texts, features, at) {
+    if !kind_row_passes(rule, texts, features, at) {
         return false;
     }
-    if !location_at(rule, texts, features, at + 2) {
+    if !location_row_passes(rule, texts, features, at + 2) {
         return false;
     }
     let first = features[at + 4];
@@ -163,25 +163,4 @@ pub fn feature_passes(
         return true;
     }
     qualifiers_pass(rule, texts, qualifiers, first, first + count)
-}
-
-// Each feature of the table passes.
-pub fn features_pass(
-    rule: Rule,
-    texts: &[u8],
-    features: &[usize],
-    qualifiers: &[usize],
-    n: usize,
-) -> bool
-    requires { ⌜ (60 ≤ widthOf rule) × FeaturesKnown (now texts) (now features) (now qualifiers) n ⌝ }
-    ensures { λ r. ⌜ r ≡ all (featureOf rule) (rowsFrom (featureIn (featureRooms (now (texts .entry)) (now (features .entry)) (now (qualifiers .entry)))) 6 0 n) ⌝ }
-{
-    let mut i = 0;
-    while i < n {
-        if !feature_passes(rule, texts, features, qualifiers, 6 * i) {
-            return false;
-        }
-        i += 1;
-    }
-    true
 }

@@ -1,20 +1,23 @@
--- Tests of parts of a table in rooms are tests of the table: rooms that are not looked at do not matter.
-use Prim.Native.Nat.{ℕ, suc}
-use mathlib.Core.Path.{_≡_, refl, sym, ap, _∙_}
-use mathlib.Core.Bool.{Bool, true, false, _&&_}
+-- Tests of parts of a table in rooms are tests of the table without its features.
+use Prim.Native.Nat.{ℕ}
+use mathlib.Core.Path.{_≡_, refl, _∙_}
+use mathlib.Core.Bool.{Bool, true, false, _&&_, not}
 use mathlib.Core.List.{List, [], _∷_}
 use native.Mathlib.Omega.{arith}
-use lib.ListN.{length}
+use lib.ListN.{length, take}
 use Rattle.spec_format.specs.Bytes.{May, all, letter}
-use Rattle.spec_format.specs.Table.{Feature}
+use Rattle.spec_format.specs.Features.{locationText}
+use Rattle.spec_format.specs.Utf8.{utf8}
 use Rattle.spec_format.specs.Record.{promised}
-use Rattle.spec_format.specs.Rooms.{Rooms, mayText, rowsFrom, referenceIn, commentIn, qualifierIn, featureIn, tableOf, roomsIn}
-use Rattle.spec_format.specs.WellFormed.{headerTexts, lettersFine}
-use Rattle.spec_format.specs.Keeping.{present}
+use Rattle.spec_format.specs.Rooms.{mayText, mayLength, rowsFrom, referenceIn, commentIn, tableOf, roomsIn}
+use Rattle.spec_format.specs.WellFormed.{ifIs, headerTexts, lettersFine}
+use Rattle.spec_format.specs.Keeping.{present, locusKept, headerKept, pubmedKept, keeps}
 use Rattle.spec_format.specs.declared.Head.{Head}
 use Rattle.spec_format.specs.declared.Text.{Text}
 use Rattle.spec_format.specs.declared.Text.the-variants as text
-use Rattle.judge_rooms.specs.Parts.{referenceRooms, featureRooms}
+use Rattle.judge_rooms.specs.Parts.{referenceRooms}
+use Rattle.judge_record.specs.Rest.{restTable}
+use Rattle.judge_record.specs.Rules.{locusPrints, wellFormedIf}
 
 pub with-first : (n a b r : Bool) → r ≡ (n && a) → a ≡ b → r ≡ (n && b)
 with-first n a b r h e = h ∙ rw e
@@ -33,19 +36,32 @@ unfolding lettersFine
 letters-some l [] r h e = absurd (h refl)
 letters-some l (b ∷ s) r h e = e
 
-module _ (r : Rooms) (h : Head) where
-  pub locus-alike : tableOf (referenceRooms (r .texts) []) h .locus ≡ tableOf r h .locus
-  unfolding tableOf
-  locus-alike = refl
+-- ---- 11 and 13 of a table without features are what the code tests, in the order of the definitions
 
-  pub header-alike : (p : List ℕ → Bool) → headerTexts p (tableOf (roomsIn (r .texts) (r .references) (r .comments) [] [] []) h) ≡ headerTexts p (tableOf r h)
-  unfolding headerTexts tableOf referenceIn commentIn
-  header-alike p = refl
+module _ (t rf cm l : List ℕ) (h : Head) where
+  pub formed-is : (named : Bool) (W : ℕ) →
+      ((named && locusPrints (tableOf (referenceRooms t []) h .locus)) && (headerTexts utf8 (tableOf (roomsIn t rf cm [] [] []) h) &&
+      (ifIs locationText (mayText t (h .contig)) && lettersFine (mayLength (h .length)) (take (h .letters) l)))) ≡
+      wellFormedIf named W (restTable t rf cm l h)
+  unfolding wellFormedIf headerTexts tableOf referenceIn commentIn rowsFrom
+  formed-is named W = refl
 
-  pub references-alike : rowsFrom (referenceIn (referenceRooms (r .texts) (r .references))) 14 0 (h .references) ≡ tableOf r h .references
-  unfolding tableOf referenceIn
-  references-alike = refl
-
-  pub features-alike : rowsFrom (featureIn (featureRooms (r .texts) (r .features) (r .qualifiers))) 6 0 (h .features) ≡ tableOf r h .features
-  unfolding tableOf featureIn qualifierIn
-  features-alike = refl
+  pub rules-are : (W : ℕ) (truncate escape : Bool) →
+      ((not truncate && not escape) && (locusKept (tableOf (referenceRooms t []) h .locus) &&
+      (headerTexts (headerKept W) (tableOf (roomsIn t rf cm [] [] []) h) &&
+      all pubmedKept (rowsFrom (referenceIn (referenceRooms t rf)) 14 0 (h .references))))) ≡
+      keeps W truncate escape (restTable t rf cm l h)
+  unfolding keeps headerTexts tableOf referenceIn commentIn rowsFrom
+  rules-are W truncate escape =
+      go
+      (not truncate && not escape)
+      (locusKept (tableOf (referenceRooms t []) h .locus))
+      (headerTexts (headerKept W) (tableOf (roomsIn t rf cm [] [] []) h))
+      (all pubmedKept (rowsFrom (referenceIn (referenceRooms t rf)) 14 0 (h .references)))
+    where
+      go : (a b c d : Bool) → (a && (b && (c && d))) ≡ (a && (b && (c && (d && true))))
+      go false b c d = refl
+      go true false c d = refl
+      go true true false d = refl
+      go true true true false = refl
+      go true true true true = refl

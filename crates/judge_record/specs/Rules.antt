@@ -1,7 +1,7 @@
 -- Numbers 11 and 13 as the functions test them, and that they are those of the format.
 use Prim.Native.Nat.{ℕ}
-use mathlib.Core.Path.{_≡_, refl, sym, ap, _∙_}
-use mathlib.Core.Bool.{Bool, true, false, _&&_, not}
+use mathlib.Core.Path.{_≡_, refl}
+use mathlib.Core.Bool.{Bool, true, false, _&&_}
 use mathlib.Core.List.{List}
 use Rattle.spec_format.specs.Bytes.{all, some, printing, but}
 use Rattle.spec_format.specs.Table.{Locus, Table}

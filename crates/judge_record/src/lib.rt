@@ -1,6 +1,5 @@
-// Numbers 11 and 13 of a table in rooms for which number 10 is not due.
+// Number 12; and numbers 11 and 13 of all but the features, of a table in rooms for which number 10 is not due.
 use base_arith::both;
-use judge_feature::features_pass;
 use judge_header::Rule;
 use judge_header::header_passes;
 use judge_header::pubmeds_kept;
@@ -15,18 +14,32 @@ use spec_format::Head;
 use spec_format::Length;
 use spec_format::Span;
 use spec_format::Text;
+use spec_format::Unwritten;
 ghost use mathlib.Core.Path.{_≡_};
 ghost use mathlib.Core.List.{[]};
 ghost use Prim.Native.Nat.{_≤_};
 ghost use lib.ListN.{length, take};
 ghost use Rattle.spec_format.specs.Dates.{isDate};
 ghost use Rattle.spec_format.specs.Record.{promised};
-ghost use Rattle.spec_format.specs.Rooms.{spanText, mayText, mayLength, tableOf, roomsIn};
-ghost use Rattle.spec_format.specs.WellFormed.{ifIs, dateFine, lettersFine};
+ghost use Rattle.spec_format.specs.Rooms.{spanText, mayText, mayLength, tableOf};
+ghost use Rattle.spec_format.specs.WellFormed.{ifIs, widthFine, dateFine, lettersFine};
 ghost use Rattle.spec_format.specs.Keeping.{present, locusKept};
 ghost use Rattle.judge_rooms.specs.Parts.{referenceRooms};
-ghost use Rattle.judge_rooms.specs.Facts.{SpanIn, TextIn, HeadIn, RoomsIn};
+ghost use Rattle.judge_rooms.specs.Facts.{SpanIn, TextIn, HeadIn};
+ghost use Rattle.judge_record.specs.Rest.{restTable, RestKnown};
 ghost use Rattle.judge_record.specs.Rules.{testOf, locusPrints, wellFormedIf, keepsRules};
+
+pub fn width_fine(width: usize) -> bool
+    ensures { λ r. ⌜ r ≡ widthFine width ⌝ }
+{
+    both(60 <= width, width <= 132)
+}
+
+// Whether a table can be written, or why not.
+pub enum Verdict {
+    Fine,
+    Not(Unwritten),
+}
 
 fn date_fine(date: Dated) -> bool
     ensures { λ r. ⌜ r ≡ dateFine date ⌝ }
@@ -163,34 +176,23 @@ fn locus_kept(texts: &[u8], head: Head) -> bool
     both(is_text(name), both(is_length(length), dated))
 }
 
-// Number 11 is not due, where `named` says whether the printed name is fine.
+// Number 11 is not due for anything but the features, where `named` says whether the printed name is fine.
 pub fn well_formed(
     width: usize,
     named: bool,
     texts: &[u8],
     references: &[usize],
     comments: &[usize],
-    features: &[usize],
-    qualifiers: &[usize],
     letters: &[u8],
     head: Head,
 ) -> bool
-    requires { ⌜ (60 ≤ width) × RoomsIn (roomsIn (now texts) (now references) (now comments) (now features) (now qualifiers) (now letters)) head ⌝ }
-    ensures { λ r. ⌜ r ≡ wellFormedIf named width (tableOf (roomsIn (now (texts .entry)) (now (references .entry)) (now (comments .entry)) (now (features .entry)) (now (qualifiers .entry)) (now (letters .entry))) head) ⌝ }
+    requires { ⌜ RestKnown (now texts) (now references) (now comments) (now letters) head ⌝ }
+    ensures { λ r. ⌜ r ≡ wellFormedIf named width (restTable (now (texts .entry)) (now (references .entry)) (now (comments .entry)) (now (letters .entry)) head) ⌝ }
 {
     if !both(named, locus_prints(texts, head)) {
         return false;
     }
     if !header_passes(Rule::Fine(width), texts, references, comments, head) {
-        return false;
-    }
-    if !features_pass(
-        Rule::Fine(width),
-        texts,
-        features,
-        qualifiers,
-        head.features,
-    ) {
         return false;
     }
     let contig = head.contig;
@@ -202,7 +204,7 @@ pub fn well_formed(
     )
 }
 
-// Number 13 is not due.
+// Number 13 is not due for anything but the features.
 pub fn keeps(
     width: usize,
     truncate: bool,
@@ -210,13 +212,11 @@ pub fn keeps(
     texts: &[u8],
     references: &[usize],
     comments: &[usize],
-    features: &[usize],
-    qualifiers: &[usize],
     letters: &[u8],
     head: Head,
 ) -> bool
-    requires { ⌜ (60 ≤ width) × RoomsIn (roomsIn (now texts) (now references) (now comments) (now features) (now qualifiers) (now letters)) head ⌝ }
-    ensures { λ r. ⌜ r ≡ keepsRules width truncate escape (tableOf (roomsIn (now (texts .entry)) (now (references .entry)) (now (comments .entry)) (now (features .entry)) (now (qualifiers .entry)) (now (letters .entry))) head) ⌝ }
+    requires { ⌜ RestKnown (now texts) (now references) (now comments) (now letters) head ⌝ }
+    ensures { λ r. ⌜ r ≡ keepsRules width truncate escape (restTable (now (texts .entry)) (now (references .entry)) (now (comments .entry)) (now (letters .entry)) head) ⌝ }
 {
     if !both(!truncate, !escape) {
         return false;
@@ -227,14 +227,5 @@ pub fn keeps(
     if !header_passes(Rule::Kept(width), texts, references, comments, head) {
         return false;
     }
-    if !pubmeds_kept(texts, references, head.references) {
-        return false;
-    }
-    features_pass(
-        Rule::Kept(width),
-        texts,
-        features,
-        qualifiers,
-        head.features,
-    )
+    pubmeds_kept(texts, references, head.references)
 }

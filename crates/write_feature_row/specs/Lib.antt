@@ -1,2 +1,3 @@
--- One row of structs among the flat numbers.
+-- One row: among the flat numbers, and its first line.
+pub mod FirstLine
 pub mod Flat

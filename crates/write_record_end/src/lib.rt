@@ -1,20 +1,16 @@
-// The lines of a record after LOCUS, of a table in rooms: header, features, CONTIG, ORIGIN and the end.
+// The last lines of a record, of a table in rooms: CONTIG, ORIGIN and the end.
 use base_pen::put_bytes;
-use spec_format::Head;
 use spec_format::Text;
 use write_feature::put_contig;
-use write_feature_lines::put_features;
-use write_header::put_header;
 use write_origin::put_origin;
 ghost use mathlib.Core.List.{_++_};
 ghost use Prim.Native.Nat.{_≤_};
 ghost use lib.ListN.{length, take};
 ghost use Rattle.spec_format.specs.Bytes.{bytes};
-ghost use Rattle.spec_format.specs.Rooms.{mayText, tableOf, roomsIn};
+ghost use Rattle.spec_format.specs.Rooms.{mayText};
 ghost use Rattle.spec_format.specs.Write.{contigLines, originLines};
 ghost use Rattle.base_pen.specs.Pen.{Writes};
-ghost use Rattle.judge_rooms.specs.Facts.{TextIn, RoomsIn};
-ghost use Rattle.write_record_end.specs.Body.{bodyText};
+ghost use Rattle.judge_rooms.specs.Facts.{TextIn};
 
 // CONTIG; nothing where it is absent.
 pub fn put_contig_text(out: &mut [u8], at: usize, texts: &[u8], contig: Text, width: usize) -> usize
@@ -39,27 +35,4 @@ pub fn put_end(out: &mut [u8], at: usize, letters: &[u8], n: usize) -> usize
     let start = 0;
     let next = put_origin(out, at, &letters[start..n]);
     put_bytes(out, next, b"//\n")
-}
-
-// All lines after LOCUS.
-pub fn put_body(
-    out: &mut [u8],
-    at: usize,
-    texts: &[u8],
-    references: &[usize],
-    comments: &[usize],
-    features: &[usize],
-    qualifiers: &[usize],
-    letters: &[u8],
-    head: Head,
-    width: usize,
-) -> usize
-    requires { ⌜ RoomsIn (roomsIn (now texts) (now references) (now comments) (now features) (now qualifiers) (now letters)) head × (60 ≤ width) × (width ≤ 132) ⌝ }
-    ensures { λ r. ⌜ Writes (now (out .entry)) at (bodyText width (tableOf (roomsIn (now (texts .entry)) (now (references .entry)) (now (comments .entry)) (now (features .entry)) (now (qualifiers .entry)) (now (letters .entry))) head)) (now (out .exit)) r ⌝ }
-{
-    let contig = head.contig;
-    let a = put_header(out, at, texts, references, comments, head, width);
-    let b = put_features(out, a, texts, features, qualifiers, head.features, width);
-    let d = put_contig_text(out, b, texts, contig, width);
-    put_end(out, d, letters, head.letters)
 }

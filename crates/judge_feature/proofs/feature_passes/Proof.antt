@@ -11,22 +11,22 @@ use native.Mathlib.Omega.{arith}
 use Rattle.judge_feature.proofs.feature_passes.Statement.{statement}
 use Rattle.judge_feature.proofs.feature_passes.Tie as tie
 
-kind-at-requires : tie.Need-kind-at-requires
-kind-at-requires c κs = (c .before .before .before .pre .0, record { small = c .before .before .before .pre .1 .small; row = omega (arith, c .before .before .before .pre .1 .row); inside = c .before .before .before .pre .1 .inside .kind })
+kind-row-passes-requires : tie.Need-kind-row-passes-requires
+kind-row-passes-requires c κs = (c .before .before .before .pre .0, record { small = c .before .before .before .pre .1 .small; row = omega (arith, c .before .before .before .pre .1 .row); inside = c .before .before .before .pre .1 .inside .kind })
 
 returns : tie.Need-returns
 unfolding featureOf featureIn
-returns c = failed _ _ _ (c .before .kind-at .ensures) (c .if1 .taken)
+returns c = failed _ _ _ (c .before .kind-row-passes .ensures) (c .if1 .taken)
 
-add-location-at : tie.Need-add-location-at
-add-location-at c = search needs
+add-location-row-passes : tie.Need-add-location-row-passes
+add-location-row-passes c = search needs
 
-location-at-requires : tie.Need-location-at-requires
-location-at-requires c κs = record { small = c .before .before .before .before .before .pre .1 .small; row = omega (arith, c .before .before .before .before .before .pre .1 .row); inside = c .before .before .before .before .before .pre .1 .inside .location }
+location-row-passes-requires : tie.Need-location-row-passes-requires
+location-row-passes-requires c κs = record { small = c .before .before .before .before .before .pre .1 .small; row = omega (arith, c .before .before .before .before .before .pre .1 .row); inside = c .before .before .before .before .before .pre .1 .inside .location }
 
 returns-2 : tie.Need-returns-2
 unfolding featureOf featureIn
-returns-2 c = held _ _ _ _ (c .before .before .before .kind-at .ensures) (c .before .before .if1 .left) (failed _ _ _ (c .before .location-at .ensures) (c .if2 .taken))
+returns-2 c = held _ _ _ _ (c .before .before .before .kind-row-passes .ensures) (c .before .before .if1 .left) (failed _ _ _ (c .before .location-row-passes .ensures) (c .if2 .taken))
 
 add-first : tie.Need-add-first
 add-first c = search needs
@@ -48,26 +48,32 @@ shared-slice-read-count c = search needs
 
 returns-3 : tie.Need-returns-3
 unfolding featureOf featureIn rowsFrom
-returns-3 c = held _ _ _ _ (c .before .before .before .before .before .before .kind-at .ensures) (c .before .before .before .before .before .if1 .left) (held _ _ _ _ (c .before .before .before .before .location-at .ensures) (c .before .before .before .if2 .left) (rw (c .if3 .taken)))
+returns-3 c = held _ _ _ _ (c .before .before .before .before .before .before .kind-row-passes .ensures) (c .before .before .before .before .before .if1 .left) (held _ _ _ _ (c .before .before .before .before .location-row-passes .ensures) (c .before .before .before .if2 .left) (rw (c .if3 .taken)))
 
 add-qualifiers-pass : tie.Need-add-qualifiers-pass
 add-qualifiers-pass c = omega (arith, (c .before .before .before .before .before .before .before .before .before .before .pre .1 .inside .qualifiers (omega arith)) .inside)
 
 qualifiers-pass-requires : tie.Need-qualifiers-pass-requires
-qualifiers-pass-requires c κs = (c .before .before .before .before .before .before .before .before .before .before .pre .0, record { small = c .before .before .before .before .before .before .before .before .before .before .pre .1 .small; order = omega arith; inside = (c .before .before .before .before .before .before .before .before .before .before .pre .1 .inside .qualifiers (omega arith)) })
+qualifiers-pass-requires c κs =
+    let d = c .before .before .before .before .before .before .before .before .before .before in
+    (d .pre .0, record { small = d .pre .1 .small; order = omega arith; inside = (d .pre .1 .inside .qualifiers (omega arith)) })
 
 returns-4 : tie.Need-returns-4
 unfolding featureOf featureIn qualifierIn
-returns-4 c = let y : getD (now (c .before .before .before .before .before .before .before .before .before .before .before .args .features)) ((c .before .before .before .before .before .before .before .before .before .before .before .args .at) + 4) 0 + getD (now (c .before .before .before .before .before .before .before .before .before .before .before .args .features)) ((c .before .before .before .before .before .before .before .before .before .before .before .args .at) + 5) 0 - getD (now (c .before .before .before .before .before .before .before .before .before .before .before .args .features)) ((c .before .before .before .before .before .before .before .before .before .before .before .args .at) + 4) 0 ≡ getD (now (c .before .before .before .before .before .before .before .before .before .before .before .args .features)) ((c .before .before .before .before .before .before .before .before .before .before .before .args .at) + 5) 0 = omega arith in held _ _ _ _ (c .before .before .before .before .before .before .before .kind-at .ensures) (c .before .before .before .before .before .before .if1 .left) (held _ _ _ _ (c .before .before .before .before .before .location-at .ensures) (c .before .before .before .before .if2 .left) (rw y at (c .qualifiers-pass .ensures)))
+returns-4 c =
+    let a = c .before .before .before .before .before .before .before .before .before .before .before .args in
+    let d = c .before .before .before .before in
+    let y : getD (now (a .features)) ((a .at) + 4) 0 + getD (now (a .features)) ((a .at) + 5) 0 - getD (now (a .features)) ((a .at) + 4) 0 ≡ getD (now (a .features)) ((a .at) + 5) 0 = omega arith in
+    held _ _ _ _ (d .before .before .before .kind-row-passes .ensures) (d .before .before .if1 .left) (held _ _ _ _ (d .before .location-row-passes .ensures) (d .if2 .left) (rw y at (c .qualifiers-pass .ensures)))
 
 pub feature-passes-spec : {M : Type 1} → statement M
 feature-passes-spec =
     tie.close
     (tie.spec
-    kind-at-requires
+    kind-row-passes-requires
     returns
-    add-location-at
-    location-at-requires
+    add-location-row-passes
+    location-row-passes-requires
     returns-2
     add-first
     mul-first

@@ -28,7 +28,9 @@ qualifier-passes-requires : tie.Need-qualifier-passes-requires Inv-loop μ-loop
 qualifier-passes-requires c κs = (c .before .before .before .before .pre .0, record { small = c .before .before .before .before .pre .1 .small; row = omega (arith, c .before .before .before .before .pre .1 .inside .inside); inside = c .before .before .before .before .pre .1 .inside .each _ (c .before .loop .inv .0) (c .loop-test .taken) })
 
 returns : tie.Need-returns Inv-loop μ-loop
-returns c = rows-no _ _ _ _ _ _ (c .before .before .before .loop .inv .2) (c .before .before .loop-test .taken) (c .before .qualifier-passes .ensures) (c .if1 .taken) ∙ all-rows (qualifierOf (c .before .before .before .before .before .before .args .rule)) (qualifierIn (qualifierRooms (now (c .before .before .before .before .before .before .args .texts)) (now (c .before .before .before .before .before .before .args .qualifiers)))) 4 _ _
+returns c =
+    let a = c .before .before .before .before .before .before .args in
+    rows-no _ _ _ _ _ _ (c .before .before .before .loop .inv .2) (c .before .before .loop-test .taken) (c .before .qualifier-passes .ensures) (c .if1 .taken) ∙ all-rows (qualifierOf (a .rule)) (qualifierIn (qualifierRooms (now (a .texts)) (now (a .qualifiers)))) 4 _ _
 
 add-i : tie.Need-add-i Inv-loop μ-loop
 add-i c = search needs

@@ -51,7 +51,13 @@ both-requires-6 c κs = search needs
 
 returns : tie.Need-returns
 unfolding locusKept tableOf
-returns c = both-is _ _ _ _ _ (c .both6 .ensures) (c .before .before .before .is-text .ensures ∙ present-alike [] (now (c .before .before .before .before .before .before .before .before .before .before .before .before .before .before .before .args .texts)) (c .before .before .before .before .before .before .before .before .before .before .before .before .before .before .before .args .head .name)) (both-is _ _ _ _ _ (c .before .both5 .ensures) (c .before .before .is-length .ensures) (both-is _ _ _ _ _ (c .before .before .before .before .both4 .ensures) (c .before .before .before .before .before .is-date .ensures) (both-is _ _ _ _ _ (c .before .before .before .before .before .before .both3 .ensures) (c .before .before .before .before .before .before .before .text-passes3 .ensures) (both-is _ _ _ _ _ (c .before .before .before .before .before .before .before .before .both2 .ensures) (c .before .before .before .before .before .before .before .before .before .text-passes2 .ensures) (both-is _ _ _ _ _ (c .before .before .before .before .before .before .before .before .before .before .both .ensures) (c .before .before .before .before .before .before .before .before .before .before .before .before .span-passes .ensures) (c .before .before .before .before .before .before .before .before .before .before .before .text-passes .ensures))))))
+returns c =
+    let a = c .before .before .before .before .before .before .before .before .before .before .before .before .before .before .before .args in
+    let d = c .before .before .before .before .before .before in
+    let e = c .before .before .before in
+    both-is _ _ _ _ _ (c .both6 .ensures) (e .is-text .ensures ∙ present-alike [] (now (a .texts)) (a .head .name)) (both-is _ _ _ _ _ (c .before .both5 .ensures) (c .before .before .is-length .ensures) (both-is _ _ _ _ _ (e .before .both4 .ensures) (e .before .before .is-date .ensures)
+    (both-is _ _ _ _ _ (d .both3 .ensures) (d .before .text-passes3 .ensures) (both-is _ _ _ _ _ (d .before .before .both2 .ensures) (d .before .before .before .text-passes2 .ensures)
+    (both-is _ _ _ _ _ (d .before .before .before .before .both .ensures) (d .before .before .before .before .before .before .span-passes .ensures) (d .before .before .before .before .before .text-passes .ensures))))))
 
 pub locus-kept-spec : {M : Type 1} → statement M
 locus-kept-spec =

@@ -1,7 +1,6 @@
 -- The part of the store.
 use Prim.Native.Nat.{_+_, _-_}
 use borrow.Author.Needs.{needs}
-use lib.ListN.{length}
 use mathlib.Core.Path.{_≡_}
 use native.Mathlib.Omega.{arith}
 use Rattle.judge_record.proofs.span_passes.Statement.{statement}

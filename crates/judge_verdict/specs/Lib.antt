@@ -1,2 +1,0 @@
--- The verdict, and what follows from it.
-pub mod Verdicts

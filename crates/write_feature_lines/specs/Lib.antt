@@ -1,3 +1,0 @@
--- The lines of features in rooms.
-pub mod Table
-pub mod Bound

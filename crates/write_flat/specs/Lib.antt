@@ -1,3 +1,0 @@
--- What the writers answer, and what follows from that.
-pub mod Bound
-pub mod Writer

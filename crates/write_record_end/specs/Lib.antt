@@ -1,3 +1,0 @@
--- The lines after LOCUS.
-pub mod Body
-pub mod Bound
