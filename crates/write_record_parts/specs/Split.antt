@@ -10,10 +10,9 @@ use Rattle.write_feature_row.specs.Flat.{rows-in}
 use Rattle.spec_format.specs.Bytes.{all, each}
 use Rattle.spec_format.specs.Record.{most}
 use Rattle.spec_format.specs.Rooms.{Rooms, mayText, mayLength, rowsFrom, referenceIn, commentIn, qualifierIn, featureIn, tableOf, rowsFine, referenceRowFine, commentRowFine, featuresFine, lengthsFine, headFine, countsFine, roomsFine, roomsIn}
-use Rattle.spec_format.specs.Table.{Table}
 use Rattle.spec_format.specs.Features.{locationText}
-use Rattle.spec_format.specs.Utf8.{utf8}
 use Rattle.spec_format.specs.Table.{Feature as Described}
+use Rattle.spec_format.specs.Utf8.{utf8}
 use Rattle.spec_format.specs.WellFormed.{ifIs, headerTexts, locusFine, featureFine, lettersFine, wellFormed}
 use Rattle.spec_format.specs.Keeping.{switchesKept, locusKept, headerKept, pubmedKept, featureKept, keeps}
 use Rattle.spec_format.specs.Write.{lengthOr, lengthText, printedName, locusText, headerLines, featureLines, featuresLines, written}
@@ -23,8 +22,9 @@ use Rattle.write_locus.specs.Line.{lineWith, line-is}
 use Rattle.base_rows.specs.Rows.{flat}
 use Rattle.base_rows.specs.declared.Feature.{Feature}
 use Rattle.judge_rooms.specs.Facts.{rooms-in}
-use Rattle.judge_rooms.specs.Parts.{referenceRooms, featureRooms}
-use Rattle.write_record_parts.specs.Parts.{noRows, title, beforeParts, afterParts}
+use Rattle.judge_rooms.specs.Parts.{referenceRooms, featureRooms, noRows}
+use Rattle.judge_record.specs.Rest.{restTable}
+use Rattle.write_record_parts.specs.Parts.{title, beforeParts, afterParts}
 use Rattle.spec_format.specs.declared.How.{How}
 
 and-false : (x : Bool) → false ≡ (x && false)
@@ -83,7 +83,7 @@ module _ (t rf cm q l : List ℕ) (rows : List Feature) (h : Head) where
   module _ (W : ℕ) (truncate escape : Bool) where
     -- number 11
     pub fine-split : wellFormed W truncate escape (tableOf (rowsRooms t rf cm q l rows) h) ≡
-        (wellFormed W truncate escape (tableOf (roomsIn t rf cm [] q l) (noRows h)) &&
+        (wellFormed W truncate escape (restTable t rf cm l h) &&
         all (featureOf (rule.Fine W)) (rowsFrom (featureAt t q rows) 6 0 (h .features)))
     unfolding wellFormed locusFine printedName lengthText headerTexts tableOf referenceIn commentIn featureIn qualifierIn rowsFrom
     fine-split = rw (fine-is W (rowsFrom (featureAt t q rows) 6 0 (h .features)))
@@ -102,7 +102,7 @@ module _ (t rf cm q l : List ℕ) (rows : List Feature) (h : Head) where
 
     -- number 13
     pub keeps-split : keeps W truncate escape (tableOf (rowsRooms t rf cm q l rows) h) ≡
-        (keeps W truncate escape (tableOf (roomsIn t rf cm [] q l) (noRows h)) &&
+        (keeps W truncate escape (restTable t rf cm l h) &&
         all (featureOf (rule.Kept W)) (rowsFrom (featureAt t q rows) 6 0 (h .features)))
     unfolding keeps headerTexts tableOf referenceIn commentIn featureIn qualifierIn rowsFrom
     keeps-split = rw (kept-is W (rowsFrom (featureAt t q rows) 6 0 (h .features)))

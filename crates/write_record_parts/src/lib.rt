@@ -1,8 +1,8 @@
-// The writers on feature rows that are structs: what they do with a table but for its features.
+// What the writer does with a table but for its features.
 use base_pen::put_bytes;
+use judge_record::Verdict;
 use judge_record::keeps;
 use judge_record::well_formed;
-use judge_verdict::Verdict;
 use spec_format::Head;
 use spec_format::How;
 use spec_format::Unwritten;
@@ -12,13 +12,11 @@ use write_locus::put_locus;
 use write_record_end::put_contig_text;
 use write_record_end::put_end;
 ghost use mathlib.Core.Path.{_≡_};
-ghost use mathlib.Core.List.{[]};
-ghost use Rattle.spec_format.specs.Rooms.{tableOf, roomsIn};
-ghost use Rattle.spec_format.specs.WellFormed.{wellFormed};
 ghost use Rattle.base_pen.specs.Pen.{Writes};
-ghost use Rattle.judge_record.specs.Rules.{keepsRules};
-ghost use Rattle.judge_verdict.specs.Verdicts.{Passed};
-ghost use Rattle.write_record_parts.specs.Parts.{noRows, title, beforeParts, afterParts, restVerdict, BeforeKnown, AfterKnown};
+ghost use Rattle.judge_rooms.specs.Parts.{noRows};
+ghost use Rattle.judge_record.specs.Rest.{restTable, RestKnown};
+ghost use Rattle.write_record_parts.specs.Parts.{title, beforeParts, afterParts, BeforeKnown, AfterKnown};
+ghost use Rattle.write_record_parts.specs.RestVerdict.{restVerdict};
 
 // The head of the table without its features.
 pub fn without_rows(head: Head) -> Head
@@ -74,20 +72,19 @@ pub fn put_after(
     put_end(out, a, letters, head.letters)
 }
 
-// Numbers 11 and 13 of the table but for its features, of which `fine` and `kept` say it.
+// Numbers 11 and 13 of the table: of its features `fine` and `kept` say it.
 pub fn rest_verdict(
     fine: bool,
     kept: bool,
     texts: &[u8],
     references: &[usize],
     comments: &[usize],
-    qualifiers: &[usize],
     letters: &[u8],
     head: Head,
     how: How,
 ) -> Verdict
-    requires { ⌜ Passed (how .width) (roomsIn (now texts) (now references) (now comments) [] (now qualifiers) (now letters)) head ⌝ }
-    ensures { λ r. ⌜ r ≡ restVerdict (how .keeping) fine (wellFormed (how .width) (how .truncate) (how .escape) (tableOf (roomsIn (now (texts .entry)) (now (references .entry)) (now (comments .entry)) [] (now (qualifiers .entry)) (now (letters .entry))) head)) kept (keepsRules (how .width) (how .truncate) (how .escape) (tableOf (roomsIn (now (texts .entry)) (now (references .entry)) (now (comments .entry)) [] (now (qualifiers .entry)) (now (letters .entry))) head)) ⌝ }
+    requires { ⌜ RestKnown (now texts) (now references) (now comments) (now letters) head ⌝ }
+    ensures { λ r. ⌜ r ≡ restVerdict how fine kept (restTable (now (texts .entry)) (now (references .entry)) (now (comments .entry)) (now (letters .entry)) head) ⌝ }
 {
     if !fine {
         return Verdict::Not(Unwritten::NoLayout);
@@ -98,8 +95,6 @@ pub fn rest_verdict(
         texts,
         references,
         comments,
-        &[],
-        qualifiers,
         letters,
         head,
     ) {
@@ -118,8 +113,6 @@ pub fn rest_verdict(
         texts,
         references,
         comments,
-        &[],
-        qualifiers,
         letters,
         head,
     ) {

@@ -1,29 +1,30 @@
--- What the writers on rows of structs answer: what the writers on flat numbers do. A call, its table, and the answer that is due.
+-- A call of the writer, its table, and the answer that is due.
 use Prim.Native.Nat.{ℕ, _+_, _-_, _≤_}
 use mathlib.Core.Path.{_≡_, refl, sym, _∙_}
 use mathlib.Core.Bool.{Bool, true, false, _&&_, not}
 use mathlib.Core.List.{List, [], _++_}
-use native.Mathlib.Omega.{arith}
 use lib.Dec.{leb}
 use lib.ListN.{length}
 use borrow.Author.Tests.{le-leb, not-true, not-false}
 use Rattle.spec_format.specs.Answers.{room, noRule, keepingRules, writeAnswer, plainAnswer, keepingAnswer, sliceAfter}
 use Rattle.spec_format.specs.Bytes.{pick, each}
-use Rattle.spec_format.specs.Keeping.{keeps}
 use Rattle.spec_format.specs.Rooms.{Rooms, rowsFrom, tableOf, featuresFine, roomsFine, roomsIn}
-use Rattle.spec_format.specs.WellFormed.{widthFine, wellFormed}
+use Rattle.spec_format.specs.WellFormed.{widthFine}
 use Rattle.spec_format.specs.Write.{featureLines, written}
 use Rattle.spec_format.specs.declared.Head.{Head}
 use Rattle.spec_format.specs.declared.Unwritten.the-variants as unwritten
 use Rattle.spec_format.specs.declared.WriteAnswer.{WriteAnswer}
 use Rattle.spec_format.specs.declared.WriteAnswer.the-variants as answer
 use Rattle.base_rows.specs.declared.Feature.{Feature}
-use Rattle.write_record_parts.specs.Parts.{noRows, afterParts}
+use Rattle.judge_rooms.specs.Parts.{noRows}
+use Rattle.write_record_parts.specs.Parts.{afterParts}
 use Rattle.write_record_parts.specs.Split.{rowsRooms, featureAt, rooms-split}
 use Rattle.spec_format.specs.declared.How.{How}
-use Rattle.judge_verdict.specs.Verdicts.{Passed}
-use Rattle.write_flat.specs.Writer.{answered}
-use Rattle.judge_verdict.specs.declared.Verdict.the-variants as verdict
+use Rattle.spec_format.specs.Table.{Table}
+use Rattle.judge_record.specs.Rest.{restTable, Passed}
+use Rattle.judge_record.specs.declared.Verdict.{Verdict}
+use Rattle.judge_record.specs.declared.Verdict.the-variants as verdict
+use Rattle.write_record_parts.specs.RestVerdict.{verdictBy, tableFine, tableKept}
 use Rattle.spec_format.specs.Impossible.{impossible}
 use Rattle.spec_contracts.specs.Writes.{AnsweredBy, WriteAnswered}
 
@@ -47,6 +48,9 @@ rowsOf a rows = rowsRooms (a .texts) (a .references) (a .comments) (a .qualifier
 abbrev pub restOf : Asking → Rooms
 restOf a = roomsIn (a .texts) (a .references) (a .comments) [] (a .qualifiers) (a .letters)
 
+abbrev pub restTableOf : Asking → Table
+restTableOf a = restTable (a .texts) (a .references) (a .comments) (a .letters) (a .head)
+
 -- the record that is to be written, and what of it comes from row i on
 abbrev pub textOf : Asking → List Feature → List ℕ
 textOf a rows = written (a .how .width) (a .how .truncate) (a .how .escape) (tableOf (rowsOf a rows) (a .head))
@@ -57,6 +61,11 @@ textFrom a rows i =
     afterParts (a .texts) (a .letters) (noRows (a .head)) (a .how .width)
 
 -- ---- the answer that is due, lent a slice of n bytes
+
+-- what is answered by a verdict: its refusal, or what the rest of the work answers
+abbrev pub answered : Verdict → WriteAnswer → WriteAnswer
+answered verdict.Fine x = x
+answered (verdict.Not why) x = answer.Refused why
 
 abbrev ruleOf : Bool → ℕ → Bool → Bool → Rooms → Head → Bool
 ruleOf true W truncate escape r h = keepingRules W truncate escape r h
@@ -136,17 +145,16 @@ module _ (a : Asking) (rows : List Feature) (k : Asked a rows) where
 
   -- past 10 too: what is due then by the verdict on 11 and 13
   pub due-verdict : (n : ℕ) (f g : Bool) → featuresFine (rowsOf a rows) 0 0 (a .head .features) ≡ true
-      → wellFormed (a .how .width) (a .how .truncate) (a .how .escape) (tableOf (rowsOf a rows) (a .head)) ≡ f
-      → keeps (a .how .width) (a .how .truncate) (a .how .escape) (tableOf (rowsOf a rows) (a .head)) ≡ g
-      → due a rows n ≡ answered (pick f (pick (a .how .keeping) (pick g verdict.Fine (verdict.Not unwritten.NotKept)) verdict.Fine) (verdict.Not unwritten.NoLayout)) (room n (length (textOf a rows)))
+      → tableFine (a .how) (tableOf (rowsOf a rows) (a .head)) ≡ f → tableKept (a .how) (tableOf (rowsOf a rows) (a .head)) ≡ g
+      → due a rows n ≡ answered (verdictBy (a .how .keeping) f g) (room n (length (textOf a rows)))
   unfolding due
   due-verdict n f g e p q =
       rw (width-is (a .how .width) (k .passed .narrowest) (k .passed .widest), asked-rooms e, p) (go (a .how .keeping) f q)
     where
-      go : (keeping f : Bool) → keeps (a .how .width) (a .how .truncate) (a .how .escape) (tableOf (rowsOf a rows) (a .head)) ≡ g →
+      go : (keeping f : Bool) → tableKept (a .how) (tableOf (rowsOf a rows) (a .head)) ≡ g →
           pick f (pick (ruleOf keeping (a .how .width) (a .how .truncate) (a .how .escape) (rowsOf a rows) (a .head)) (room n (length (textOf a rows)))
           (answer.Refused unwritten.NotKept)) (answer.Refused unwritten.NoLayout) ≡
-          answered (pick f (pick keeping (pick g verdict.Fine (verdict.Not unwritten.NotKept)) verdict.Fine) (verdict.Not unwritten.NoLayout)) (room n (length (textOf a rows)))
+          answered (verdictBy keeping f g) (room n (length (textOf a rows)))
       go keeping false q = refl
       go false true q = refl
       go true true q = rw q (by-kept g)

@@ -1,19 +1,19 @@
-// The turns of the writers on feature rows that are structs. The rows are gone through twice, in one loop: first each is judged and measured, then,
+// The turns of the writer. The feature rows are gone through twice, in one loop: first each is judged and measured, then,
 // where the record is to be written, each is put. What a turn does is decided by a state that is passed by value, so the loop itself only fetches rows.
 use base_arith::both;
 use base_rows::Feature;
 use base_rows::Fetched;
 use judge_header::Rule;
+use judge_record::Verdict;
+use judge_record::width_fine;
 use judge_rooms::Next;
-use judge_rooms::rooms_fine;
-use judge_verdict::Verdict;
-use judge_verdict::width_fine;
+use judge_rooms::rest_fine;
 use spec_format::Head;
 use spec_format::How;
 use spec_format::MOST;
 use spec_format::Unwritten;
 use spec_format::WriteAnswer;
-use write_feature_row::put_row;
+use write_feature_row::put_row_lines;
 use write_feature_row::row_kept;
 use write_feature_row::row_next;
 use write_feature_row::row_passes;
@@ -28,10 +28,11 @@ ghost use lib.ListN.{length};
 ghost use Rattle.judge_feature.specs.Rules.{FeatureKnown};
 ghost use Rattle.base_rows.specs.Rows.{numbers};
 ghost use Rattle.base_rows.specs.declared.Feature.{Feature};
-ghost use Rattle.write_record_parts.specs.Parts.{noRows, AfterKnown};
-ghost use Rattle.judge_verdict.specs.Verdicts.{Passed};
+ghost use Rattle.judge_rooms.specs.Parts.{noRows};
+ghost use Rattle.judge_record.specs.Rest.{Passed};
+ghost use Rattle.write_record_parts.specs.Parts.{AfterKnown};
 ghost use Rattle.write_record_turns.specs.Answered.{asking};
-ghost use Rattle.write_record_turns.specs.Turns.{endedState, stagedState, Starts, Judges, Decides, Puts, Ends, Steady, Steps};
+ghost use Rattle.write_record_turns.specs.States.{endedState, stagedState, Starts, Judges, Decides, Puts, Ends, Steady, Steps};
 ghost use Rattle.spec_format.specs.Rooms.{roomsIn};
 
 // How far the work has come.
@@ -105,13 +106,13 @@ pub fn start(
     if !width_fine(how.width) {
         return refused(Unwritten::BadWidth);
     }
-    let rest = without_rows(head);
-    if !rooms_fine(texts, references, comments, &[], qualifiers, letters, rest) {
+    if !rest_fine(texts, references, comments, qualifiers, letters, head) {
         return refused(Unwritten::BadRooms);
     }
     if !both(rows <= MOST, head.features <= rows) {
         return refused(Unwritten::BadRooms);
     }
+    let rest = without_rows(head);
     let at = put_before(
         &mut [],
         texts,
@@ -138,7 +139,7 @@ fn judge_row(s: State, row: Feature, texts: &[u8], qualifiers: &[usize], how: Ho
         row_passes(Rule::Fine(width), row, texts, qualifiers),
     );
     let kept = both(s.kept, row_kept(how.keeping, width, row, texts, qualifiers));
-    let at = put_row(&mut [], s.at, row, texts, qualifiers, width);
+    let at = put_row_lines(&mut [], s.at, row, texts, qualifiers, width);
     staged(false, s.row + 1, at, next, fine, kept)
 }
 
@@ -166,7 +167,7 @@ fn put_fetched(
     match fetched {
         Fetched::Outside => refused(Unwritten::BadRooms),
         Fetched::Row(row) => {
-            let at = put_row(out, s.at, row, texts, qualifiers, how.width);
+            let at = put_row_lines(out, s.at, row, texts, qualifiers, how.width);
             staged(true, s.row + 1, at, 0, true, true)
         }
     }
@@ -194,7 +195,6 @@ fn decide(
         texts,
         references,
         comments,
-        qualifiers,
         letters,
         rest,
         how,

@@ -66,7 +66,8 @@ use Rattle.spec_format.specs.declared.How.{How}
 use Rattle.spec_format.proofs.How as B
 use Rattle.spec_format.proofs.How.Laws as B′
 use Rattle.write_record_turns.specs.Answered.{Asking, asking}
-use Rattle.write_record_turns.specs.Turns.{Held, Starts, Steady, Steps, turnsLeft, steady, ended-answer}
+use Rattle.write_record_turns.specs.States.{Held, Starts, Steady, Steps, turnsLeft}
+use Rattle.write_record_turns.specs.Turns.{steady, ended-answer}
 use Rattle.write_record_turns.specs.declared.State.{State}
 use Rattle.write_record_turns.proofs.State as K
 use Rattle.write_record_turns.proofs.State.Laws as K′

@@ -1,11 +1,15 @@
 -- By whether there is a text.
-use Rattle.write_header.specs.Rows.{part-is}
+use Prim.Native.Nat.{ℕ, _+_, _-_}
+use mathlib.Core.Path.{_≡_}
 use Rattle.base_pen.specs.Pen.{writes-nil}
 use borrow.Author.Needs.{needs}
 use lib.ListN.{length-take, length-drop}
 use native.Mathlib.Omega.{arith}
 use Rattle.write_record_end.proofs.put_contig_text.Statement.{statement}
 use Rattle.write_record_end.proofs.put_contig_text.Tie as tie
+
+part-is : (start n : ℕ) → start + n - start ≡ n
+part-is start n = omega arith
 
 enum-told : tie.Need-enum-told
 enum-told c = search needs

@@ -1,7 +1,10 @@
 -- By the verdict on 11 and 13, and then by the room.
 use Rattle.write_record_turns.specs.Answered.{asking}
-use Rattle.write_record_turns.specs.Turns.{decide-refused, decide-room, decide-puts}
-use Rattle.write_record_parts.specs.Parts.{noRows, before-known, after-known}
+use Rattle.write_record_turns.specs.Deciding.{decide-refused, decide-room, decide-puts}
+use Rattle.judge_record.specs.Rest.{rest-known}
+use Rattle.judge_rooms.specs.Facts.{rooms-in}
+use Rattle.judge_rooms.specs.Parts.{noRows}
+use Rattle.write_record_parts.specs.Parts.{before-known, after-known}
 use mathlib.Core.List.{[]}
 use Prim.Native.Nat.{_-_}
 use denote.Ref.{now}
@@ -14,7 +17,11 @@ without-rows-requires : tie.Need-without-rows-requires
 without-rows-requires c κs = search needs
 
 rest-verdict-requires : tie.Need-rest-verdict-requires
-rest-verdict-requires c κs = rw (c .without-rows .ensures) (c .before .before .before .before .before .before .before .pre)
+rest-verdict-requires c κs =
+    let a = c .before .before .before .before .before .before .before .args in
+    let r = roomsIn (now (a .texts)) (now (a .references)) (now (a .comments)) [] (now (a .qualifiers)) (now (a .letters)) in
+    rw (c .without-rows .ensures)
+    (rest-known r (noRows (a .head)) (rooms-in r (noRows (a .head)) (c .before .before .before .before .before .before .before .pre .rooms)))
 
 enum-known-verdict : tie.Need-enum-known-verdict
 enum-known-verdict c = search needs
@@ -29,28 +36,46 @@ slice-aggregate-put-after : tie.Need-slice-aggregate-put-after
 slice-aggregate-put-after c = search needs
 
 put-after-requires : tie.Need-put-after-requires
-put-after-requires c κs = rw (c .before .before .before .before .without-rows .ensures) (after-known (c .before .before .before .before .before .before .before .before .before .before .before .args .how .width) (roomsIn (now (c .before .before .before .before .before .before .before .before .before .before .before .args .texts)) (now (c .before .before .before .before .before .before .before .before .before .before .before .args .references)) (now (c .before .before .before .before .before .before .before .before .before .before .before .args .comments)) [] (now (c .before .before .before .before .before .before .before .before .before .before .before .args .qualifiers)) (now (c .before .before .before .before .before .before .before .before .before .before .before .args .letters))) (noRows (c .before .before .before .before .before .before .before .before .before .before .before .args .head)) (c .before .before .before .before .before .before .before .before .before .before .before .pre))
+put-after-requires c κs =
+    let a = c .before .before .before .before .before .before .before .before .before .before .before .args in
+    rw (c .before .before .before .before .without-rows .ensures) (after-known (a .how .width) (roomsIn (now (a .texts)) (now (a .references)) (now (a .comments)) [] (now (a .qualifiers)) (now (a .letters))) (noRows (a .head)) (c .before .before .before .before .before .before .before .before .before .before .before .pre))
 
 ended-requires : tie.Need-ended-requires
 ended-requires c κs = search needs
 
 returns : tie.Need-returns
-returns c = rw (c .ended .ensures) (decide-room (asking (now (c .before .before .before .before .before .before .before .before .before .before .before .before .before .before .before .args .texts)) (now (c .before .before .before .before .before .before .before .before .before .before .before .before .before .before .before .args .references)) (now (c .before .before .before .before .before .before .before .before .before .before .before .before .before .before .before .args .comments)) (now (c .before .before .before .before .before .before .before .before .before .before .before .before .before .before .before .args .qualifiers)) (now (c .before .before .before .before .before .before .before .before .before .before .before .before .before .before .before .args .letters)) (c .before .before .before .before .before .before .before .before .before .before .before .before .before .before .before .args .head) (c .before .before .before .before .before .before .before .before .before .before .before .before .before .before .before .args .how)) (c .before .before .before .before .before .before .before .before .before .before .before .before .before .before .before .args .s) (now (c .before .before .before .before .before .before .before .before .before .before .before .before .before .before .before .args .out)) _ (rw (c .before .before .before .before .before .before .before .before .without-rows .ensures) at (c .before .before .before .before .before .before .before .rest-verdict .ensures)) (c .before .before .before .before .before .enum-told .given .1) (rw (c .before .before .before .before .before .before .before .before .without-rows .ensures) at (c .before .before .before .put-after .ensures)) (c .before .if1 .taken))
+returns c =
+    let a = c .before .before .before .before .before .before .before .before .before .before .before .before .before .before .before .args in
+    let ask = asking (now (a .texts)) (now (a .references)) (now (a .comments)) (now (a .qualifiers)) (now (a .letters)) (a .head) (a .how) in
+    let d = c .before .before .before .before .before in
+    rw (c .ended .ensures) (decide-room ask (a .s) (now (a .out)) _ (rw (d .before .before .before .without-rows .ensures) at (d .before .before .rest-verdict .ensures)) (d .enum-told .given .1) (rw (d .before .before .before .without-rows .ensures) at (c .before .before .before .put-after .ensures)) (c .before .if1 .taken))
 
 put-before-requires : tie.Need-put-before-requires
-put-before-requires c κs = rw (c .before .before .before .before .before .before .before .before .without-rows .ensures) (before-known (c .before .before .before .before .before .before .before .before .before .before .before .before .before .before .before .args .how .width) (roomsIn (now (c .before .before .before .before .before .before .before .before .before .before .before .before .before .before .before .args .texts)) (now (c .before .before .before .before .before .before .before .before .before .before .before .before .before .before .before .args .references)) (now (c .before .before .before .before .before .before .before .before .before .before .before .before .before .before .before .args .comments)) [] (now (c .before .before .before .before .before .before .before .before .before .before .before .before .before .before .before .args .qualifiers)) (now (c .before .before .before .before .before .before .before .before .before .before .before .before .before .before .before .args .letters))) (noRows (c .before .before .before .before .before .before .before .before .before .before .before .before .before .before .before .args .head)) (c .before .before .before .before .before .before .before .before .before .before .before .before .before .before .before .pre))
+put-before-requires c κs =
+    let a = c .before .before .before .before .before .before .before .before .before .before .before .before .before .before .before .args in
+    let d = c .before .before .before .before .before .before .before .before in
+    rw (d .without-rows .ensures) (before-known (a .how .width) (roomsIn (now (a .texts)) (now (a .references)) (now (a .comments)) [] (now (a .qualifiers)) (now (a .letters))) (noRows (a .head)) (d .before .before .before .before .before .before .before .pre))
 
 staged-requires : tie.Need-staged-requires
 staged-requires c κs = search needs
 
 returns-2 : tie.Need-returns-2
-returns-2 c = rw (c .refused .ensures) (decide-refused (asking (now (c .before .before .before .before .before .before .before .before .before .before .before .before .args .texts)) (now (c .before .before .before .before .before .before .before .before .before .before .before .before .args .references)) (now (c .before .before .before .before .before .before .before .before .before .before .before .before .args .comments)) (now (c .before .before .before .before .before .before .before .before .before .before .before .before .args .qualifiers)) (now (c .before .before .before .before .before .before .before .before .before .before .before .before .args .letters)) (c .before .before .before .before .before .before .before .before .before .before .before .before .args .head) (c .before .before .before .before .before .before .before .before .before .before .before .before .args .how)) (c .before .before .before .before .before .before .before .before .before .before .before .before .args .s) (now (c .before .before .before .before .before .before .before .before .before .before .before .before .args .out)) _ (rw (c .before .before .before .before .before .without-rows .ensures) at (c .before .before .before .before .rest-verdict .ensures)) _ (c .before .before .verdict .given .1))
+returns-2 c =
+    let a = c .before .before .before .before .before .before .before .before .before .before .before .before .args in
+    let ask = asking (now (a .texts)) (now (a .references)) (now (a .comments)) (now (a .qualifiers)) (now (a .letters)) (a .head) (a .how) in
+    rw (c .refused .ensures) (decide-refused ask (a .s) (now (a .out)) _ (rw (c .before .before .before .before .before .without-rows .ensures) at (c .before .before .before .before .rest-verdict .ensures)) _ (c .before .before .verdict .given .1))
 
 same-length : tie.Need-same-length
 same-length c = search needs
 
 returns-3 : tie.Need-returns-3
-returns-3 c = rw (c .staged .ensures) (decide-puts (asking (now (c .before .before .before .before .before .before .before .before .before .before .before .before .before .before .before .before .before .before .before .args .texts)) (now (c .before .before .before .before .before .before .before .before .before .before .before .before .before .before .before .before .before .before .before .args .references)) (now (c .before .before .before .before .before .before .before .before .before .before .before .before .before .before .before .before .before .before .before .args .comments)) (now (c .before .before .before .before .before .before .before .before .before .before .before .before .before .before .before .before .before .before .before .args .qualifiers)) (now (c .before .before .before .before .before .before .before .before .before .before .before .before .before .before .before .before .before .before .before .args .letters)) (c .before .before .before .before .before .before .before .before .before .before .before .before .before .before .before .before .before .before .before .args .head) (c .before .before .before .before .before .before .before .before .before .before .before .before .before .before .before .before .before .before .before .args .how)) (c .before .before .before .before .before .before .before .before .before .before .before .before .before .before .before .before .before .before .before .args .s) (now (c .before .before .before .before .before .before .before .before .before .before .before .before .before .before .before .before .before .before .before .args .out)) _ (rw (c .before .before .before .before .before .before .before .before .before .before .before .before .without-rows .ensures) at (c .before .before .before .before .before .before .before .before .before .before .before .rest-verdict .ensures)) (c .before .before .before .before .before .before .before .before .before .enum-told .given .1) (rw (c .before .before .before .before .before .before .before .before .before .before .before .before .without-rows .ensures) at (c .before .before .before .before .before .before .before .put-after .ensures)) (c .before .before .before .before .before .if1 .left) (rw (c .before .before .before .before .before .before .before .before .before .before .before .before .without-rows .ensures) at (c .before .before .before .put-before .ensures)))
+returns-3 c =
+    let a = c .before .before .before .before .before .before .before .before .before .before .before .before .before .before .before .before .before .before .before .args in
+    let ask = asking (now (a .texts)) (now (a .references)) (now (a .comments)) (now (a .qualifiers)) (now (a .letters)) (a .head) (a .how) in
+    let d = c .before .before .before .before .before .before .before .before .before in
+    let e = c .before .before .before in
+    rw (c .staged .ensures) (decide-puts ask (a .s) (now (a .out)) _ (rw (d .before .before .before .without-rows .ensures) at (d .before .before .rest-verdict .ensures)) (d .enum-told .given .1)
+    (rw (d .before .before .before .without-rows .ensures) at (e .before .before .before .before .put-after .ensures)) (e .before .before .if1 .left) (rw (d .before .before .before .without-rows .ensures) at (e .put-before .ensures)))
 
 pub decide-spec : {M : Type 1} → statement M
 decide-spec =

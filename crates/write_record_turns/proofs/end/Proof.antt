@@ -1,5 +1,5 @@
 -- What stands behind the features ends the record.
-use Rattle.write_record_turns.specs.Turns.{ends-done}
+use Rattle.write_record_turns.specs.PutRows.{ends-done}
 use Prim.Native.Nat.{_-_}
 use denote.Ref.{now}
 use borrow.Author.Needs.{needs}
@@ -19,7 +19,9 @@ same-length : tie.Need-same-length
 same-length c = search needs
 
 returns : tie.Need-returns
-returns c = rw (c .ended .ensures) (ends-done (now (c .before .before .before .before .before .before .before .before .before .args .texts)) (now (c .before .before .before .before .before .before .before .before .before .args .letters)) (c .before .before .before .before .before .before .before .before .before .args .head) (c .before .before .before .before .before .before .before .before .before .args .how) (c .before .before .before .before .before .before .before .before .before .args .s) (now (c .before .before .before .before .before .before .before .before .before .args .out)) (rw (c .before .before .before .before .without-rows .ensures) at (c .before .before .before .put-after .ensures)))
+returns c =
+    let a = c .before .before .before .before .before .before .before .before .before .args in
+    rw (c .ended .ensures) (ends-done (now (a .texts)) (now (a .letters)) (a .head) (a .how) (a .s) (now (a .out)) (rw (c .before .before .before .before .without-rows .ensures) at (c .before .before .before .put-after .ensures)))
 
 pub end-spec : {M : Type 1} → statement M
 end-spec =

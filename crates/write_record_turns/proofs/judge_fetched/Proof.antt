@@ -1,5 +1,5 @@
 -- By whether there is such a row.
-use Rattle.write_record_turns.specs.Turns.{judge-outside}
+use Rattle.write_record_turns.specs.Judging.{judge-outside}
 use Prim.Native.Nat.{_-_}
 use denote.Ref.{now}
 use borrow.Author.Needs.{needs}

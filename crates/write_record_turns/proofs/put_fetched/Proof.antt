@@ -1,5 +1,5 @@
 -- By whether there is such a row.
-use Rattle.write_record_turns.specs.Turns.{put-outside, put-goes}
+use Rattle.write_record_turns.specs.PutRows.{put-outside, put-goes}
 use Prim.Native.Nat.{_-_}
 use denote.Ref.{now}
 use borrow.Author.Needs.{needs}
@@ -15,8 +15,8 @@ refused-requires c κs = search needs
 enum-known-fetched : tie.Need-enum-known-fetched
 enum-known-fetched c = search needs
 
-put-row-requires : tie.Need-put-row-requires
-put-row-requires c κs = (c .before .before .before .before .before .before .before .pre .0 _ (c .before .before .fetched .given .1), c .before .before .before .before .before .before .before .pre .1, c .before .before .before .before .before .before .before .pre .2)
+put-row-lines-requires : tie.Need-put-row-lines-requires
+put-row-lines-requires c κs = (c .before .before .before .before .before .before .before .pre .0 _ (c .before .before .fetched .given .1), c .before .before .before .before .before .before .before .pre .1, c .before .before .before .before .before .before .before .pre .2)
 
 add-staged : tie.Need-add-staged
 add-staged c = search needs
@@ -25,13 +25,17 @@ staged-requires : tie.Need-staged-requires
 staged-requires c κs = search needs
 
 returns : tie.Need-returns
-returns c = rw (c .before .enum-told .given .1, c .refused .ensures) (put-outside (now (c .before .before .before .before .before .before .args .texts)) (now (c .before .before .before .before .before .before .args .qualifiers)) (c .before .before .before .before .before .before .args .how) (c .before .before .before .before .before .before .args .s) (now (c .before .before .before .before .before .before .args .out)))
+returns c =
+    let a = c .before .before .before .before .before .before .args in
+    rw (c .before .enum-told .given .1, c .refused .ensures) (put-outside (now (a .texts)) (now (a .qualifiers)) (a .how) (a .s) (now (a .out)))
 
 same-length : tie.Need-same-length
 same-length c = search needs
 
 returns-2 : tie.Need-returns-2
-returns-2 c = rw (c .before .before .before .before .before .before .before .fetched .given .1, c .staged .ensures) (put-goes (now (c .before .before .before .before .before .before .before .before .before .before .before .before .args .texts)) (now (c .before .before .before .before .before .before .before .before .before .before .before .before .args .qualifiers)) (c .before .before .before .before .before .before .before .before .before .before .before .before .args .how) (c .before .before .before .before .before .before .before .before .before .before .before .before .args .s) (now (c .before .before .before .before .before .before .before .before .before .before .before .before .args .out)) _ (c .before .before .before .before .put-row .ensures))
+returns-2 c =
+    let a = c .before .before .before .before .before .before .before .before .before .before .before .before .args in
+    rw (c .before .before .before .before .before .before .before .fetched .given .1, c .staged .ensures) (put-goes (now (a .texts)) (now (a .qualifiers)) (a .how) (a .s) (now (a .out)) _ (c .before .before .before .before .put-row-lines .ensures))
 
 pub put-fetched-spec : {M : Type 1} → statement M
 put-fetched-spec =
@@ -40,7 +44,7 @@ put-fetched-spec =
     enum-told
     refused-requires
     enum-known-fetched
-    put-row-requires
+    put-row-lines-requires
     add-staged
     staged-requires
     returns

@@ -2,7 +2,8 @@
 use Rattle.write_record_turns.specs.Answered.{asking}
 use Rattle.write_record_turns.specs.Turns.{step-judges, step-puts, step-decides, step-ends}
 use Rattle.judge_rooms.specs.Facts.{rooms-in}
-use Rattle.write_record_parts.specs.Parts.{noRows, after-known}
+use Rattle.judge_rooms.specs.Parts.{noRows}
+use Rattle.write_record_parts.specs.Parts.{after-known}
 use mathlib.Core.List.{[]}
 use Prim.Native.Nat.{_-_}
 use mathlib.Core.Path.{refl}
@@ -13,28 +14,44 @@ use Rattle.write_record_turns.proofs.step.Tie as tie
 use Rattle.spec_format.specs.Rooms.{roomsIn}
 
 put-fetched-requires : tie.Need-put-fetched-requires
-put-fetched-requires c κs = (c .before .before .before .before .before .before .before .before .before .before .before .pre .row (c .before .if2 .taken) (c .before .before .if1 .taken), c .before .before .before .before .before .before .before .before .before .before .before .pre .passed .narrowest, c .before .before .before .before .before .before .before .before .before .before .before .pre .passed .widest, c .before .before .before .before .before .before .before .before .before .before .before .pre .few)
+put-fetched-requires c κs =
+    let d = c .before .before .before .before .before .before .before .before .before .before .before in
+    (d .pre .row (c .before .if2 .taken) (c .before .before .if1 .taken), d .pre .passed .narrowest, d .pre .passed .widest, d .pre .few)
 
 same-length : tie.Need-same-length
 same-length c = search needs
 
 returns : tie.Need-returns
-returns c = step-puts (asking (now (c .before .before .before .before .before .before .before .before .before .before .before .before .before .before .args .texts)) (now (c .before .before .before .before .before .before .before .before .before .before .before .before .before .before .args .references)) (now (c .before .before .before .before .before .before .before .before .before .before .before .before .before .before .args .comments)) (now (c .before .before .before .before .before .before .before .before .before .before .before .before .before .before .args .qualifiers)) (now (c .before .before .before .before .before .before .before .before .before .before .before .before .before .before .args .letters)) (c .before .before .before .before .before .before .before .before .before .before .before .before .before .before .args .head) (c .before .before .before .before .before .before .before .before .before .before .before .before .before .before .args .how)) (c .before .before .before .before .before .before .before .before .before .before .before .before .before .before .args .s) (c .before .before .before .before .before .before .before .before .before .before .before .before .before .before .args .fetched) (now (c .before .before .before .before .before .before .before .before .before .before .before .before .before .before .args .out)) _ _ (c .before .before .before .before .before .if1 .taken) (c .before .before .before .before .if2 .taken) (c .before .before .put-fetched .ensures)
+returns c =
+    let a = c .before .before .before .before .before .before .before .before .before .before .before .before .before .before .args in
+    let ask = asking (now (a .texts)) (now (a .references)) (now (a .comments)) (now (a .qualifiers)) (now (a .letters)) (a .head) (a .how) in
+    step-puts ask (a .s) (a .fetched) (now (a .out)) _ _ (c .before .before .before .before .before .if1 .taken) (c .before .before .before .before .if2 .taken) (c .before .before .put-fetched .ensures)
 
 judge-fetched-requires : tie.Need-judge-fetched-requires
-judge-fetched-requires c κs = (rooms-in (roomsIn (now (c .before .before .before .before .before .before .before .before .before .before .args .texts)) (now (c .before .before .before .before .before .before .before .before .before .before .args .references)) (now (c .before .before .before .before .before .before .before .before .before .before .args .comments)) [] (now (c .before .before .before .before .before .before .before .before .before .before .args .qualifiers)) (now (c .before .before .before .before .before .before .before .before .before .before .args .letters))) (noRows (c .before .before .before .before .before .before .before .before .before .before .args .head)) (c .before .before .before .before .before .before .before .before .before .before .pre .passed .rooms) .lengths .texts, c .before .before .before .before .before .before .before .before .before .before .pre .passed .narrowest, c .before .before .before .before .before .before .before .before .before .before .pre .passed .widest, c .before .before .before .before .before .before .before .before .before .before .pre .few)
+judge-fetched-requires c κs =
+    let a = c .before .before .before .before .before .before .before .before .before .before .args in
+    let d = c .before .before .before .before .before .before .before .before .before .before in
+    (rooms-in (roomsIn (now (a .texts)) (now (a .references)) (now (a .comments)) [] (now (a .qualifiers)) (now (a .letters))) (noRows (a .head)) (d .pre .passed .rooms) .lengths .texts, d .pre .passed .narrowest, d .pre .passed .widest, d .pre .few)
 
 returns-2 : tie.Need-returns-2
-returns-2 c = step-judges (asking (now (c .before .before .before .before .before .before .before .before .before .before .before .args .texts)) (now (c .before .before .before .before .before .before .before .before .before .before .before .args .references)) (now (c .before .before .before .before .before .before .before .before .before .before .before .args .comments)) (now (c .before .before .before .before .before .before .before .before .before .before .before .args .qualifiers)) (now (c .before .before .before .before .before .before .before .before .before .before .before .args .letters)) (c .before .before .before .before .before .before .before .before .before .before .before .args .head) (c .before .before .before .before .before .before .before .before .before .before .before .args .how)) (c .before .before .before .before .before .before .before .before .before .before .before .args .s) (c .before .before .before .before .before .before .before .before .before .before .before .args .fetched) (now (c .before .before .before .before .before .before .before .before .before .before .before .args .out)) _ _ (c .before .before .if1 .taken) (c .before .if2 .left) refl (c .judge-fetched .ensures)
+returns-2 c =
+    let a = c .before .before .before .before .before .before .before .before .before .before .before .args in
+    let ask = asking (now (a .texts)) (now (a .references)) (now (a .comments)) (now (a .qualifiers)) (now (a .letters)) (a .head) (a .how) in
+    step-judges ask (a .s) (a .fetched) (now (a .out)) _ _ (c .before .before .if1 .taken) (c .before .if2 .left) refl (c .judge-fetched .ensures)
 
 end-requires : tie.Need-end-requires
-end-requires c κs = after-known (c .before .before .before .before .before .before .before .before .before .before .before .args .how .width) (roomsIn (now (c .before .before .before .before .before .before .before .before .before .before .before .args .texts)) (now (c .before .before .before .before .before .before .before .before .before .before .before .args .references)) (now (c .before .before .before .before .before .before .before .before .before .before .before .args .comments)) [] (now (c .before .before .before .before .before .before .before .before .before .before .before .args .qualifiers)) (now (c .before .before .before .before .before .before .before .before .before .before .before .args .letters))) (noRows (c .before .before .before .before .before .before .before .before .before .before .before .args .head)) (c .before .before .before .before .before .before .before .before .before .before .before .pre .passed)
+end-requires c κs =
+    let a = c .before .before .before .before .before .before .before .before .before .before .before .args in
+    after-known (a .how .width) (roomsIn (now (a .texts)) (now (a .references)) (now (a .comments)) [] (now (a .qualifiers)) (now (a .letters))) (noRows (a .head)) (c .before .before .before .before .before .before .before .before .before .before .before .pre .passed)
 
 same-length-2 : tie.Need-same-length-2
 same-length-2 c = search needs
 
 returns-3 : tie.Need-returns-3
-returns-3 c = step-ends (asking (now (c .before .before .before .before .before .before .before .before .before .before .before .before .before .before .args .texts)) (now (c .before .before .before .before .before .before .before .before .before .before .before .before .before .before .args .references)) (now (c .before .before .before .before .before .before .before .before .before .before .before .before .before .before .args .comments)) (now (c .before .before .before .before .before .before .before .before .before .before .before .before .before .before .args .qualifiers)) (now (c .before .before .before .before .before .before .before .before .before .before .before .before .before .before .args .letters)) (c .before .before .before .before .before .before .before .before .before .before .before .before .before .before .args .head) (c .before .before .before .before .before .before .before .before .before .before .before .before .before .before .args .how)) (c .before .before .before .before .before .before .before .before .before .before .before .before .before .before .args .s) (c .before .before .before .before .before .before .before .before .before .before .before .before .before .before .args .fetched) (now (c .before .before .before .before .before .before .before .before .before .before .before .before .before .before .args .out)) _ _ (c .before .before .before .before .before .if1 .left) (c .before .before .before .before .if3 .taken) (c .before .before .end .ensures)
+returns-3 c =
+    let a = c .before .before .before .before .before .before .before .before .before .before .before .before .before .before .args in
+    let ask = asking (now (a .texts)) (now (a .references)) (now (a .comments)) (now (a .qualifiers)) (now (a .letters)) (a .head) (a .how) in
+    step-ends ask (a .s) (a .fetched) (now (a .out)) _ _ (c .before .before .before .before .before .if1 .left) (c .before .before .before .before .if3 .taken) (c .before .before .end .ensures)
 
 decide-requires : tie.Need-decide-requires
 decide-requires c κs = search needs
@@ -43,7 +60,10 @@ same-length-3 : tie.Need-same-length-3
 same-length-3 c = search needs
 
 returns-4 : tie.Need-returns-4
-returns-4 c = step-decides (asking (now (c .before .before .before .before .before .before .before .before .before .before .before .before .before .before .args .texts)) (now (c .before .before .before .before .before .before .before .before .before .before .before .before .before .before .args .references)) (now (c .before .before .before .before .before .before .before .before .before .before .before .before .before .before .args .comments)) (now (c .before .before .before .before .before .before .before .before .before .before .before .before .before .before .args .qualifiers)) (now (c .before .before .before .before .before .before .before .before .before .before .before .before .before .before .args .letters)) (c .before .before .before .before .before .before .before .before .before .before .before .before .before .before .args .head) (c .before .before .before .before .before .before .before .before .before .before .before .before .before .before .args .how)) (c .before .before .before .before .before .before .before .before .before .before .before .before .before .before .args .s) (c .before .before .before .before .before .before .before .before .before .before .before .before .before .before .args .fetched) (now (c .before .before .before .before .before .before .before .before .before .before .before .before .before .before .args .out)) _ _ (c .before .before .before .before .before .if1 .left) (c .before .before .before .before .if3 .left) (c .before .before .decide .ensures)
+returns-4 c =
+    let a = c .before .before .before .before .before .before .before .before .before .before .before .before .before .before .args in
+    let ask = asking (now (a .texts)) (now (a .references)) (now (a .comments)) (now (a .qualifiers)) (now (a .letters)) (a .head) (a .how) in
+    step-decides ask (a .s) (a .fetched) (now (a .out)) _ _ (c .before .before .before .before .before .if1 .left) (c .before .before .before .before .if3 .left) (c .before .before .decide .ensures)
 
 pub step-spec : {M : Type 1} → statement M
 step-spec =
