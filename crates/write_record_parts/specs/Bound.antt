@@ -6,7 +6,7 @@ use mathlib.Core.Bool.{Bool, true}
 use mathlib.Core.List.{List}
 use lib.ListN.{length, take, length-take}
 use Rattle.spec_format.specs.Rooms.{Rooms, cut, mayText, featuresFine, roomsFine, tableOf}
-use Rattle.spec_format.specs.Write.{contigLines, originLines, written}
+use Rattle.spec_format.specs.Write.{locusText, contigLines, originLines, written}
 use Rattle.spec_format.specs.declared.Head.{Head}
 use Rattle.spec_format.specs.declared.Text.{Text}
 use Rattle.spec_format.specs.declared.Text.the-variants as text
@@ -34,6 +34,9 @@ features-fine : (r : Rooms) (h : Head) → roomsFine r h ≡ true → featuresFi
 unfolding roomsFine
 features-fine r h e = search parts depth 12
 
+locus-most : (truncate escape : Bool) (r : Rooms) (h : Head) → AtMost (locusText truncate escape (tableOf r h)) (3 * length (r .texts) + 200)
+locus-most truncate escape r h = record { is = locus-length truncate escape r h }
+
 written-most : (W : ℕ) (truncate escape : Bool) (r : Rooms) (h : Head) → RoomsIn r h → featuresFine r 0 0 (h .features) ≡ true
     → AtMost (written W truncate escape (tableOf r h))
     ((3 * length (r .texts) + 200) + (2818572547 + 2818572547 * h .references + 402653221 * h .comments) +
@@ -47,7 +50,7 @@ written-most W truncate escape r h k e =
     (both-most
     (both-most
     (both-most
-    (both-most (record { is = locus-length truncate escape r h }) (header-most W r (k .lengths .texts) h))
+    (both-most (locus-most truncate escape r h) (header-most W r (k .lengths .texts) h))
     (features-most W r (k .lengths .texts) (h .features) e))
     (contig-most W (r .texts) (h .contig) (k .lengths .texts)))
     (origin-most (r .letters) (h .letters) (k .lengths .letters)))

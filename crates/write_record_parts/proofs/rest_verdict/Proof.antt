@@ -23,7 +23,7 @@ returns-2 c =
     let a = c .before .before .before .before .before .before .before .before .args in
     let t = restTable (now (a .texts)) (now (a .references)) (now (a .comments)) (now (a .letters)) (a .head) in
     rest-unfit (a .how) (a .fine) (a .kept) t (c .before .before .before .if1 .left) _
-    (formed-rest (now (a .texts)) (now (a .references)) (now (a .comments)) (now (a .letters)) (a .head) c .before .before .before .before .before .before .before .before .pre (a .how) _ _ (c .before .before .name-fine .ensures) (c .before .well-formed .ensures))
+    (formed-rest (now (a .texts)) (now (a .references)) (now (a .comments)) (now (a .letters)) (a .head) (c .before .before .before .before .before .before .before .before .pre) (a .how) _ _ (c .before .before .name-fine .ensures) (c .before .well-formed .ensures))
     (c .if2 .taken)
 
 returns-3 : tie.Need-returns-3
@@ -31,7 +31,7 @@ returns-3 c =
     let a = c .before .before .before .before .before .before .before .before .before .before .args in
     let t = restTable (now (a .texts)) (now (a .references)) (now (a .comments)) (now (a .letters)) (a .head) in
     plain-fit (a .how) (a .fine) (a .kept) t (c .before .before .before .before .before .if1 .left) _
-    (formed-rest (now (a .texts)) (now (a .references)) (now (a .comments)) (now (a .letters)) (a .head) c .before .before .before .before .before .before .before .before .before .before .pre (a .how) _ _ (c .before .before .before .before .name-fine .ensures) (c .before .before .before .well-formed .ensures))
+    (formed-rest (now (a .texts)) (now (a .references)) (now (a .comments)) (now (a .letters)) (a .head) (c .before .before .before .before .before .before .before .before .before .before .pre) (a .how) _ _ (c .before .before .before .before .name-fine .ensures) (c .before .before .before .well-formed .ensures))
     (c .before .before .if2 .left) (c .if3 .taken)
 
 returns-4 : tie.Need-returns-4
@@ -39,7 +39,7 @@ returns-4 c =
     let a = c .before .before .before .before .before .before .before .before .before .before .before .args in
     let t = restTable (now (a .texts)) (now (a .references)) (now (a .comments)) (now (a .letters)) (a .head) in
     rows-broken (a .how) (a .fine) (a .kept) t (c .before .before .before .before .before .before .if1 .left) _
-    (formed-rest (now (a .texts)) (now (a .references)) (now (a .comments)) (now (a .letters)) (a .head) c .before .before .before .before .before .before .before .before .before .before .before .pre (a .how) _ _ (c .before .before .before .before .before .name-fine .ensures) (c .before .before .before .before .well-formed .ensures))
+    (formed-rest (now (a .texts)) (now (a .references)) (now (a .comments)) (now (a .letters)) (a .head) (c .before .before .before .before .before .before .before .before .before .before .before .pre) (a .how) _ _ (c .before .before .before .before .before .name-fine .ensures) (c .before .before .before .before .well-formed .ensures))
     (c .before .before .before .if2 .left) (c .before .if3 .left) (c .if4 .taken)
 
 keeps-requires : tie.Need-keeps-requires
@@ -50,7 +50,7 @@ returns-5 c =
     let a = c .before .before .before .before .before .before .before .before .before .before .before .before .before .args in
     let t = restTable (now (a .texts)) (now (a .references)) (now (a .comments)) (now (a .letters)) (a .head) in
     rest-broken (a .how) (a .fine) (a .kept) t (c .before .before .before .before .before .before .before .before .if1 .left) _
-    (formed-rest (now (a .texts)) (now (a .references)) (now (a .comments)) (now (a .letters)) (a .head) c .before .before .before .before .before .before .before .before .before .before .before .before .before .pre (a .how) _ _ (c .before .before .before .before .before .before .before .name-fine .ensures) (c .before .before .before .before .before .before .well-formed .ensures))
+    (formed-rest (now (a .texts)) (now (a .references)) (now (a .comments)) (now (a .letters)) (a .head) (c .before .before .before .before .before .before .before .before .before .before .before .before .before .pre) (a .how) _ _ (c .before .before .before .before .before .before .before .name-fine .ensures) (c .before .before .before .before .before .before .well-formed .ensures))
     (c .before .before .before .before .before .if2 .left) (c .before .before .before .if3 .left) (c .before .before .if4 .left) _ (c .before .keeps .ensures) (c .if5 .taken)
 
 returns-6 : tie.Need-returns-6
@@ -58,7 +58,7 @@ returns-6 c =
     let a = c .before .before .before .before .before .before .before .before .before .before .before .before .before .args in
     let t = restTable (now (a .texts)) (now (a .references)) (now (a .comments)) (now (a .letters)) (a .head) in
     keeping-fit (a .how) (a .fine) (a .kept) t (c .before .before .before .before .before .before .before .before .if1 .left) _
-    (formed-rest (now (a .texts)) (now (a .references)) (now (a .comments)) (now (a .letters)) (a .head) c .before .before .before .before .before .before .before .before .before .before .before .before .before .pre (a .how) _ _ (c .before .before .before .before .before .before .before .name-fine .ensures) (c .before .before .before .before .before .before .well-formed .ensures))
+    (formed-rest (now (a .texts)) (now (a .references)) (now (a .comments)) (now (a .letters)) (a .head) (c .before .before .before .before .before .before .before .before .before .before .before .before .before .pre) (a .how) _ _ (c .before .before .before .before .before .before .before .name-fine .ensures) (c .before .before .before .before .before .before .well-formed .ensures))
     (c .before .before .before .before .before .if2 .left) (c .before .before .before .if3 .left) (c .before .before .if4 .left) _ (c .before .keeps .ensures) (c .if5 .left)
 
 pub rest-verdict-spec : {M : Type 1} → statement M
