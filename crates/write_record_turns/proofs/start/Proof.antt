@@ -20,9 +20,9 @@ refused-requires c κs = search needs
 
 returns : tie.Need-returns
 returns c =
-    let a = c^args in
+    let a = c .before .before .before .before .before .before .before .before .args in
     let ask = asking (now (a .texts)) (now (a .references)) (now (a .comments)) (now (a .qualifiers)) (now (a .letters)) (a .head) (a .how) in
-    rw (c^refused .ensures) (start-width ask _ (c^width-fine .ensures) (a .rows) (c^if1 .taken))
+    rw (c .refused .ensures) (start-width ask _ (c .before .before .width-fine .ensures) (a .rows) (c .before .if1 .taken))
 
 rest-fine-requires : tie.Need-rest-fine-requires
 rest-fine-requires c κs = search needs
@@ -32,9 +32,9 @@ refused-requires-2 c κs = search needs
 
 returns-2 : tie.Need-returns-2
 returns-2 c =
-    let a = c^args in
+    let a = c .before .before .before .before .before .before .before .before .before .before .args in
     let ask = asking (now (a .texts)) (now (a .references)) (now (a .comments)) (now (a .qualifiers)) (now (a .letters)) (a .head) (a .how) in
-    rw (c^refused2 .ensures) (start-rooms ask _ (c^width-fine .ensures) (c^if1 .left) _ (c^rest-fine .ensures) (a .rows) (c^if2 .taken))
+    rw (c .refused2 .ensures) (start-rooms ask _ (c .before .before .before .before .width-fine .ensures) (c .before .before .before .if1 .left) _ (c .before .before .rest-fine .ensures) (a .rows) (c .before .if2 .taken))
 
 both-requires : tie.Need-both-requires
 both-requires c κs = search needs
@@ -44,10 +44,10 @@ refused-requires-3 c κs = search needs
 
 returns-3 : tie.Need-returns-3
 returns-3 c =
-    let a = c^args in
+    let a = c .before .before .before .before .before .before .before .before .before .before .before .before .before .args in
     let ask = asking (now (a .texts)) (now (a .references)) (now (a .comments)) (now (a .qualifiers)) (now (a .letters)) (a .head) (a .how) in
-    rw (c^refused3 .ensures)
-    (start-rows ask _ (c^width-fine .ensures) (c^if1 .left) _ (c^rest-fine .ensures) (c^if2 .left) (a .rows) _ (c^both .ensures) (c^if3 .taken))
+    rw (c .refused3 .ensures)
+    (start-rows ask _ (c .before .before .before .before .before .before .before .width-fine .ensures) (c .before .before .before .before .before .before .if1 .left) _ (c .before .before .before .before .before .rest-fine .ensures) (c .before .before .before .before .if2 .left) (a .rows) _ (c .before .before .both .ensures) (c .before .if3 .taken))
 
 without-rows-requires : tie.Need-without-rows-requires
 without-rows-requires c κs = search needs
@@ -57,22 +57,22 @@ slice-aggregate-put-before c = search needs
 
 put-before-requires : tie.Need-put-before-requires
 put-before-requires c κs =
-    let a = c^args in
+    let a = c .before .before .before .before .before .before .before .before .before .before .before .before .before .before .args in
     let r = roomsIn (now (a .texts)) (now (a .references)) (now (a .comments)) [] (now (a .qualifiers)) (now (a .letters)) in
-    rw (c^without-rows .ensures)
+    rw (c .before .without-rows .ensures)
     (before-known (a .how .width) r (noRows (a .head))
-    (passed-two (a .how .width) r (noRows (a .head)) _ _ (c^width-fine .ensures) (c^if1 .left) (c^rest-fine .ensures) (c^if2 .left)))
+    (passed-two (a .how .width) r (noRows (a .head)) _ _ (c .before .before .before .before .before .before .before .before .width-fine .ensures) (c .before .before .before .before .before .before .before .if1 .left) (c .before .before .before .before .before .before .rest-fine .ensures) (c .before .before .before .before .before .if2 .left)))
 
 staged-requires : tie.Need-staged-requires
 staged-requires c κs = search needs
 
 returns-4 : tie.Need-returns-4
 returns-4 c =
-    let a = c^args in
+    let a = c .before .before .before .before .before .before .before .before .before .before .before .before .before .before .before .before .before .args in
     let ask = asking (now (a .texts)) (now (a .references)) (now (a .comments)) (now (a .qualifiers)) (now (a .letters)) (a .head) (a .how) in
-    rw (c^staged .ensures)
-    (start-goes ask _ (c^width-fine .ensures) (c^if1 .left) _ (c^rest-fine .ensures) (c^if2 .left) (a .rows) _ (c^both .ensures) (c^if3 .left)
-    (rw (c^without-rows .ensures) at (c^put-before .ensures)))
+    rw (c .staged .ensures)
+    (start-goes ask _ (c .before .before .before .before .before .before .before .before .before .before .before .width-fine .ensures) (c .before .before .before .before .before .before .before .before .before .before .if1 .left) _ (c .before .before .before .before .before .before .before .before .before .rest-fine .ensures) (c .before .before .before .before .before .before .before .before .if2 .left) (a .rows) _ (c .before .before .before .before .before .before .both .ensures) (c .before .before .before .before .before .if3 .left)
+    (rw (c .before .before .before .before .without-rows .ensures) at (c .before .before .put-before .ensures)))
 
 pub start-spec : {M : Type 1} → statement M
 start-spec =
