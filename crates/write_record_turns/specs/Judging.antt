@@ -129,7 +129,8 @@ module _ (t q : List ℕ) (how : How) (s : State) where
                       order = omega arith;
                       rooms = features-go (rowsOf a rows) (s .row) (h .features) (s .from) _ o m (k .rooms) less n j;
                       fine = k .fine ∙ (ap (λ (y : Bool). s .fine && y) (pass-more a rows (s .row) (featureOf (rule.Fine (how .width))) less) ∙
-                          (and-assoc (s .fine) (featureOf (rule.Fine (how .width)) (featureAt t q rows (6 * s .row))) (pass a rows (featureOf (rule.Fine (how .width))) (s .row + 1)) ∙ rw (ef, ec, v)));
+                          (and-assoc (s .fine) (featureOf (rule.Fine (how .width)) (featureAt t q rows (6 * s .row)))
+                          (pass a rows (featureOf (rule.Fine (how .width))) (s .row + 1)) ∙ rw (ef, ec, v)));
                       kept = k .kept ∙ (ap (λ (y : Bool). s .kept && y) (pass-more a rows (s .row) (rowKept how) less) ∙
                           (and-assoc (s .kept) (rowKept how (featureAt t q rows (6 * s .row))) (pass a rows (rowKept how) (s .row + 1)) ∙ rw (ek, ed, v)));
                       left = left-step (left-as (text-more a rows (s .row) less) (k .left)) (nowhere (rw v at wr));

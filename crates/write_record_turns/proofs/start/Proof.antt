@@ -70,8 +70,9 @@ returns-4 : tie.Need-returns-4
 returns-4 c =
     let a = c .before .before .before .before .before .before .before .before .before .before .before .before .before .before .before .before .before .args in
     let ask = asking (now (a .texts)) (now (a .references)) (now (a .comments)) (now (a .qualifiers)) (now (a .letters)) (a .head) (a .how) in
+    let d = c .before .before .before .before .before .before .before .before in
     rw (c .staged .ensures)
-    (start-goes ask _ (c .before .before .before .before .before .before .before .before .before .before .before .width-fine .ensures) (c .before .before .before .before .before .before .before .before .before .before .if1 .left) _ (c .before .before .before .before .before .before .before .before .before .rest-fine .ensures) (c .before .before .before .before .before .before .before .before .if2 .left) (a .rows) _ (c .before .before .before .before .before .before .both .ensures) (c .before .before .before .before .before .if3 .left)
+    (start-goes ask _ (d .before .before .before .width-fine .ensures) (d .before .before .if1 .left) _ (d .before .rest-fine .ensures) (d .if2 .left) (a .rows) _ (c .before .before .before .before .before .before .both .ensures) (c .before .before .before .before .before .if3 .left)
     (rw (c .before .before .before .before .without-rows .ensures) at (c .before .before .put-before .ensures)))
 
 pub start-spec : {M : Type 1} → statement M
