@@ -1,11 +1,14 @@
 // Runs the stored answers of the files in data/ again, and prints how many there are of each kind and how many differ. oracle/README.md says how each file was made.
+mod reading;
+mod stored;
+mod writing;
 
 fn replay_file(name: &[u8], counts: &mut [usize]) {
     let mut s = app_rooms::out_room();
     let fd = os::open_read(name);
     let n = io::read_full(fd, &mut s);
     libc::close(fd);
-    test_stored::replay_all(name, &s[..n], counts);
+    stored::replay_all(name, &s[..n], counts);
 }
 
 fn replay_rust(counts: &mut [usize]) {

@@ -3,8 +3,8 @@ use Prim.Native.Nat.{_+_, _-_, _≤_}
 use mathlib.Core.Path.{_≡_}
 use lib.ListN.{length}
 use borrow.Author.Needs.{needs}
-use Rattle.test_stored.proofs.replay_all.Statement.{statement}
-use Rattle.test_stored.proofs.replay_all.Tie as tie
+use Rattle.test_replay.proofs.stored.replay_all.Statement.{statement}
+use Rattle.test_replay.proofs.stored.replay_all.Tie as tie
 
 abbrev Inv-loop : tie.InvT-loop
 Inv-loop name s counts₀ at₀ line₀ counts at line = (length counts ≡ length counts₀) × (line ≤ at + 1)

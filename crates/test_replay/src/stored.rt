@@ -1,5 +1,7 @@
 // Stored answers, run again and counted. A line of a file is one answer, `R` a reading and `W` a writing; oracle/README.md has its fields. Lines that
 // begin `#` say how the file was made.
+use crate::reading::replay_reading;
+use crate::writing::replay_writing;
 use test_stored_lines::Checked;
 use test_stored_lines::DIFFER;
 use test_stored_lines::NOT_UNDERSTOOD;
@@ -12,8 +14,6 @@ use test_stored_lines::next_line;
 use test_stored_lines::number_at;
 use test_stored_lines::number_room;
 use test_stored_lines::take_numbers;
-use test_stored_reading::replay_reading;
-use test_stored_writing::replay_writing;
 ghost use lib.ListN.{length};
 ghost use Prim.Native.Nat.{_<_};
 
