@@ -3,16 +3,8 @@ from .mir import items, place
 from .passing import ArrayLoan, passing
 from .statements import operand, operands
 from .plain import list_of
-from .terms import binders, fail, lists, par, prod, proj, tup
+from .terms import OPEN, binders, fail, lists, over, par, prod, proj, tup
 from .values import Plain, Slice, State, Steps
-
-OPEN = '{K : Type 0} {Γ : List (Item 𝓤)}'
-
-
-def over(t):
-    """a script over an open context: its rules take the marker that they are given"""
-    return t.replace(' ! ', ' t ').replace(' !)', ' t)')
-
 
 class Call:
     def __init__(self, f, g, st, sp):

@@ -1,5 +1,5 @@
 """The two ends of a walk: what is had at entry is taken apart, and at the return what the contract asks is shown."""
-from .terms import binders, lists, par, proj, sub, tup
+from .terms import OPEN, lists, over, par, proj, sub, tup
 from .values import State, Steps
 
 
@@ -25,6 +25,10 @@ def exit_steps(f, st, r):
     lasts = tup(st.now[p.name] if p.mut else 'tt' for p in f.params)
     longs = tup(st.long[p.name] if p.mut else 'tt' for p in f.params)
     sp = Steps(st.resources)
+    left = [('own', p.name) for p in f.params if ('own', p.name) in st.resources and not p.mut]
+    sp.move(left)
+    sp.say(' '.join(['drop ! $'] * len(left)))
+    sp.become(len(left), [])
     sp.say(f'suffices ! _ (ends-at 𝓤 H A f.ended stayed (f.clauses 𝓤 H A mem run) W bound {r.machine()} {par(r.term)} {lasts} {longs}) $ says ! ended $')
     sp.say(f'owned ! {r.row.row} (Is {r.row.row}) ({r.row.makes}) {par(r.term)} {r.row.vals(par(r.term))} {par(r.proof)} $')
     none = [('none', p.i) for p in f.params if not p.mut] + ['end of tokens', 'end']
@@ -34,22 +38,7 @@ def exit_steps(f, st, r):
     had = [next(k for k in st.resources if k[1] == p.name and k[0] in ('own', 'last')) if p.mut else ('none', p.i) for p in f.params]
     sp.move(tokens + ['end of tokens'] + had + ['end', 'result'])
     sp.say(f'group ! {len(tokens) + 1} $ frame ! $ group ! {len(had) + 1} $')
-    dropped = len(sp.ctx) - len(tokens) - len(had) - 3
-    if dropped:
-        # what is left of a `&` is let go
-        sp.lines.insert(0, '')
-        left = [k for k in st.resources if k not in tokens + had]
-        first = Steps(st.resources)
-        first.move(left)
-        drops = first.lines + ['drop ! $'] * len(left)
-        return exit_without(f, st, r, left, drops)
     return sp.text('done !')
-
-
-def exit_without(f, st, r, left, drops):
-    """the same once what is left of a `&` is let go"""
-    less = State([k for k in st.resources if k not in left], st.values, st.now, st.long)
-    return drops + exit_steps(f, less, r)
 
 
 def stays(f):
@@ -89,8 +78,8 @@ def opened(f, st):
     sp.become(1, [k for k, _ in owns])
     sp.move(plain + st.resources)
     sp.say(' '.join(['drop ! $'] * len(plain)))
-    body = [l.replace(' ! ', ' t ') for l in sp.text('s)')]
-    return [f'opened : {{K : Type 0}} {{Γ : List (Item 𝓤)}} {{G : Goal 𝓤 H}} → K → Step K W ({lists(f.owned(st), "Γ")}) G (Had Γ) G', 'opened t = step (λ s.'] + ['    ' + l for l in body] + ['']
+    body = [over(l) for l in sp.text('then')]
+    return [f'opened : {OPEN} {{G : Goal 𝓤 H}} → K → Seq K W ({lists(f.owned(st), "Γ")}) G → Seq K W (Had Γ) G', 'opened t then ='] + ['    ' + l for l in body] + ['']
 
 
 def had(f):
@@ -102,7 +91,7 @@ def begins(f, st, first):
     """the locals stand, the parameters are set: what was had is taken apart, and the walk begins"""
     n = len(f.fn.locals)
     return [f'begins : Sq W (locals 𝓤 H A E ({f.cells(st)}) (raw (Dies 𝓤 H A E) ∷ Had [])) (runs C Λ E body.t-1 (atRet E Post))',
-            f'begins = move ! ({n + 1} ∷ {n + 2} ∷ []) $ opened ! $ {first}', '']
+            f'begins = move ! ({n + 1} ∷ {n + 2} ∷ []) $ opened ! {first}', '']
 
 
 def entered(f, known, given):

@@ -148,7 +148,7 @@ class Function:
         if kind == 'tok':
             return f'‵ (flft κ{sub(name)} q{sub(name)})'
         if kind == 'at':
-            return f'‵ (fat fullShare ty{sub(name)} l{sub(name)} 0 {st.values[name].machine()})'
+            return f'‵ (fat fullShare {par(self.type_of(name))} l{sub(name)} 0 {st.values[name].machine()})'
         p = self.by_name[name]
         return p.last(par(st.now[name])) if kind == 'last' else p.own(par(st.now[name]) if p.mut else None)
 

@@ -7,7 +7,7 @@ from .names import KIT
 from .terms import bare, lists, par, prod, sub, tup
 from .plain import list_of
 
-WIDTH = 380
+WIDTH = 350
 
 
 def proof(f):
@@ -83,11 +83,8 @@ def walk(f, st, first, core):
     else:
         inner = [f'module _ (C : Calls 𝓤 H) (Λ : Loops 𝓤 H) (fm : FmC 𝓤 H (W .laws) C) {known(f, "C")} ({" ".join(f"l{sub(i)}" for i in blocks)} : ℕ) where']
         code = []
-    code += ['-- the types of the locals']
-    for i in blocks:
-        code += [f'abbrev ty{sub(i)} : Ty', f'ty{sub(i)} = {bare(f.type_of(i))}', '']
-    code += ['abbrev E : Env 𝓤 H', 'E = ' + lists(f'(ty{sub(i)}, l{sub(i)})' for i in blocks), '',
-             '-- the locals, with what is owed of them', 'abbrev standing : List Cell → List (Item 𝓤)', 'standing cs = locals 𝓤 H A E cs (raw (Dies 𝓤 H A E) ∷ [])', '']
+    code += ['-- the locals, and their entries with what is owed of them', 'abbrev E : Env 𝓤 H', 'E = ' + lists(f'({bare(f.type_of(i))}, l{sub(i)})' for i in blocks), '',
+             'abbrev standing : List Cell → List (Item 𝓤)', 'standing cs = locals 𝓤 H A E cs (raw (Dies 𝓤 H A E) ∷ [])', '']
     code += core + begins(f, st, first)
     inner += ['  ' + l if l else '' for l in code]
     table = '𝓣 .C' if f.turn else 'C'
@@ -172,4 +169,4 @@ def short(line):
             best, at = depth, i
     if at is None:
         return line
-    return line[:at] + '\n' + short(' ' * (indent + (4 if not line.lstrip().startswith('use ') else 4)) + line[at + 1:])
+    return line[:at] + '\n' + short(' ' * (indent + 4) + line[at + 1:])

@@ -64,3 +64,11 @@ def proj(i):
 
 def binders(pairs):
     return ' '.join(f'({n} : {t})' for n, t in pairs)
+
+
+# a lemma over an open context: its rules take the marker t that it is given, so that it is compared with the goal before its arguments are read
+OPEN = '{K : Type 0} {Γ : List (Item 𝓤)}'
+
+
+def over(script):
+    return script.replace(' ! ', ' t ').replace(' !)', ' t)')
