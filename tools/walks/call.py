@@ -115,19 +115,29 @@ class Call:
         return [f'-- what `{g.fn}` says of its answer and of the lists that it leaves',
                 f'abbrev Said-{t} : {" → ".join([par(g.result.denot)] + [list_of(w.p.row) for _, w in self.muts])} → Type 0', f'Said-{t} {names} = {fact}', '']
 
+    def left(self):
+        """what is said of the lists that the callee leaves, parameter by parameter"""
+        out = []
+        for q in self.g.params:
+            if q.mut:
+                w, ws = self.ways[q.i], f'(ws{proj(q.i)})'
+                out.append(f'(‵ (finally {w.p.row.row} {w.name} {ws}) ⊛ ‵ (feq ℕ (length {ws}) (length {w.now})))')
+            else:
+                out.append('‵ ftrue')
+        return out
+
     def lists_left(self, sp):
         """the last lists, one by one, and that each is as long as before"""
-        line = ''
-        for q in self.g.params:
-            if not q.mut:
-                line += ' fsplit ! $ drop ! $'
-                continue
-            name = self.ways[q.i].p.name
-            line += f' fsplit ! $ fsplit ! $ move ! (1 ∷ []) $ feqL ! (λ {name}-long. move ! (1 ∷ []) $'
-            sp.open += 1
-            sp.ctx.insert(1, ('last', name))
-        sp.say(line.strip() + ' drop ! $')
-        sp.ctx.pop(0)
+        sp.say(f'splits ! ({lists(self.left())}) (id⊢ 𝓤 _) $')
+        none = [('none', q.i) for q in self.g.params if not q.mut]
+        sp.become(1, [('left', q.i) if q.mut else ('none', q.i) for q in self.g.params])
+        for i, w in self.muts:
+            sp.move([('left', i)])
+            sp.binds(f'split ! $ move ! (1 ∷ []) $ feqL ! (λ {w.p.name}-long.')
+            sp.become(1, [('last', w.p.name)])
+        sp.move(none)
+        sp.say(' '.join(['drop ! $'] * len(none)))
+        sp.become(len(none), [])
 
     def answered(self, sp):
         """from the callee's post to its result, its fact, the tokens and the last lists"""
@@ -136,9 +146,10 @@ class Call:
         at = f'{par(self.at("lfts-" + t))} {par(self.at("args-" + t))}'
         tokens = ' ⊛ '.join([text for _, text in self.tokens] + ['‵ ftrue'])
         lasts = prod(list_of(q.row) if q.mut else 'Unit {0}' for q in g.params)
+        left = ' ⊛ '.join(self.left() + ['‵ ftrue'])
         sp.say(f'use1 W (later (some (λ ({r} : {R.denot}). (({tokens}) ⊛ ‵ ({R.row} .own {r} (u ∷ []))) ⊛ raw (ensured 𝓤 H A {g.id}.ended ({g.id}.clauses 𝓤 H A mem run) {at} tt {r})))) (id⊢ 𝓤 _) $')
         sp.binds(f'await ! tt $ pick ! (λ {r}. split ! $ move ! (1 ∷ []) $')
-        sp.say(f'use1 W (some (λ (ws : {lasts}). ‵ (lasts {g.id}.ended {at} ws) ⊛ raw (fact 𝓤 ({said})))) (id⊢ 𝓤 _) $')
+        sp.say(f'use1 W (some (λ (ws : {lasts}). ({left}) ⊛ raw (fact 𝓤 ({said})))) (id⊢ 𝓤 _) $')
         sp.binds('pick ! (λ ws.')
         sp.binds(f'split ! $ move ! (1 ∷ []) $ heard ! ({said}) (λ said-{t}.')
         sp.become(1, ['lasts', 'both'])
@@ -148,8 +159,7 @@ class Call:
         sp.say(f'splits ! ({lists(text for _, text in self.tokens)}) (id⊢ 𝓤 _) $')
         sp.become(1, [k for k, _ in self.tokens] + ['result'])
         sp.move(['result'])
-        sp.binds(f'peeks ! {R.row} (Is {R.row}) (shows 𝓤 H A {R.row}) {r} (u ∷ []) (λ is. let spelled = {R.tells} {r} _ is in')
-        sp.say('drop ! $ regoal ! (λ (y : Val). lands C Λ E d y rest q) (ap only spelled) refl $')
+        sp.binds(f'lands-at ! {R.row} ({R.fn}) ({R.tells}) {r} u (λ {r}-is.')
         sp.become(1, [])
 
     def back(self, st):
@@ -169,12 +179,12 @@ class Call:
         lands = 'lands C Λ E d {} rest q'
         body = [over(l) for l in sp.text('next ' + ' '.join(given))]
         return tele, [f'{name} : {OPEN} {{d : S.Place}} {{rest : S.Body}} {{q : Ending 𝓤 H}} → K → {arrow}({binders(tele)} → Seq K W ({after}) ({lands.format(R.val(self.r))}))',
-                      f'    → (u : Val) → Seq K W ({start}) ({lands.format("u")})', ' '.join([f'{name} {{d = d}} {{rest = rest}} {{q = q}} t'] + [n for n, _ in self.binders]) + ' next u ='] + ['    ' + l for l in body] + ['']
+                      f'    → (u : Val) → Seq K W ({start}) ({lands.format("u")})', ' '.join([name, 't'] + [n for n, _ in self.binders]) + ' next u ='] + ['    ' + l for l in body] + ['']
 
     def told(self, st):
         """(names with types, their terms in `back`) of what is known after the call, which st then says"""
         R, r, t = self.g.result, self.r, self.tag
-        tele, given = [(r, R.denot), (f'{r}-is', f'Is {R.row} {r} {R.vals(r)}')], [r, f'(subst (λ (vs : List Val). Is {R.row} {r} vs) spelled is)']
+        tele, given = [(r, R.denot), (f'{r}-is', f'Is {R.row} {r} {R.vals(r)}')], [r, f'{r}-is']
         for i, w in self.muts:
             tele.append((self.new[w.p.name], list_of(w.p.row)))
             given.append(f'(ws{proj(i)})')

@@ -10,6 +10,10 @@ from .plain import list_of
 from .values import Plain, Steps
 
 
+# so many assignments have a lemma: each makes the context of the next one slower to look into
+LONGEST = 4
+
+
 class Code:
     """a run of statements: the function's own, or those of a turn of the loop"""
 
@@ -56,6 +60,11 @@ class Parts:
         while True:
             s = code.stmts[j]
             last = not code.top and j == len(code.stmts) - 1
+            if j - first >= (LONGEST if s != 'return' and s[0] == 'assign' else 2) and not last:
+                then, inner = self.part(code, j, st)
+                defs += inner
+                lines = sp.text(then)
+                break
             if s == 'return':
                 lines = finish(self.f, st, sp, defs)
                 break

@@ -5,7 +5,7 @@ from .values import LocalArray
 
 class Passing:
     """a slice of the caller, `p`, as the callee's parameter `q`, at the list `now`
-    binders: names that the loan brings; lft, share, arg: what the callee is given; own, token, kept: (name, text) of entries of the context"""
+    binders: names that the loan brings; lft, share, name, arg: what the callee is given; own, token, kept: (name, text) of entries of the context"""
 
     def __init__(self, g, p, q, st):
         self.p, self.q = p, q
@@ -20,12 +20,13 @@ class Passing:
         """the steps after it, where last is the list that the callee left"""
 
     def same_lifetime(self):
-        self.lft, self.share = self.p.lft, self.p.share
+        self.lft, self.share, self.name = self.p.lft, self.p.share, f'({self.p.name} .name)'
         self.token = (('tok', self.p.k), self.p.token)
 
     def loan(self):
         """for the lifetime of a loan"""
         self.k = f'k-{self.p.name}'
+        self.name = f'({self.k} .name)'
         self.binders = [(self.k, 'Loan')]
         self.lft, self.share = f'{self.k} .life ∷ []', 'fullShare'
         self.token = (('loan', self.p.name), f'‵ (flft ({self.lft}) fullShare)')
@@ -37,7 +38,7 @@ class Handed(Passing):
     def set_up(self, g, st):
         p = self.p
         self.same_lifetime()
-        self.arg = f'slice-at {p.row.row} {p.name} ({p.name} .name) {self.now}' if p.mut else p.name
+        self.arg = f'slice-at {p.row.row} {p.name} {self.name} {self.now}' if p.mut else p.name
         self.own = (('own', p.name), p.own(self.now))
 
 
@@ -62,7 +63,7 @@ class Again(Passing):
     def set_up(self, g, st):
         p = self.p
         self.loan()
-        self.arg = f'slice-at {p.row.row} {p.name} ({self.k} .name) {self.now}'
+        self.arg = f'slice-at {p.row.row} {p.name} {self.name} {self.now}'
         self.own = (('lent', p.name), f'‵ (Lent {p.row.row} {p.name} (named {self.q.k}) {self.now} {self.k})')
         self.kept = [(('kept', p.name), f'‵ (Kept {p.row.row} {p.name} {p.lft} {p.share} {self.now} {self.k})')]
 
@@ -116,7 +117,7 @@ class ArrayLoan(Passing):
         self.now = par(self.value.term)
         self.full = (f'full-{p.name}', f'length {self.now} ≡ {p.n}')
         self.binders = [self.full] + self.binders
-        self.arg = f'placed {T} {p.l} ({self.k} .name) {self.now}'
+        self.arg = f'placed {T} {p.l} {self.name} {self.now}'
         lent, mine = ('LentCells', f'MineMut {T} {p.l} {p.n} {self.k}') if self.q.mut else ('SharedCells', f'MineShr {T} {p.l} {self.now} {self.k}')
         self.own = (('lent', p.name), f'‵ ({lent} {T} (named {self.q.k}) {p.l} {p.n} {self.now} {self.k})')
         self.kept = [(('kept', p.name), f'‵ ({mine})')]
