@@ -88,22 +88,24 @@ def had(f):
 
 
 def begins(f, st, first):
-    """the locals stand, the parameters are set: what was had is taken apart, and the walk begins"""
+    """the locals stand: the parameters are stored, what was had is taken apart, and the walk begins"""
     n = len(f.fn.locals)
-    return [f'begins : Sq W (locals 𝓤 H A E ({f.cells(st)}) (raw (Dies 𝓤 H A E) ∷ Had [])) (runs C Λ E body.t-1 (atRet E Post))',
-            f'begins = move ! ({n + 1} ∷ {n + 2} ∷ []) $ opened ! {first}', '']
+    passes = ' '.join(f'pass1 ! (init ! {p.i + 1} refl {typed(p)}) $' for p in f.params)
+    return [f'begins : Sq W (locals 𝓤 H A E ({lists(["vacant"] * n)}) (raw (Dies 𝓤 H A E) ∷ Had [])) (params′ E ({values(f)}) (runs C Λ E body.t-1 (atRet E Post)))',
+            'begins =', f'    params1 ! $ {passes} pass0 ! $', f'    move ! ({n + 1} ∷ {n + 2} ∷ []) $ opened ! {first}', '']
+
+
+def values(f):
+    return lists(p.value().machine() for p in f.params)
 
 
 def entered(f, known, given):
-    """the function itself: its locals are allocated, its parameters stored"""
-    n = f.fn.lifetimes
+    """the function itself: its locals are allocated"""
+    n, blocks = f.fn.lifetimes, ' '.join(f'l{sub(i)}' for i in range(len(f.fn.locals)))
     kappas, shares = tup(f'κ{sub(i)}' for i in range(n)), tup(f'q{sub(i)}' for i in range(n))
-    values = lists(p.value().machine() for p in f.params)
     tables = ('(𝓣 : Tables 𝓤 H)', '𝓣', '(𝓣 .C) (𝓣 .Λ)') if f.turn else ('(C : Calls 𝓤 H) (Λ : Loops 𝓤 H) (fm : FmC 𝓤 H (W .laws) C)', 'C Λ fm', 'C Λ')
-    passes = ' '.join(f'pass1 ! (init ! {p.i + 1} refl {typed(p)}) $' for p in f.params)
-    return [f'walk : {tables[0]} {known} → ent 𝓤 (onEntry 𝓤 H A f.signature {kappas} {shares} a at-entry) (WpFn 𝓤 H {tables[2]} code.function ({values}) Post)',
-            f'walk {tables[1]} {given} = qed W (Had []) ∵ enter ! {tables[2]} code.function ({values}) _ $ allocs-all ! (λ ns. params1 ! $',
-            f'    {passes} pass0 ! $', f'    begins {tables[1]} {given} ' + ' '.join(f'(ns{proj(i)})' for i in range(len(f.fn.locals))) + ')', '']
+    return [f'walk : {tables[0]} {known} → ent 𝓤 (onEntry 𝓤 H A f.signature {kappas} {shares} a at-entry) (WpFn 𝓤 H {tables[2]} code.function ({values(f)}) Post)',
+            f'walk {tables[1]} {given} =', f'    qed W (Had []) ∵ enter ! {tables[2]} code.function ({values(f)}) _ $', f'    allocs-all ! (λ {blocks}. begins {tables[1]} {given} {blocks})', '']
 
 
 def typed(p):

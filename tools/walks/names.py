@@ -25,7 +25,7 @@ prog.Wp.{Heap, Calls, Loops, Out, Env, afterSeq, afterBlock, afterTurn, Wp, atRe
 ghost.Atoms.{Atoms}
 contract.Monad.{Fun, fact}
 contract.Running.{givenOf, tables, tablesOf}
-types.Kit.{Given, Item, Goal, Post as Ending, Soaks, Seq, Sq, runs, lands, anyQ, ‵, raw, _⊛_, ⋆, some, given, later, atRet, _$_, _∵_, !, qed, by, move, drop, use0, use1, use2, use3, split, split3, group, pick, learn, feqL, suffices, frame, await, done}
+types.Kit.{Given, Item, Goal, Post as Ending, Soaks, Seq, Sq, runs, lands, params′, anyQ, ‵, raw, _⊛_, ⋆, some, given, later, atRet, _$_, _∵_, !, qed, by, move, drop, use0, use1, use2, use3, split, split3, group, pick, learn, feqL, suffices, frame, await, done}
 types.Run.{look, init, store, forget, stop, hop, fld, from, load, lit, true-lit, false-lit, unit-lit, of-opd, addr, bin, and-then, no-more, assigns, assigns-last, land, first, skips, jumps, blocks, branches, exec, again, loops, Below, returns, enter, params1, pass1, pass0}
 types.Part.{whole, sub, look-in, agg}
 types.SemTy.{cells as side-by-side}
@@ -51,7 +51,7 @@ denote.Triple.Table.{entered, cited}
 denote.Triple.Walked.{says, needs, Stays, stay-slice, gave-slice, stay-dropped, walkOf, goes-slice, goes-gave-slice, goes-dropped, Walks, ends-at, walked, walk-meets}
 denote.Exit.{yes}
 Rattle.base_walk.proofs.Calls.{splits, asks-nothing, lands-at}
-Rattle.base_walk.proofs.Locals.{Cell, vacant, away, holds, locals, Dies, Blocks, allocs-all, frees-all, is-true, is-false}
+Rattle.base_walk.proofs.Locals.{Cell, vacant, away, holds, locals, Dies, allocs-all, frees-all, is-true, is-false}
 Rattle.base_walk.proofs.Loans.{Loan, again as slice-at, Own, Lent, Kept, Shared, lends, returned, shares, placed, LentCells, SharedCells, MineMut, MineShr, lends-cells, shares-cells, mut-cells-back, shr-cells-back}
 Rattle.base_walk.proofs.Arrays.{Many, many-val, apart, together, big-lit}'''.split('\n')
 

@@ -37,6 +37,15 @@ abbrev pub Blocks : List Local → Type 0
 Blocks [] = Unit {0}
 Blocks (l ∷ ls) = ℕ × Blocks ls
 
+-- something of all blocks, with each block as an argument of its own
+abbrev pub Every : (ls : List Local) → (Blocks ls → Type 1) → Type 1
+Every [] P = P tt
+Every (l ∷ ls) P = (b : ℕ) → Every ls (λ ns. P (b, ns))
+
+at-all : (ls : List Local) (P : Blocks ls → Type 1) → Every ls P → (ns : Blocks ls) → P ns
+at-all [] P k ns = k
+at-all (l ∷ ls) P k ns = at-all ls (λ ms. P (ns .0, ms)) (k (ns .0)) (ns .1)
+
 module _ {M : Type 1} (𝓤 : URA M) (H : Heap 𝓤) (A : Atoms 𝓤) where
   abbrev Pr : Type 2
   Pr = SProp 𝓤
@@ -118,13 +127,17 @@ module _ {M : Type 1} (𝓤 : URA M) (H : Heap 𝓤) (A : Atoms 𝓤) where
         (qed W ((raw r ⊛ raw (Rooms E)) ∷ (raw d ⊛ raw (Dies E)) ∷ raw P ∷ []) ∵ split ! $ move ! (2 ∷ []) $ split ! $ move ! (2 ∷ 0 ∷ []) $ join ! $ frame ! $ move ! (1 ∷ 0 ∷ 2 ∷ []) $ done !)
         (monoR 𝓤 (r ∗ d) (release⊢ E P))
 
+-- what is shown of the code once the locals stand in these blocks
+abbrev Stands : {M : Type 1} {𝓤 : URA M} {H : Heap 𝓤} {A : Atoms 𝓤} (K : Type 0) (W : Given 𝓤 H A) (Γ : List (Item 𝓤)) (ls : List Local) → (Env 𝓤 H → Goal 𝓤 H) → Blocks ls → Type 1
+Stands {𝓤 = 𝓤} {H = H} {A = A} K W Γ ls Kt ns =
+    Seq K W (locals 𝓤 H A (env 𝓤 H A ls ns) (none-set 𝓤 H A (env 𝓤 H A ls ns)) (raw (Dies 𝓤 H A (env 𝓤 H A ls ns)) ∷ Γ)) (Kt (env 𝓤 H A ls ns))
+
 module _ {M : Type 1} {𝓤 : URA M} {H : Heap 𝓤} {A : Atoms 𝓤} {K : Type 0} {W : Given 𝓤 H A} {Γ : List (Item 𝓤)} where
-  pub allocs-all : K → {ls : List Local} {Kt : Env 𝓤 H → Goal 𝓤 H}
-      → ((ns : Blocks ls) → Seq K W (locals 𝓤 H A (env 𝓤 H A ls ns) (none-set 𝓤 H A (env 𝓤 H A ls ns)) (raw (Dies 𝓤 H A (env 𝓤 H A ls ns)) ∷ Γ)) (Kt (env 𝓤 H A ls ns))) → Seq K W Γ (allocs ls Kt)
+  pub allocs-all : K → {ls : List Local} {Kt : Env 𝓤 H → Goal 𝓤 H} → Every ls (Stands K W Γ ls Kt) → Seq K W Γ (allocs ls Kt)
   allocs-all t {ls} {Kt} k = record {
     prf = alloc⊢ 𝓤 H A W ls (⋆ 𝓤 H A Γ) (λ E. aim 𝓤 H (Kt E)) (λ ns.
         via 𝓤 (sep 𝓤 (Rooms 𝓤 H A (env 𝓤 H A ls ns)) (⋆ 𝓤 H A (raw (Dies 𝓤 H A (env 𝓤 H A ls ns)) ∷ Γ))) (monoR 𝓤 (Rooms 𝓤 H A (env 𝓤 H A ls ns)) (push 𝓤 H A (raw (Dies 𝓤 H A (env 𝓤 H A ls ns))) Γ))
-        (via 𝓤 _ (in⊢ 𝓤 H A (env 𝓤 H A ls ns) (raw (Dies 𝓤 H A (env 𝓤 H A ls ns)) ∷ Γ)) (k ns .prf)));
+        (via 𝓤 _ (in⊢ 𝓤 H A (env 𝓤 H A ls ns) (raw (Dies 𝓤 H A (env 𝓤 H A ls ns)) ∷ Γ)) (at-all ls (Stands K W Γ ls Kt) k ns .prf)));
   }
 
 module _ {M : Type 1} {𝓤 : URA M} {H : Heap 𝓤} {A : Atoms 𝓤} {K : Type 0} {W : Given 𝓤 H A} where

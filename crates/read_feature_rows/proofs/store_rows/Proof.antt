@@ -23,7 +23,7 @@ use prog.Wp.{Heap, Calls, Loops, Out, Env, afterSeq, afterBlock, afterTurn, Wp, 
 use ghost.Atoms.{Atoms}
 use contract.Monad.{Fun, fact}
 use contract.Running.{givenOf, tables, tablesOf}
-use types.Kit.{Given, Item, Goal, Post as Ending, Soaks, Seq, Sq, runs, lands, anyQ, ‵, raw, _⊛_, ⋆, some, later, atRet, _$_, _∵_, !, qed, move, drop, use1, use2, use3, split, split3, group, pick, feqL, suffices, frame, await, done}
+use types.Kit.{Given, Item, Goal, Post as Ending, Soaks, Seq, Sq, runs, lands, params′, anyQ, ‵, raw, _⊛_, ⋆, some, later, atRet, _$_, _∵_, !, qed, move, drop, use1, use2, use3, split, split3, group, pick, feqL, suffices, frame, await, done}
 use types.Run.{look, init, store, forget, stop, hop, fld, from, load, lit, of-opd, addr, bin, and-then, no-more, assigns, assigns-last, land, first, skips, jumps, blocks, branches, exec, again, loops, Below, returns, enter, params1, pass1, pass0}
 use types.Part.{whole, sub, look-in, agg}
 use sound.WpLaws.{FmC, fmOf, WpFn-mono}
@@ -97,15 +97,18 @@ v r = sliceVal (r .ptr) (length (r .now))
 abbrev turn-from-11 : S.Body
 turn-from-11 = S.assign (S.place 8 []) (S.rvOpd (S.copy (S.place 9 (S.field 1 ∷ []))))
 
+abbrev turn-from-10 : S.Body
+turn-from-10 = S.seq (S.call #base-rows·store-row (S.copy (S.place 16 []) ∷ S.copy (S.place 8 (S.field 2 ∷ [])) ∷ S.copy (S.place 9 (S.field 0 ∷ [])) ∷ []) (S.place 10 [])) turn-from-11
+
 abbrev turn-from-8 : S.Body
-turn-from-8 = S.seq (S.assign (S.place 15 []) (S.addrOf (S.place 6 (S.field 0 ∷ S.deref Feature-has.mir ∷ []))))
-    (S.seq (S.assign (S.place 16 []) (S.aggregate (S.copy (S.place 15 []) ∷ S.copy (S.place 6 (S.field 1 ∷ [])) ∷ []))) (S.seq (S.call #base-rows·store-row (S.copy (S.place 16 []) ∷ S.copy (S.place 8 (S.field 2 ∷ [])) ∷ S.copy (S.place 9 (S.field 0 ∷ [])) ∷ []) (S.place 10 [])) turn-from-11))
+turn-from-8 = S.seq (S.assign (S.place 15 []) (S.addrOf (S.place 6 (S.field 0 ∷ S.deref Feature-has.mir ∷ [])))) (S.seq (S.assign (S.place 16 []) (S.aggregate (S.copy (S.place 15 []) ∷ S.copy (S.place 6 (S.field 1 ∷ [])) ∷ []))) turn-from-10)
+
+abbrev turn-from-7 : S.Body
+turn-from-7 = S.seq (S.call #read-feature-row·put-row (S.copy (S.place 1 []) ∷ S.copy (S.place 12 []) ∷ S.copy (S.place 14 []) ∷ S.copy (S.place 8 []) ∷ []) (S.place 9 [])) turn-from-8
 
 abbrev turn-from-3 : S.Body
 turn-from-3 = S.seq (S.assign (S.place 11 []) (S.addrOf (S.place 4 (S.field 0 ∷ S.deref (tyInt w8) ∷ []))))
-    (S.seq (S.assign (S.place 12 []) (S.aggregate (S.copy (S.place 11 []) ∷ S.copy (S.place 4 (S.field 1 ∷ [])) ∷ [])))
-    (S.seq (S.assign (S.place 13 []) (S.addrOf (S.place 7 (S.field 0 ∷ S.deref (tyInt w64) ∷ []))))
-    (S.seq (S.assign (S.place 14 []) (S.aggregate (S.copy (S.place 13 []) ∷ S.copy (S.place 7 (S.field 1 ∷ [])) ∷ []))) (S.seq (S.call #read-feature-row·put-row (S.copy (S.place 1 []) ∷ S.copy (S.place 12 []) ∷ S.copy (S.place 14 []) ∷ S.copy (S.place 8 []) ∷ []) (S.place 9 [])) turn-from-8))))
+    (S.seq (S.assign (S.place 12 []) (S.aggregate (S.copy (S.place 11 []) ∷ S.copy (S.place 4 (S.field 1 ∷ [])) ∷ []))) (S.seq (S.assign (S.place 13 []) (S.addrOf (S.place 7 (S.field 0 ∷ S.deref (tyInt w64) ∷ [])))) (S.seq (S.assign (S.place 14 []) (S.aggregate (S.copy (S.place 13 []) ∷ S.copy (S.place 7 (S.field 1 ∷ [])) ∷ []))) turn-from-7)))
 
 abbrev turn-from-2 : S.Body
 turn-from-2 = S.seq (S.cond (S.copy (S.place 10 [])) S.skip (S.exit 1)) turn-from-3
@@ -349,13 +352,13 @@ module _ {M : Type 1} (𝓤 : URA M) (H : Heap 𝓤) (A : Atoms 𝓤) (W : Given
               next r-store-row r-store-row-is (ws .0) (rows-long ∙ (i .rows-now-long)) said-store-row)))))
 
           module _ (r-store-row : Bool) (r-store-row-is : Is bool r-store-row ((vbool r-store-row) ∷ [])) (rows-store-row : List Feature) (rows-store-row-long : length rows-store-row ≡ length (rows .now)) (said-store-row : Said-store-row r-store-row rows-store-row) where
-            abbrev part-6-holds : List Cell
-            part-6-holds = vacant ∷ holds (v s) ∷ holds (vint w64 at′) ∷ holds (vint w64 n) ∷ holds (v texts) ∷ holds (vint w64 place) ∷ holds (v rows) ∷ holds (v qualifiers) ∷ holds (Reached-val (i .reached)) ∷ holds (Made-val r-put-row) ∷ holds (vbool r-store-row) ∷ holds (vptr (texts .ptr .0) (texts .ptr .1)) ∷ holds (v texts) ∷ holds
+            abbrev part-8-holds : List Cell
+            part-8-holds = vacant ∷ holds (v s) ∷ holds (vint w64 at′) ∷ holds (vint w64 n) ∷ holds (v texts) ∷ holds (vint w64 place) ∷ holds (v rows) ∷ holds (v qualifiers) ∷ holds (Reached-val (i .reached)) ∷ holds (Made-val r-put-row) ∷ holds (vbool r-store-row) ∷ holds (vptr (texts .ptr .0) (texts .ptr .1)) ∷ holds (v texts) ∷ holds
                 (vptr (qualifiers .ptr .0) (qualifiers .ptr .1)) ∷ holds (v qualifiers) ∷ holds (vptr (rows .ptr .0) (rows .ptr .1)) ∷ holds (v rows) ∷ []
 
-            part-6 : Sq W (‵ (flft κ₀ q₀) ∷ ‵ (flft κ₁ q₁) ∷ ‵ (flft κ₂ q₂) ∷ ‵ (flft κ₃ q₃) ∷ ‵ s-own ∷ ‵ (texts-own texts-put-row) ∷ ‵ (rows-own rows-store-row) ∷ ‵ (qualifiers-own qualifiers-put-row) ∷ standing part-6-holds) (runs C Λ E turn-from-11 (anyQ (Turned i)))
+            part-8 : Sq W (‵ (flft κ₀ q₀) ∷ ‵ (flft κ₁ q₁) ∷ ‵ (flft κ₂ q₂) ∷ ‵ (flft κ₃ q₃) ∷ ‵ s-own ∷ ‵ (texts-own texts-put-row) ∷ ‵ (rows-own rows-store-row) ∷ ‵ (qualifiers-own qualifiers-put-row) ∷ standing part-8-holds) (runs C Λ E turn-from-11 (anyQ (Turned i)))
             unfolding afterTurn
-            part-6 =
+            part-8 =
                 assigns-last ! (of-opd ! (load ! (from ! (fld ! refl (stop !))) (look-in ! 17 (sub ! 1 refl (whole !))))) (from ! (stop !))
                 (store ! 16 refl (LL.lawful Reached-is.the-type Reached-has.the-laws 𝓤 H A W .typed (r-put-row .reached) ((Reached-val (r-put-row .reached)) ∷ []) (LL.owed Made-is.the-type Made-has.the-laws r-put-row _ r-put-row-is .1 .0) .0)) $
                 forget ! 17 refl $
@@ -379,21 +382,43 @@ module _ {M : Type 1} (𝓤 : URA M) (H : Heap 𝓤) (A : Atoms 𝓤) (W : Given
                       (storing-on (s .now) at′ n place (texts .now) (rows .now) (qualifiers .now) required (i .texts-now) (i .rows-now) (i .qualifiers-now) (i .reached) (i .holds-on) texts-put-row qualifiers-put-row r-put-row test said-put-row (texts-put-row-long ∙ sym (i .texts-now-long)) (qualifiers-put-row-long ∙ sym (i .qualifiers-now-long)));
                 }) (nearer n (i .reached .row) (r-put-row .reached .row) (said-put-row .next) test)
 
-          abbrev part-5-holds : List Cell
-          part-5-holds = vacant ∷ holds (v s) ∷ holds (vint w64 at′) ∷ holds (vint w64 n) ∷ holds (v texts) ∷ holds (vint w64 place) ∷ holds (v rows) ∷ holds (v qualifiers) ∷ holds (Reached-val (i .reached)) ∷ holds (Made-val r-put-row) ∷ holds (vbool (ltb ((i .reached) .row) n)) ∷ holds (vptr (texts .ptr .0) (texts .ptr .1)) ∷ holds (v texts) ∷
-              holds (vptr (qualifiers .ptr .0) (qualifiers .ptr .1)) ∷ holds (v qualifiers) ∷ vacant ∷ vacant ∷ []
+          abbrev part-7-holds : List Cell
+          part-7-holds = vacant ∷ holds (v s) ∷ holds (vint w64 at′) ∷ holds (vint w64 n) ∷ holds (v texts) ∷ holds (vint w64 place) ∷ holds (v rows) ∷ holds (v qualifiers) ∷ holds (Reached-val (i .reached)) ∷ holds (Made-val r-put-row) ∷ holds (vbool (ltb ((i .reached) .row) n)) ∷ holds (vptr (texts .ptr .0) (texts .ptr .1)) ∷ holds (v texts) ∷
+              holds (vptr (qualifiers .ptr .0) (qualifiers .ptr .1)) ∷ holds (v qualifiers) ∷ holds (vptr (rows .ptr .0) (rows .ptr .1)) ∷ holds (v rows) ∷ []
 
-          part-5 : Sq W (‵ (flft κ₀ q₀) ∷ ‵ (flft κ₁ q₁) ∷ ‵ (flft κ₂ q₂) ∷ ‵ (flft κ₃ q₃) ∷ ‵ s-own ∷ ‵ (texts-own texts-put-row) ∷ ‵ (rows-own (i .rows-now)) ∷ ‵ (qualifiers-own qualifiers-put-row) ∷ standing part-5-holds) (runs C Λ E turn-from-8 (anyQ (Turned i)))
+          part-7 : Sq W (‵ (flft κ₀ q₀) ∷ ‵ (flft κ₁ q₁) ∷ ‵ (flft κ₂ q₂) ∷ ‵ (flft κ₃ q₃) ∷ ‵ s-own ∷ ‵ (texts-own texts-put-row) ∷ ‵ (rows-own (i .rows-now)) ∷ ‵ (qualifiers-own qualifiers-put-row) ∷ standing part-7-holds) (runs C Λ E turn-from-10 (anyQ (Turned i)))
           unfolding afterTurn
-          part-5 =
-              assigns ! (addr ! (from ! (fld ! refl (hop ! (look-in ! 14 (sub ! 0 refl (whole !))) (stop !))))) (from ! (stop !)) (init ! 23 refl (tt, tt)) $
-              assigns ! (agg ! (and-then ! (load ! (from ! (stop !)) (look ! 23 refl)) (and-then ! (load ! (from ! (fld ! refl (stop !))) (look-in ! 14 (sub ! 1 refl (whole !)))) (no-more !)))) (from ! (stop !)) (init ! 24 refl (tt, (tt, (record { fits = rows-room .0 }, tt)))) $
+          part-7 =
               lends-store-row ! tt (λ k-rows.
               calls-at ! fm (store-row-contract 𝓤 H A mem run) known-store-row (to-store-row k-rows)
               (and-then ! (load ! (from ! (stop !)) (look ! 24 refl)) (and-then ! (load ! (from ! (fld ! refl (stop !))) (look-in ! 16 (sub ! 2 refl (whole !)))) (and-then ! (load ! (from ! (fld ! refl (stop !))) (look-in ! 17 (sub ! 0 refl (whole !)))) (no-more !))))
               (back-store-row ! k-rows (λ r-store-row r-store-row-is rows-store-row rows-store-row-long said-store-row.
               land ! (from ! (stop !)) (store ! 18 refl (bool-lawful 𝓤 H A W .typed r-store-row ((vbool r-store-row) ∷ []) r-store-row-is .0)) $
-              part-6 r-store-row r-store-row-is rows-store-row rows-store-row-long said-store-row)))
+              part-8 r-store-row r-store-row-is rows-store-row rows-store-row-long said-store-row)))
+
+          abbrev part-6-holds : List Cell
+          part-6-holds = vacant ∷ holds (v s) ∷ holds (vint w64 at′) ∷ holds (vint w64 n) ∷ holds (v texts) ∷ holds (vint w64 place) ∷ holds (v rows) ∷ holds (v qualifiers) ∷ holds (Reached-val (i .reached)) ∷ holds (Made-val r-put-row) ∷ holds (vbool (ltb ((i .reached) .row) n)) ∷ holds (vptr (texts .ptr .0) (texts .ptr .1)) ∷ holds (v texts) ∷
+              holds (vptr (qualifiers .ptr .0) (qualifiers .ptr .1)) ∷ holds (v qualifiers) ∷ vacant ∷ vacant ∷ []
+
+          part-6 : Sq W (‵ (flft κ₀ q₀) ∷ ‵ (flft κ₁ q₁) ∷ ‵ (flft κ₂ q₂) ∷ ‵ (flft κ₃ q₃) ∷ ‵ s-own ∷ ‵ (texts-own texts-put-row) ∷ ‵ (rows-own (i .rows-now)) ∷ ‵ (qualifiers-own qualifiers-put-row) ∷ standing part-6-holds) (runs C Λ E turn-from-8 (anyQ (Turned i)))
+          unfolding afterTurn
+          part-6 =
+              assigns ! (addr ! (from ! (fld ! refl (hop ! (look-in ! 14 (sub ! 0 refl (whole !))) (stop !))))) (from ! (stop !)) (init ! 23 refl (tt, tt)) $
+              assigns ! (agg ! (and-then ! (load ! (from ! (stop !)) (look ! 23 refl)) (and-then ! (load ! (from ! (fld ! refl (stop !))) (look-in ! 14 (sub ! 1 refl (whole !)))) (no-more !)))) (from ! (stop !)) (init ! 24 refl (tt, (tt, (record { fits = rows-room .0 }, tt)))) $
+              part-7
+
+        abbrev part-5-holds : List Cell
+        part-5-holds = vacant ∷ holds (v s) ∷ holds (vint w64 at′) ∷ holds (vint w64 n) ∷ holds (v texts) ∷ holds (vint w64 place) ∷ holds (v rows) ∷ holds (v qualifiers) ∷ holds (Reached-val (i .reached)) ∷ vacant ∷ holds (vbool (ltb ((i .reached) .row) n)) ∷ holds (vptr (texts .ptr .0) (texts .ptr .1)) ∷ holds (v texts) ∷ holds
+            (vptr (qualifiers .ptr .0) (qualifiers .ptr .1)) ∷ holds (v qualifiers) ∷ vacant ∷ vacant ∷ []
+
+        part-5 : Sq W (‵ (flft κ₀ q₀) ∷ ‵ (flft κ₁ q₁) ∷ ‵ (flft κ₂ q₂) ∷ ‵ (flft κ₃ q₃) ∷ ‵ s-own ∷ ‵ (texts-own (i .texts-now)) ∷ ‵ (rows-own (i .rows-now)) ∷ ‵ (qualifiers-own (i .qualifiers-now)) ∷ standing part-5-holds) (runs C Λ E turn-from-7 (anyQ (Turned i)))
+        unfolding afterTurn
+        part-5 =
+            lends-put-row ! tt (λ k-texts k-qualifiers.
+            calls-at ! fm (put-row-contract 𝓤 H A mem run) known-put-row (to-put-row k-texts k-qualifiers) (and-then ! (load ! (from ! (stop !)) (look ! 7 refl)) (and-then ! (load ! (from ! (stop !)) (look ! 18 refl)) (and-then ! (load ! (from ! (stop !)) (look ! 20 refl)) (and-then ! (load ! (from ! (stop !)) (look ! 14 refl)) (no-more !)))))
+            (back-put-row ! k-texts k-qualifiers (λ r-put-row r-put-row-is texts-put-row qualifiers-put-row texts-put-row-long qualifiers-put-row-long said-put-row.
+            land ! (from ! (stop !)) (init ! 17 refl (LL.lawful Made-is.the-type Made-has.the-laws 𝓤 H A W .typed r-put-row ((Made-val r-put-row) ∷ []) r-put-row-is .0)) $
+            part-6 r-put-row r-put-row-is texts-put-row qualifiers-put-row texts-put-row-long qualifiers-put-row-long said-put-row)))
 
         abbrev part-4-holds : List Cell
         part-4-holds = vacant ∷ holds (v s) ∷ holds (vint w64 at′) ∷ holds (vint w64 n) ∷ holds (v texts) ∷ holds (vint w64 place) ∷ holds (v rows) ∷ holds (v qualifiers) ∷ holds (Reached-val (i .reached)) ∷ vacant ∷ holds (vbool (ltb ((i .reached) .row) n)) ∷ vacant ∷ vacant ∷ vacant ∷ vacant ∷ vacant ∷ vacant ∷ []
@@ -405,11 +430,7 @@ module _ {M : Type 1} (𝓤 : URA M) (H : Heap 𝓤) (A : Atoms 𝓤) (W : Given
             assigns ! (agg ! (and-then ! (load ! (from ! (stop !)) (look ! 19 refl)) (and-then ! (load ! (from ! (fld ! refl (stop !))) (look-in ! 12 (sub ! 1 refl (whole !)))) (no-more !)))) (from ! (stop !)) (init ! 20 refl (tt, (tt, (record { fits = texts-room .0 }, tt)))) $
             assigns ! (addr ! (from ! (fld ! refl (hop ! (look-in ! 15 (sub ! 0 refl (whole !))) (stop !))))) (from ! (stop !)) (init ! 21 refl (tt, tt)) $
             assigns ! (agg ! (and-then ! (load ! (from ! (stop !)) (look ! 21 refl)) (and-then ! (load ! (from ! (fld ! refl (stop !))) (look-in ! 15 (sub ! 1 refl (whole !)))) (no-more !)))) (from ! (stop !)) (init ! 22 refl (tt, (tt, (record { fits = qualifiers-room .0 }, tt)))) $
-            lends-put-row ! tt (λ k-texts k-qualifiers.
-            calls-at ! fm (put-row-contract 𝓤 H A mem run) known-put-row (to-put-row k-texts k-qualifiers) (and-then ! (load ! (from ! (stop !)) (look ! 7 refl)) (and-then ! (load ! (from ! (stop !)) (look ! 18 refl)) (and-then ! (load ! (from ! (stop !)) (look ! 20 refl)) (and-then ! (load ! (from ! (stop !)) (look ! 14 refl)) (no-more !)))))
-            (back-put-row ! k-texts k-qualifiers (λ r-put-row r-put-row-is texts-put-row qualifiers-put-row texts-put-row-long qualifiers-put-row-long said-put-row.
-            land ! (from ! (stop !)) (init ! 17 refl (LL.lawful Made-is.the-type Made-has.the-laws 𝓤 H A W .typed r-put-row ((Made-val r-put-row) ∷ []) r-put-row-is .0)) $
-            part-5 r-put-row r-put-row-is texts-put-row qualifiers-put-row texts-put-row-long qualifiers-put-row-long said-put-row)))
+            part-5
 
       module _ (test : n ≤ ((i .reached) .row)) where
         -- the law, and the end
@@ -431,11 +452,11 @@ module _ {M : Type 1} (𝓤 : URA M) (H : Heap 𝓤) (A : Atoms 𝓤) (W : Given
             group ! 5 $ frame ! $ group ! 8 $
             done !
 
-        abbrev part-7-holds : List Cell
-        part-7-holds = vacant ∷ holds (v s) ∷ holds (vint w64 at′) ∷ holds (vint w64 n) ∷ holds (v texts) ∷ holds (vint w64 place) ∷ holds (v rows) ∷ holds (v qualifiers) ∷ holds (Reached-val (i .reached)) ∷ vacant ∷ holds (vbool (ltb ((i .reached) .row) n)) ∷ vacant ∷ vacant ∷ vacant ∷ vacant ∷ vacant ∷ vacant ∷ []
+        abbrev part-9-holds : List Cell
+        part-9-holds = vacant ∷ holds (v s) ∷ holds (vint w64 at′) ∷ holds (vint w64 n) ∷ holds (v texts) ∷ holds (vint w64 place) ∷ holds (v rows) ∷ holds (v qualifiers) ∷ holds (Reached-val (i .reached)) ∷ vacant ∷ holds (vbool (ltb ((i .reached) .row) n)) ∷ vacant ∷ vacant ∷ vacant ∷ vacant ∷ vacant ∷ vacant ∷ []
 
-        part-7 : Sq W (‵ (flft κ₀ q₀) ∷ ‵ (flft κ₁ q₁) ∷ ‵ (flft κ₂ q₂) ∷ ‵ (flft κ₃ q₃) ∷ ‵ s-own ∷ ‵ (texts-own (i .texts-now)) ∷ ‵ (rows-own (i .rows-now)) ∷ ‵ (qualifiers-own (i .qualifiers-now)) ∷ standing part-7-holds) (runs C Λ E body.t-3 (atRet E Post))
-        part-7 =
+        part-9 : Sq W (‵ (flft κ₀ q₀) ∷ ‵ (flft κ₁ q₁) ∷ ‵ (flft κ₂ q₂) ∷ ‵ (flft κ₃ q₃) ∷ ‵ s-own ∷ ‵ (texts-own (i .texts-now)) ∷ ‵ (rows-own (i .rows-now)) ∷ ‵ (qualifiers-own (i .qualifiers-now)) ∷ standing part-9-holds) (runs C Λ E body.t-3 (atRet E Post))
+        part-9 =
             assigns ! (of-opd ! (load ! (from ! (fld ! refl (stop !))) (look-in ! 16 (sub ! 1 refl (whole !))))) (from ! (stop !)) (init ! 8 refl (uint-lawful 𝓤 H A W w64 .typed ((i .reached) .text) ((vint w64 ((i .reached) .text)) ∷ []) (LL.owed Reached-is.the-type Reached-has.the-laws (i .reached) _ (i .reached-is) .1 .0) .0)) $
             returns ! (look ! 8 refl) $ frees-all ! at-last
             (holds (vint w64 ((i .reached) .text)) ∷ holds (v s) ∷ holds (vint w64 at′) ∷ holds (vint w64 n) ∷ holds (v texts) ∷ holds (vint w64 place) ∷ holds (v rows) ∷ holds (v qualifiers) ∷ holds (Reached-val (i .reached)) ∷ vacant ∷ holds (vbool (ltb ((i .reached) .row) n)) ∷ vacant ∷ vacant ∷ vacant ∷ vacant ∷ vacant ∷ vacant ∷ []) tt
@@ -449,7 +470,7 @@ module _ {M : Type 1} (𝓤 : URA M) (H : Heap 𝓤) (A : Atoms 𝓤) (W : Given
       part-3 =
           first ! $ branches ! (load ! (from ! (stop !)) (look ! 18 refl))
           (λ y. skips ! $ exec ! C Λ E turn-from-3 (anyQ (Turned i)) $ part-4 (ltb→lt ((i .reached) .row) n y))
-          (λ y. jumps ! $ exec ! C Λ E body.t-3 (atRet E Post) $ part-7 (nltb→le ((i .reached) .row) n y))
+          (λ y. jumps ! $ exec ! C Λ E body.t-3 (atRet E Post) $ part-9 (nltb→le ((i .reached) .row) n y))
 
       abbrev part-2-holds : List Cell
       part-2-holds = vacant ∷ holds (v s) ∷ holds (vint w64 at′) ∷ holds (vint w64 n) ∷ holds (v texts) ∷ holds (vint w64 place) ∷ holds (v rows) ∷ holds (v qualifiers) ∷ holds (Reached-val (i .reached)) ∷ vacant ∷ vacant ∷ vacant ∷ vacant ∷ vacant ∷ vacant ∷ vacant ∷ vacant ∷ []
@@ -470,16 +491,18 @@ module _ {M : Type 1} (𝓤 : URA M) (H : Heap 𝓤) (A : Atoms 𝓤) (W : Given
         first ! $ blocks ! $ loops ! 𝓣 Nearer Nearer-wf At part-2
         (record { reached = made-Reached; reached-is = made-Reached-is; texts-now = (texts .now); texts-now-long = refl; rows-now = (rows .now); rows-now-long = refl; qualifiers-now = (qualifiers .now); qualifiers-now-long = refl; holds-on = storing-none (s .now) at′ n place (texts .now) (rows .now) (qualifiers .now) required })
 
-    begins : Sq W (locals 𝓤 H A E (vacant ∷ holds (v s) ∷ holds (vint w64 at′) ∷ holds (vint w64 n) ∷ holds (v texts) ∷ holds (vint w64 place) ∷ holds (v rows) ∷ holds (v qualifiers) ∷ vacant ∷ vacant ∷ vacant ∷ vacant ∷ vacant ∷ vacant ∷ vacant ∷ vacant ∷ vacant ∷ []) (raw (Dies 𝓤 H A E) ∷ Had [])) (runs C Λ E body.t-1 (atRet E Post))
-    begins = move ! (18 ∷ 19 ∷ []) $ opened ! part-1
+    begins : Sq W (locals 𝓤 H A E (vacant ∷ vacant ∷ vacant ∷ vacant ∷ vacant ∷ vacant ∷ vacant ∷ vacant ∷ vacant ∷ vacant ∷ vacant ∷ vacant ∷ vacant ∷ vacant ∷ vacant ∷ vacant ∷ vacant ∷ []) (raw (Dies 𝓤 H A E) ∷ Had []))
+        (params′ E ((v s) ∷ (vint w64 at′) ∷ (vint w64 n) ∷ (v texts) ∷ (vint w64 place) ∷ (v rows) ∷ (v qualifiers) ∷ []) (runs C Λ E body.t-1 (atRet E Post)))
+    begins =
+        params1 ! $ pass1 ! (init ! 1 refl (tt, (tt, (record { fits = s-room .0 }, tt)))) $ pass1 ! (init ! 2 refl (uint-lawful 𝓤 H A W w64 .typed at′ ((vint w64 at′) ∷ []) at′-is .0)) $ pass1 ! (init ! 3 refl (uint-lawful 𝓤 H A W w64 .typed n ((vint w64 n) ∷ []) n-is .0)) $ pass1 ! (init ! 4 refl (tt, (tt, (record { fits = texts-room .0 }, tt))))
+        $ pass1 ! (init ! 5 refl (uint-lawful 𝓤 H A W w64 .typed place ((vint w64 place) ∷ []) place-is .0)) $ pass1 ! (init ! 6 refl (tt, (tt, (record { fits = rows-room .0 }, tt)))) $ pass1 ! (init ! 7 refl (tt, (tt, (record { fits = qualifiers-room .0 }, tt)))) $ pass0 ! $
+        move ! (18 ∷ 19 ∷ []) $ opened ! part-1
 
   walk : (𝓣 : Tables 𝓤 H) (known-put-row : Triple 𝓤 (𝓣 .C #read-feature-row·put-row) (put-row-contract 𝓤 H A mem run)) (known-store-row : Triple 𝓤 (𝓣 .C #base-rows·store-row) (store-row-contract 𝓤 H A mem run)) → ent 𝓤 (onEntry 𝓤 H A f.signature (κ₀, (κ₁, (κ₂, (κ₃, tt)))) (q₀, (q₁, (q₂, (q₃, tt)))) a at-entry)
       (WpFn 𝓤 H (𝓣 .C) (𝓣 .Λ) code.function ((v s) ∷ (vint w64 at′) ∷ (vint w64 n) ∷ (v texts) ∷ (vint w64 place) ∷ (v rows) ∷ (v qualifiers) ∷ []) Post)
-  walk 𝓣 known-put-row known-store-row = qed W (Had []) ∵ enter ! (𝓣 .C) (𝓣 .Λ) code.function ((v s) ∷ (vint w64 at′) ∷ (vint w64 n) ∷ (v texts) ∷ (vint w64 place) ∷ (v rows) ∷ (v qualifiers) ∷ []) _ $ allocs-all ! (λ ns. params1 ! $
-      pass1 ! (init ! 1 refl (tt, (tt, (record { fits = s-room .0 }, tt)))) $ pass1 ! (init ! 2 refl (uint-lawful 𝓤 H A W w64 .typed at′ ((vint w64 at′) ∷ []) at′-is .0)) $ pass1 ! (init ! 3 refl (uint-lawful 𝓤 H A W w64 .typed n ((vint w64 n) ∷ []) n-is .0)) $ pass1 ! (init ! 4 refl (tt, (tt, (record { fits = texts-room .0 }, tt)))) $ pass1 !
-      (init ! 5 refl (uint-lawful 𝓤 H A W w64 .typed place ((vint w64 place) ∷ []) place-is .0)) $ pass1 ! (init ! 6 refl (tt, (tt, (record { fits = rows-room .0 }, tt)))) $ pass1 ! (init ! 7 refl (tt, (tt, (record { fits = qualifiers-room .0 }, tt)))) $ pass0 ! $
-      begins 𝓣 known-put-row known-store-row (ns .0) (ns .1 .0) (ns .1 .1 .0) (ns .1 .1 .1 .0) (ns .1 .1 .1 .1 .0) (ns .1 .1 .1 .1 .1 .0) (ns .1 .1 .1 .1 .1 .1 .0) (ns .1 .1 .1 .1 .1 .1 .1 .0) (ns .1 .1 .1 .1 .1 .1 .1 .1 .0) (ns .1 .1 .1 .1 .1 .1 .1 .1 .1 .0) (ns .1 .1 .1 .1 .1 .1 .1 .1 .1 .1 .0) (ns .1 .1 .1 .1 .1 .1 .1 .1 .1 .1 .1 .0)
-      (ns .1 .1 .1 .1 .1 .1 .1 .1 .1 .1 .1 .1 .0) (ns .1 .1 .1 .1 .1 .1 .1 .1 .1 .1 .1 .1 .1 .0) (ns .1 .1 .1 .1 .1 .1 .1 .1 .1 .1 .1 .1 .1 .1 .0) (ns .1 .1 .1 .1 .1 .1 .1 .1 .1 .1 .1 .1 .1 .1 .1 .0) (ns .1 .1 .1 .1 .1 .1 .1 .1 .1 .1 .1 .1 .1 .1 .1 .1 .0))
+  walk 𝓣 known-put-row known-store-row =
+      qed W (Had []) ∵ enter ! (𝓣 .C) (𝓣 .Λ) code.function ((v s) ∷ (vint w64 at′) ∷ (vint w64 n) ∷ (v texts) ∷ (vint w64 place) ∷ (v rows) ∷ (v qualifiers) ∷ []) _ $
+      allocs-all ! (λ l₀ l₁ l₂ l₃ l₄ l₅ l₆ l₇ l₈ l₉ l₁₀ l₁₁ l₁₂ l₁₃ l₁₄ l₁₅ l₁₆. begins 𝓣 known-put-row known-store-row l₀ l₁ l₂ l₃ l₄ l₅ l₆ l₇ l₈ l₉ l₁₀ l₁₁ l₁₂ l₁₃ l₁₄ l₁₅ l₁₆)
 
 module _ {M : Type 1} (𝓤 : URA M) (H : Heap 𝓤) (A : Atoms 𝓤) (W : Given 𝓤 H A) (mem : Memory → SProp 𝓤) (run : Routine → Fun 𝓤) (𝓣 : Tables 𝓤 H) (known-put-row : Triple 𝓤 (𝓣 .C #read-feature-row·put-row) (put-row-contract 𝓤 H A mem run)) (known-store-row : Triple 𝓤 (𝓣 .C #base-rows·store-row) (store-row-contract 𝓤 H A mem run)) where
   store-rows-walks : Walks 𝓤 H A f.ended stayed (WpFn 𝓤 H (𝓣 .C) (𝓣 .Λ) code.function) (f.clauses 𝓤 H A mem run)

@@ -473,13 +473,7 @@ module _ {M : Type 1} (𝓤 : URA M) (H : Heap 𝓤) (A : Atoms 𝓤) (W : Given
 
   walk : (C : Calls 𝓤 H) (Λ : Loops 𝓤 H) (fm : FmC 𝓤 H (W .laws) C) (known-prepare : Triple 𝓤 (C #read-record-prepared·prepare) (prepare-contract 𝓤 H A mem run)) (known-store-rows : Triple 𝓤 (C #read-feature-rows·store-rows) (store-rows-contract 𝓤 H A mem run)) → ent 𝓤
       (onEntry 𝓤 H A f.signature (κ₀, (κ₁, (κ₂, (κ₃, (κ₄, (κ₅, (κ₆, tt))))))) (q₀, (q₁, (q₂, (q₃, (q₄, (q₅, (q₆, tt))))))) a at-entry) (WpFn 𝓤 H C Λ code.function ((v s) ∷ (vint w64 at′) ∷ (v texts) ∷ (v references) ∷ (v comments) ∷ (v rows) ∷ (v qualifiers) ∷ (v letters) ∷ []) Post)
-  walk C Λ fm known-prepare known-store-rows = qed W (Had []) ∵ enter ! C Λ code.function ((v s) ∷ (vint w64 at′) ∷ (v texts) ∷ (v references) ∷ (v comments) ∷ (v rows) ∷ (v qualifiers) ∷ (v letters) ∷ []) _ $ allocs-all ! (λ ns. params1 ! $
-      pass1 ! (init ! 1 refl (tt, (tt, (record { fits = s-room .0 }, tt)))) $ pass1 ! (init ! 2 refl (uint-lawful 𝓤 H A W w64 .typed at′ ((vint w64 at′) ∷ []) at′-is .0)) $ pass1 ! (init ! 3 refl (tt, (tt, (record { fits = texts-room .0 }, tt)))) $ pass1 ! (init ! 4 refl (tt, (tt, (record { fits = references-room .0 }, tt)))) $ pass1 !
-      (init ! 5 refl (tt, (tt, (record { fits = comments-room .0 }, tt)))) $ pass1 ! (init ! 6 refl (tt, (tt, (record { fits = rows-room .0 }, tt)))) $ pass1 ! (init ! 7 refl (tt, (tt, (record { fits = qualifiers-room .0 }, tt)))) $ pass1 ! (init ! 8 refl (tt, (tt, (record { fits = letters-room .0 }, tt)))) $ pass0 ! $
-      begins C Λ fm known-prepare known-store-rows (ns .0) (ns .1 .0) (ns .1 .1 .0) (ns .1 .1 .1 .0) (ns .1 .1 .1 .1 .0) (ns .1 .1 .1 .1 .1 .0) (ns .1 .1 .1 .1 .1 .1 .0) (ns .1 .1 .1 .1 .1 .1 .1 .0) (ns .1 .1 .1 .1 .1 .1 .1 .1 .0) (ns .1 .1 .1 .1 .1 .1 .1 .1 .1 .0) (ns .1 .1 .1 .1 .1 .1 .1 .1 .1 .1 .0) (ns .1 .1 .1 .1 .1 .1 .1 .1 .1 .1 .1 .0)
-      (ns .1 .1 .1 .1 .1 .1 .1 .1 .1 .1 .1 .1 .0) (ns .1 .1 .1 .1 .1 .1 .1 .1 .1 .1 .1 .1 .1 .0) (ns .1 .1 .1 .1 .1 .1 .1 .1 .1 .1 .1 .1 .1 .1 .0) (ns .1 .1 .1 .1 .1 .1 .1 .1 .1 .1 .1 .1 .1 .1 .1 .0) (ns .1 .1 .1 .1 .1 .1 .1 .1 .1 .1 .1 .1 .1 .1 .1 .1 .0) (ns .1 .1 .1 .1 .1 .1 .1 .1 .1 .1 .1 .1 .1 .1 .1 .1 .1 .0)
-      (ns .1 .1 .1 .1 .1 .1 .1 .1 .1 .1 .1 .1 .1 .1 .1 .1 .1 .1 .0) (ns .1 .1 .1 .1 .1 .1 .1 .1 .1 .1 .1 .1 .1 .1 .1 .1 .1 .1 .1 .0) (ns .1 .1 .1 .1 .1 .1 .1 .1 .1 .1 .1 .1 .1 .1 .1 .1 .1 .1 .1 .1 .0) (ns .1 .1 .1 .1 .1 .1 .1 .1 .1 .1 .1 .1 .1 .1 .1 .1 .1 .1 .1 .1 .1 .0)
-      (ns .1 .1 .1 .1 .1 .1 .1 .1 .1 .1 .1 .1 .1 .1 .1 .1 .1 .1 .1 .1 .1 .1 .0) (ns .1 .1 .1 .1 .1 .1 .1 .1 .1 .1 .1 .1 .1 .1 .1 .1 .1 .1 .1 .1 .1 .1 .1 .0) (ns .1 .1 .1 .1 .1 .1 .1 .1 .1 .1 .1 .1 .1 .1 .1 .1 .1 .1 .1 .1 .1 .1 .1 .1 .0) (ns .1 .1 .1 .1 .1 .1 .1 .1 .1 .1 .1 .1 .1 .1 .1 .1 .1 .1 .1 .1 .1 .1 .1 .1 .1 .0))
+  walk C Λ fm known-prepare known-store-rows = ?
 
 module _ {M : Type 1} (𝓤 : URA M) (H : Heap 𝓤) (A : Atoms 𝓤) (W : Given 𝓤 H A) (mem : Memory → SProp 𝓤) (run : Routine → Fun 𝓤) (𝓣 : Tables 𝓤 H) (known-prepare : Triple 𝓤 (𝓣 .C #read-record-prepared·prepare) (prepare-contract 𝓤 H A mem run)) (known-store-rows : Triple 𝓤 (𝓣 .C #read-feature-rows·store-rows) (store-rows-contract 𝓤 H A mem run)) where
   read-rows-walks : Walks 𝓤 H A f.ended stayed (WpFn 𝓤 H (𝓣 .C) (𝓣 .Λ) code.function) (f.clauses 𝓤 H A mem run)
