@@ -4,7 +4,7 @@ from .passing import ArrayLoan, passing
 from .statements import operand, operands
 from .plain import list_of
 from .terms import OPEN, binders, fail, lists, over, par, prod, proj, tup
-from .values import Plain, Slice, State, Steps
+from .values import Plain, Slice, Steps
 
 class Call:
     def __init__(self, f, g, st, sp):
@@ -91,7 +91,7 @@ class Call:
         sp.say(f'use{min(n, 1)} W (raw ({self.contract("pre")})) {par(self.at("goes-" + self.tag))} $')
         sp.become(n, ['pre'])
         self.kept = sp.ctx[1:]
-        start = lists([self.entry(k) for k in self.before], 'Γ')
+        start = lists([self.entry(k) for k in self.before], 'Γ') if self.head else f'{self.st.has} Γ'
         after = lists([f'raw ({self.contract("pre")})'] + [self.entry(k) for k in self.kept], 'Γ')
         name, arrow = f'lends-{self.tag}', binders(self.binders) + ' → ' if self.binders else ''
         body = [over(l) for l in sp.text(self.at('next'))]
@@ -147,7 +147,8 @@ class Call:
         tokens = ' ⊛ '.join([text for _, text in self.tokens] + ['‵ ftrue'])
         lasts = prod(list_of(q.row) if q.mut else 'Unit {0}' for q in g.params)
         left = ' ⊛ '.join(self.left() + ['‵ ftrue'])
-        sp.say(f'use1 W (later (some (λ ({r} : {R.denot}). (({tokens}) ⊛ ‵ ({R.row} .own {r} (u ∷ []))) ⊛ raw (ensured 𝓤 H A {g.id}.ended ({g.id}.clauses 𝓤 H A mem run) {at} tt {r})))) (id⊢ 𝓤 _) $')
+        ensured = f'ensured 𝓤 H A {g.id}.ended ({g.id}.clauses 𝓤 H A mem run) {at} tt {r}'
+        sp.say(f'use1 W (later (some (λ ({r} : {R.denot}). (({tokens}) ⊛ ‵ ({R.row} .own {r} (u ∷ []))) ⊛ raw ({ensured})))) (id⊢ 𝓤 _) $')
         sp.binds(f'await ! tt $ pick ! (λ {r}. split ! $ move ! (1 ∷ []) $')
         sp.say(f'use1 W (some (λ (ws : {lasts}). ({left}) ⊛ raw (fact 𝓤 ({said})))) (id⊢ 𝓤 _) $')
         sp.binds('pick ! (λ ws.')
@@ -171,6 +172,7 @@ class Call:
             w.back(sp, f'(ws{proj(i)})')
         tele, given = self.told(st)
         st.away |= {i for _, i in self.head}
+        st.has = f'has-{self.tag}'
         st.resources = self.f.canonical(sp.ctx, st.away)
         sp.move(st.resources)
         R = self.g.result
@@ -209,7 +211,7 @@ def call(f, g, st, sp, defs):
     if steps:
         fail('a call whose result goes to a part of a local')
     defs += c.terms() + c.asked() + c.lent() + c.said()
-    after = State(st.resources, st.values, st.now, st.long, st.away)
+    after = st.copy()
     tele, lines = c.back(after)
     defs += lines
     sp.move(c.before)

@@ -3,6 +3,10 @@ from .terms import OPEN, lists, over, par, proj, sub, tup
 from .values import State, Steps
 
 
+# what all of a walk is about
+LOGIC = '{M : Type 1} (𝓤 : URA M) (H : Heap 𝓤) (A : Atoms 𝓤) (W : Given 𝓤 H A) (mem : Memory → SProp 𝓤) (run : Routine → Fun 𝓤)'
+
+
 # ---- the return
 def finish(f, st, sp, defs):
     """the law and the end go to defs; the steps of the return"""
@@ -12,13 +16,12 @@ def finish(f, st, sp, defs):
     if away:
         # the cell of a local that was lent goes back to its place
         upto = max(k[1] for k in away)
-        st.resources = [k for k in st.resources if k[0] != 'at']
-        st.away = set()
+        st.has, st.resources, st.away = 'has-at-last', [k for k in st.resources if k[0] != 'at'], set()
         sp.move(st.resources + [('at', i) for i in range(upto + 1)])
+        defs += f.has(st)
     defs += ['-- the law, and the end', f'ended : {f.aim(st)}', f'ended = {f.d.law}', '']
-    have = lists(f.owned(st))
-    defs += ['abbrev at-last : List (Item 𝓤)', f'at-last = {have}', '', f'exits : ent 𝓤 (⋆ 𝓤 H A at-last) (Post {r.machine()})', 'exits =', '    qed W at-last ∵'] + ['    ' + l for l in exit_steps(f, st, r)] + ['']
-    return sp.text(f'returns ! (look ! {sp.pos(("at", 0))} refl) $ frees-all ! at-last ({f.cells(st)}) tt exits')
+    defs += [f'exits : ent 𝓤 (⋆ 𝓤 H A ({st.has} [])) (Post {r.machine()})', 'exits =', f'    qed W ({st.has} []) ∵'] + ['    ' + l for l in exit_steps(f, st, r)] + ['']
+    return sp.text(f'returns ! (look ! {sp.pos(("at", 0))} refl) $ frees-all ! ({st.has} []) ({f.cells(st)}) tt exits')
 
 
 def exit_steps(f, st, r):
@@ -60,7 +63,7 @@ def stays(f):
 # ---- the entry
 def at_entry(f):
     """what stands before the first statement"""
-    st = State([], {p.i + 1: p.value() for p in f.params}, {p.name: f'({p.name} .now)' for p in f.params if p.mut}, {p.name: 'refl' for p in f.params if p.mut})
+    st = State('has-first', [], {p.i + 1: p.value() for p in f.params}, {p.name: f'({p.name} .now)' for p in f.params if p.mut}, {p.name: 'refl' for p in f.params if p.mut})
     st.resources = f.canonical([('tok', i) for i in range(f.fn.lifetimes)] + [('own', p.name) for p in f.params if p.slice])
     return st
 
@@ -79,7 +82,7 @@ def opened(f, st):
     sp.move(plain + st.resources)
     sp.say(' '.join(['drop ! $'] * len(plain)))
     body = [over(l) for l in sp.text('then')]
-    return [f'opened : {OPEN} {{G : Goal 𝓤 H}} → K → Seq K W ({lists(f.owned(st), "Γ")}) G → Seq K W (Had Γ) G', 'opened t then ='] + ['    ' + l for l in body] + ['']
+    return f.has(st) + [f'opened : {OPEN} {{G : Goal 𝓤 H}} → K → Seq K W ({st.has} Γ) G → Seq K W (Had Γ) G', 'opened t then ='] + ['    ' + l for l in body] + ['']
 
 
 def had(f):
@@ -124,7 +127,7 @@ def meets(f, known, given):
     need = f.required(lambda p: f'(a{proj(p.i)})')
     goes = f'walk 𝓤 H A W mem run {" ".join(args)} {"required " if need else ""}{end}'
     goes = f'needs 𝓤 ({need}) _ (λ required. {goes})' if need else f'via 𝓤 _ (fst∗ 𝓤 _ (emp 𝓤)) ({goes})'
-    return [f'module _ {{M : Type 1}} (𝓤 : URA M) (H : Heap 𝓤) (A : Atoms 𝓤) (W : Given 𝓤 H A) (mem : Memory → SProp 𝓤) (run : Routine → Fun 𝓤) (𝓣 : Tables 𝓤 H) {known} where',
+    return [f'module _ {LOGIC} (𝓣 : Tables 𝓤 H) {known} where',
             f'  {me}-walks : Walks 𝓤 H A f.ended stayed {run} (f.clauses 𝓤 H A mem run)',
             f'  {me}-walks = walked 𝓤 H A f.ended stayed (f.clauses 𝓤 H A mem run) {run}',
             f'      (λ κs. {tup("slice-vals" if p.slice else p.row.fn for p in f.params)})', f'      (λ κs. {tup(tells)})', f'      (λ κs qs bounds a g are. {goes})', '',

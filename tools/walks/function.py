@@ -1,9 +1,9 @@
 """The function that is walked: its parameters, the functions that it calls, and what is read of all of them."""
-from .mir import Fn, called, items, name_of, place, sequence, slice_of
+from .mir import Fn, called, items, place, sequence, slice_of
 from .names import KIT_NAMES, Names, OWN
 from .plain import Declared, make_row
 from .source import Source, dependencies
-from .terms import fail, par, sub
+from .terms import fail, lists, par, sub
 from .values import Param
 
 
@@ -155,11 +155,15 @@ class Function:
     def owned(self, st):
         return [self.entry_text(k, st) for k in st.resources]
 
+    def has(self, st, of=''):
+        """the definition of the name for what is owned"""
+        return [f'abbrev {st.has.split()[0]} : {of}List (Item 𝓤) → List (Item 𝓤)', f'{st.has} Γ = {lists(self.owned(st), "Γ")}', '']
+
     def cells(self, st):
         """what the locals hold"""
         def cell(i):
             return 'away' if i in st.away else f'holds {st.values[i].machine()}' if i in st.values else 'vacant'
-        return ' ∷ '.join([cell(i) for i in range(len(self.fn.locals))] + ['[]'])
+        return lists(cell(i) for i in range(len(self.fn.locals)))
 
     def keys(self, st):
         """the entries of the context"""

@@ -2,9 +2,9 @@
 import re
 
 from .code import Parts
-from .ends import at_entry, begins, entered, had, meets, opened, stays, theorem
+from .ends import LOGIC, at_entry, begins, entered, had, meets, opened, stays, theorem
 from .names import KIT
-from .terms import bare, lists, par, prod, sub, tup
+from .terms import bare, lists, prod, sub, tup
 from .plain import list_of
 
 WIDTH = 350
@@ -31,7 +31,8 @@ def declarations(f, parts):
     out = ['abbrev stayed : Stays (f.ended .signature .params) (f.ended .kept)', f'stayed = {tup(stays(f)[0])}', '']
     for row in f.declared():
         out += [f'abbrev {row.one} : {row.denot} → Val', f'{row.one} = {row.laws}.val {row.the}', '']
-    out += ['-- the machine value of a slice', 'abbrev v : {X : Type 0} → RefT (List X) → Val', 'v r = sliceVal (r .ptr) (length (r .now))', '']
+    out += ['-- the machine values of a slice and of its pointer', 'abbrev v : {X : Type 0} → RefT (List X) → Val', 'v r = sliceVal (r .ptr) (length (r .now))', '',
+            'abbrev p : {X : Type 0} → RefT (List X) → Val', 'p r = vptr (r .ptr .0) (r .ptr .1)', '']
     return out + parts.turn_terms()
 
 
@@ -44,7 +45,7 @@ def contracts(f):
 
 def telescope(f):
     n = f.fn.lifetimes
-    out = ['{M : Type 1} (𝓤 : URA M) (H : Heap 𝓤) (A : Atoms 𝓤) (W : Given 𝓤 H A) (mem : Memory → SProp 𝓤) (run : Routine → Fun 𝓤)']
+    out = [LOGIC]
     if n:
         out.append(f'({" ".join(f"κ{sub(i)}" for i in range(n))} : Lft) ({" ".join(f"q{sub(i)}" for i in range(n))} : Share)')
     out += [f'({p.name} : {p.denot})' for p in f.params]

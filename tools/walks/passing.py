@@ -7,11 +7,11 @@ class Passing:
     """a slice of the caller, `p`, as the callee's parameter `q`, at the list `now`
     binders: names that the loan brings; lft, share, name, arg: what the callee is given; own, token, kept: (name, text) of entries of the context"""
 
-    def __init__(self, g, p, q, st):
+    def __init__(self, p, q, st):
         self.p, self.q = p, q
         self.now, self.long = par(st.now.get(p.name, f'({p.name} .now)')), st.long.get(p.name)
         self.binders, self.kept = [], []
-        self.set_up(g, st)
+        self.set_up(st)
 
     def lend(self, sp):
         """the steps before the call"""
@@ -35,7 +35,7 @@ class Passing:
 class Handed(Passing):
     """for good: the callee has it to its end"""
 
-    def set_up(self, g, st):
+    def set_up(self, st):
         p = self.p
         self.same_lifetime()
         self.arg = f'slice-at {p.row.row} {p.name} {self.name} {self.now}' if p.mut else p.name
@@ -45,7 +45,7 @@ class Handed(Passing):
 class Copied(Passing):
     """a `&` that is used again"""
 
-    def set_up(self, g, st):
+    def set_up(self, st):
         self.same_lifetime()
         self.arg = self.p.name
         self.own = (('copy', self.p.name), self.p.own(None))
@@ -60,7 +60,7 @@ class Copied(Passing):
 class Again(Passing):
     """a `&mut` that is used again: lent for the time of the call, and back"""
 
-    def set_up(self, g, st):
+    def set_up(self, st):
         p = self.p
         self.loan()
         self.arg = f'slice-at {p.row.row} {p.name} {self.name} {self.now}'
@@ -88,7 +88,7 @@ class Again(Passing):
 class SharedForGood(Passing):
     """a `&mut` that is passed as a `&` and not used again"""
 
-    def set_up(self, g, st):
+    def set_up(self, st):
         p = self.p
         self.same_lifetime()
         self.name = f'γ-{p.name}'
@@ -110,7 +110,7 @@ class ArrayLoan(Passing):
     """a local array of rows, as `&mut` or as `&`: its cell is taken apart, its elements are lent, and it is put together again"""
     room = '(lit< tt, lit< tt)'
 
-    def set_up(self, g, st):
+    def set_up(self, st):
         p, T = self.p, self.p.row.row
         self.loan()
         self.value = st.values[p.i]
@@ -142,7 +142,8 @@ class ArrayLoan(Passing):
         keys = [self.token[0], self.kept[0][0]]
         if self.q.mut:
             sp.move(keys + [('last', p.name)])
-            sp.binds(f'use3 W (later (given (length {last} ≡ {p.n}) (‵ (side-by-side (in-memory {T}) {last} {p.l} 0)))) ({self.law("mut-cells-back")} {self.k} {last}) $ await ! tt $ learn ! (λ filled.')
+            sp.say(f'use3 W (later (given (length {last} ≡ {p.n}) (‵ (side-by-side (in-memory {T}) {last} {p.l} 0)))) ({self.law("mut-cells-back")} {self.k} {last}) $')
+            sp.binds('await ! tt $ learn ! (λ filled.')
             sp.become(3, ['elements'])
             full = 'filled'
         else:
@@ -159,12 +160,12 @@ class ArrayLoan(Passing):
 def passing(f, g, p, q, st):
     """the way in which a call is passed a slice"""
     if isinstance(p, LocalArray):
-        return ArrayLoan(g, p, q, st)
+        return ArrayLoan(p, q, st)
     again = f.used_again(p.name, g)
     if p.mut and not q.mut:
         if again:
             fail(f'{g.name}: {p.name} is a `&mut`, is passed as a `&`, and is used again')
-        return SharedForGood(g, p, q, st)
+        return SharedForGood(p, q, st)
     if p.mut:
-        return (Again if again else Handed)(g, p, q, st)
-    return (Copied if again else Handed)(g, p, q, st)
+        return (Again if again else Handed)(p, q, st)
+    return (Copied if again else Handed)(p, q, st)

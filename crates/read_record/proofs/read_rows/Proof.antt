@@ -19,7 +19,7 @@ use prog.Wp.{Heap, Calls, Loops, Env, WpFn, Tables}
 use ghost.Atoms.{Atoms}
 use contract.Monad.{Fun, fact}
 use contract.Running.{givenOf, tables, tablesOf}
-use types.Kit.{Given, Item, Goal, Post as Ending, Soaks, Seq, Sq, runs, lands, ‵, raw, _⊛_, ⋆, some, later, atRet, _$_, _∵_, !, qed, move, drop, use1, use2, use3, split, split3, group, pick, feqL, suffices, frame, await, done}
+use types.Kit.{Given, Item, Goal, Post as Ending, Soaks, Seq, Sq, runs, lands, params′, ‵, raw, _⊛_, ⋆, some, later, atRet, _$_, _∵_, !, qed, move, drop, use1, use2, use3, split, split3, group, pick, feqL, suffices, frame, await, done}
 use types.Run.{look, init, store, stop, hop, fld, from, load, of-opd, addr, and-then, no-more, assigns, land, returns, enter, params1, pass1, pass0}
 use types.Part.{whole, sub, look-in, agg}
 use sound.WpLaws.{FmC, fmOf, WpFn-mono}
@@ -467,13 +467,18 @@ module _ {M : Type 1} (𝓤 : URA M) (H : Heap 𝓤) (A : Atoms 𝓤) (W : Given
         assigns ! (agg ! (and-then ! (load ! (from ! (stop !)) (look ! 26 refl)) (and-then ! (load ! (from ! (fld ! refl (stop !))) (look-in ! 18 (sub ! 1 refl (whole !)))) (no-more !)))) (from ! (stop !)) (init ! 27 refl (tt, (tt, (record { fits = references-room .0 }, tt)))) $
         part-2
 
-    begins : Sq W (locals 𝓤 H A E (vacant ∷ holds (v s) ∷ holds (vint w64 at′) ∷ holds (v texts) ∷ holds (v references) ∷ holds (v comments) ∷ holds (v rows) ∷ holds (v qualifiers) ∷ holds (v letters) ∷ vacant ∷ vacant ∷ vacant ∷ vacant ∷ vacant ∷ vacant ∷ vacant ∷ vacant ∷ vacant ∷ vacant ∷ vacant ∷ vacant ∷ vacant ∷ vacant ∷ vacant ∷ vacant ∷
-        vacant ∷ []) (raw (Dies 𝓤 H A E) ∷ Had [])) (runs C Λ E body.t-1 (atRet E Post))
-    begins = move ! (27 ∷ 28 ∷ []) $ opened ! part-1
+    begins : Sq W (locals 𝓤 H A E (vacant ∷ vacant ∷ vacant ∷ vacant ∷ vacant ∷ vacant ∷ vacant ∷ vacant ∷ vacant ∷ vacant ∷ vacant ∷ vacant ∷ vacant ∷ vacant ∷ vacant ∷ vacant ∷ vacant ∷ vacant ∷ vacant ∷ vacant ∷ vacant ∷ vacant ∷ vacant ∷ vacant ∷ vacant ∷ vacant ∷ []) (raw (Dies 𝓤 H A E) ∷ Had []))
+        (params′ E ((v s) ∷ (vint w64 at′) ∷ (v texts) ∷ (v references) ∷ (v comments) ∷ (v rows) ∷ (v qualifiers) ∷ (v letters) ∷ []) (runs C Λ E body.t-1 (atRet E Post)))
+    begins =
+        params1 ! $ pass1 ! (init ! 1 refl (tt, (tt, (record { fits = s-room .0 }, tt)))) $ pass1 ! (init ! 2 refl (uint-lawful 𝓤 H A W w64 .typed at′ ((vint w64 at′) ∷ []) at′-is .0)) $ pass1 ! (init ! 3 refl (tt, (tt, (record { fits = texts-room .0 }, tt)))) $ pass1 ! (init ! 4 refl (tt, (tt, (record { fits = references-room .0 }, tt)))) $ pass1
+        ! (init ! 5 refl (tt, (tt, (record { fits = comments-room .0 }, tt)))) $ pass1 ! (init ! 6 refl (tt, (tt, (record { fits = rows-room .0 }, tt)))) $ pass1 ! (init ! 7 refl (tt, (tt, (record { fits = qualifiers-room .0 }, tt)))) $ pass1 ! (init ! 8 refl (tt, (tt, (record { fits = letters-room .0 }, tt)))) $ pass0 ! $
+        move ! (27 ∷ 28 ∷ []) $ opened ! part-1
 
   walk : (C : Calls 𝓤 H) (Λ : Loops 𝓤 H) (fm : FmC 𝓤 H (W .laws) C) (known-prepare : Triple 𝓤 (C #read-record-prepared·prepare) (prepare-contract 𝓤 H A mem run)) (known-store-rows : Triple 𝓤 (C #read-feature-rows·store-rows) (store-rows-contract 𝓤 H A mem run)) → ent 𝓤
       (onEntry 𝓤 H A f.signature (κ₀, (κ₁, (κ₂, (κ₃, (κ₄, (κ₅, (κ₆, tt))))))) (q₀, (q₁, (q₂, (q₃, (q₄, (q₅, (q₆, tt))))))) a at-entry) (WpFn 𝓤 H C Λ code.function ((v s) ∷ (vint w64 at′) ∷ (v texts) ∷ (v references) ∷ (v comments) ∷ (v rows) ∷ (v qualifiers) ∷ (v letters) ∷ []) Post)
-  walk C Λ fm known-prepare known-store-rows = ?
+  walk C Λ fm known-prepare known-store-rows =
+      qed W (Had []) ∵ enter ! C Λ code.function ((v s) ∷ (vint w64 at′) ∷ (v texts) ∷ (v references) ∷ (v comments) ∷ (v rows) ∷ (v qualifiers) ∷ (v letters) ∷ []) _ $
+      allocs-all ! (λ l₀ l₁ l₂ l₃ l₄ l₅ l₆ l₇ l₈ l₉ l₁₀ l₁₁ l₁₂ l₁₃ l₁₄ l₁₅ l₁₆ l₁₇ l₁₈ l₁₉ l₂₀ l₂₁ l₂₂ l₂₃ l₂₄ l₂₅. begins C Λ fm known-prepare known-store-rows l₀ l₁ l₂ l₃ l₄ l₅ l₆ l₇ l₈ l₉ l₁₀ l₁₁ l₁₂ l₁₃ l₁₄ l₁₅ l₁₆ l₁₇ l₁₈ l₁₉ l₂₀ l₂₁ l₂₂ l₂₃ l₂₄ l₂₅)
 
 module _ {M : Type 1} (𝓤 : URA M) (H : Heap 𝓤) (A : Atoms 𝓤) (W : Given 𝓤 H A) (mem : Memory → SProp 𝓤) (run : Routine → Fun 𝓤) (𝓣 : Tables 𝓤 H) (known-prepare : Triple 𝓤 (𝓣 .C #read-record-prepared·prepare) (prepare-contract 𝓤 H A mem run)) (known-store-rows : Triple 𝓤 (𝓣 .C #read-feature-rows·store-rows) (store-rows-contract 𝓤 H A mem run)) where
   read-rows-walks : Walks 𝓤 H A f.ended stayed (WpFn 𝓤 H (𝓣 .C) (𝓣 .Λ) code.function) (f.clauses 𝓤 H A mem run)
