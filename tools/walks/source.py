@@ -40,7 +40,9 @@ class Source:
             self.take(fn, kind, clause)
         if self.ensures is None:
             fail(f'{fn.name}: no ensures; the tool needs one fact of each function')
-        self.ghost = ghost_names(text, fn.crate)
+        short, brought = short_names()
+        self.ensures = spelled_out(self.ensures, short)
+        self.ghost = {**brought, **ghost_names(text, fn.crate)}
 
     def find(self, fn):
         for text in sources(fn.crate):
@@ -87,3 +89,20 @@ def ghost_names(text, crate):
             a = n.split(' as ')
             out[a[-1].strip()] = (path, a[0].strip())
     return out
+
+
+def short_names():
+    """the short names of rooms that contracts use: name -> (parameters, body), and the names that the bodies use, as ghost_names has them"""
+    text = open('crates/spec_contracts/specs/Lent.antt', encoding='utf8').read()
+    short = {name: (params.split(), body) for name, params, body in re.findall(r'^(\w+) ((?:\w+ )+)=\s+(roomsIn .*)$', text, re.M)}
+    return short, {n.strip(): (path, n.strip()) for path, names in re.findall(r'^use (\S+?)\.\{(.*)\}$', text, re.M) for n in names.split(',')}
+
+
+def spelled_out(clause, short):
+    """a clause without short names: a walk has the lists of a parameter at entry and at exit, and no pair of them"""
+    for name, (params, body) in short.items():
+        def written(m):
+            given = dict(zip(params, m.group(1).split()))
+            return '(' + re.sub(r'\((\w+) \.', lambda p: f'({given[p.group(1)]} .', body) + ')'
+        clause = re.sub(rf'\({name} ((?:\w+ ?){{{len(params)}}})\)', written, clause)
+    return clause

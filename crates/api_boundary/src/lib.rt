@@ -5,10 +5,9 @@ use api_told::tell_read;
 use api_told::tell_written;
 use base_rows::Feature;
 use spec_format::How;
-use write_record::write_rows;
-ghost use Rattle.base_rows.specs.Rows.{flat};
+use write_record::write;
 ghost use Rattle.api_boundary.specs.Told.{ReadTold, WriteTold};
-ghost use Rattle.spec_format.specs.Rooms.{roomsIn};
+ghost use Rattle.spec_contracts.specs.Lent.{lent, left};
 
 // Reads the record at a place of `s` into the rooms.
 #[no_mangle]
@@ -23,9 +22,9 @@ pub extern "C" fn vilggodan_read(
     letters: &mut [u8],
     told: &mut [usize],
 ) -> usize
-    ensures { λ r. ⌜ ReadTold (now (s .entry)) at (roomsIn (now (texts .entry)) (now (references .entry)) (now (comments .entry)) (flat (now (features .entry))) (now (qualifiers .entry)) (now (letters .entry))) (roomsIn (now (texts .exit)) (now (references .exit)) (now (comments .exit)) (flat (now (features .exit))) (now (qualifiers .exit)) (now (letters .exit))) (now (told .entry)) (now (told .exit)) r ⌝ }
+    ensures { λ r. ⌜ ReadTold (now (s .entry)) at (lent texts references comments features qualifiers letters) (left texts references comments features qualifiers letters) (now (told .entry)) (now (told .exit)) r ⌝ }
 {
-    let answer = read_record::read_rows(
+    let answer = read_record::read(
         s,
         at,
         texts,
@@ -55,9 +54,9 @@ pub extern "C" fn vilggodan_write(
     escape: bool,
     told: &mut [usize],
 ) -> usize
-    ensures { λ r. ⌜ WriteTold keep width truncate escape (roomsIn (now (texts .entry)) (now (references .entry)) (now (comments .entry)) (flat (now (features .entry))) (now (qualifiers .entry)) (now (letters .entry))) (now (head .entry)) (now (out .entry)) (now (out .exit)) (now (told .entry)) (now (told .exit)) r ⌝ }
+    ensures { λ r. ⌜ WriteTold keep width truncate escape (lent texts references comments features qualifiers letters) (now (head .entry)) (now (out .entry)) (now (out .exit)) (now (told .entry)) (now (told .exit)) r ⌝ }
 {
-    let answer = write_rows(
+    let answer = write(
         out,
         texts,
         references,

@@ -106,7 +106,7 @@ pub fn read_and_write(
     ensures { λ r. ⌜ Rounds (now (s .entry)) at (roomsIn (now (texts .entry)) (now (references .entry)) (now (comments .entry)) (flat emptyRows) (now (qualifiers .entry)) (now (letters .entry))) how (now (texts .exit)) (now (references .exit)) (now (comments .exit)) (now (qualifiers .exit)) (now (letters .exit)) (now (out .entry)) (now (out .exit)) (r .read) (r .wrote) ⌝ }
 {
     let mut rows = no_rows();
-    let read = read_record::read_rows(
+    let read = read_record::read(
         s,
         at,
         texts,
@@ -118,7 +118,7 @@ pub fn read_and_write(
     );
     let head = head_of(read);
     let after = how_after(read, how);
-    let wrote = write_record::write_rows(
+    let wrote = write_record::write(
         out,
         texts,
         references,

@@ -109,7 +109,7 @@ fn read_lent(
     ensures { λ r. ⌜ Through (now (s .entry)) at (6 * n) (roomsIn (now (texts .entry)) (now (references .entry)) (now (comments .entry)) (now (features .entry)) (now (qualifiers .entry)) (now (letters .entry))) (roomsIn (now (texts .exit)) (now (references .exit)) (now (comments .exit)) (now (features .exit)) (now (qualifiers .exit)) (now (letters .exit))) r ⌝ }
 {
     let mut lent = rows;
-    let answer = read_record::read_rows(
+    let answer = read_record::read(
         s,
         at,
         texts,
@@ -172,7 +172,7 @@ fn write_lent(
     ensures { λ r. ⌜ WriteAnswered how (roomsIn (now (texts .entry)) (now (references .entry)) (now (comments .entry)) (flat (take n rows)) (now (qualifiers .entry)) (now (letters .entry))) head (now (out .entry)) (now (out .exit)) r ⌝ }
 {
     let lent = rows;
-    write_record::write_rows(
+    write_record::write(
         out,
         texts,
         references,

@@ -6,11 +6,11 @@ use spec_format::How;
 use spec_format::WriteAnswer;
 use write_record_turns::start;
 use write_record_turns::step;
-ghost use Rattle.write_record_parts.specs.Split.{rowsRooms};
+ghost use Rattle.spec_contracts.specs.Lent.{lent};
 ghost use Rattle.spec_contracts.specs.Writes.{WriteAnswered};
 
 // By the keeping rules or plainly, as `how` says. The loop only fetches the row that is next and makes a turn with it.
-pub fn write_rows(
+pub fn write(
     out: &mut [u8],
     texts: &[u8],
     references: &[usize],
@@ -21,7 +21,7 @@ pub fn write_rows(
     head: Head,
     how: How,
 ) -> WriteAnswer
-    ensures { λ r. ⌜ WriteAnswered how (rowsRooms (now (texts .entry)) (now (references .entry)) (now (comments .entry)) (now (qualifiers .entry)) (now (letters .entry)) (now (rows .entry))) head (now (out .entry)) (now (out .exit)) r ⌝ }
+    ensures { λ r. ⌜ WriteAnswered how (lent texts references comments rows qualifiers letters) head (now (out .entry)) (now (out .exit)) r ⌝ }
 {
     let mut s = start(
         rows.len(),

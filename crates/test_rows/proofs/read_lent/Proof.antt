@@ -1,5 +1,5 @@
 -- `read_lent` meets its contract: a walk of its MIR, written by tools/walk from its description.
--- The rows are copied into a local array, of which the first n are lent to `read_rows` with the rooms; then the array is passed to `put_rows`.
+-- The rows are copied into a local array, of which the first n are lent to `read` with the rooms; then the array is passed to `put_rows`.
 -- Assumes nothing.
 use mathlib.Core.Path.{_≡_, refl, sym, ap, subst, _∙_}
 use Prim.Native.Nat.{ℕ, _≤_, _*_}
@@ -64,10 +64,10 @@ use Rattle.base_rows.proofs.Feature.Laws as Feature-has
 use Rattle.spec_format.specs.declared.ReadAnswer.{ReadAnswer}
 use Rattle.spec_format.proofs.ReadAnswer as ReadAnswer-is
 use Rattle.spec_format.proofs.ReadAnswer.Laws as ReadAnswer-has
-use Rattle.read_record.proofs.read_rows as read-rows
-use Rattle.read_record.proofs.read_rows.Symbol as read-rows-def
-use Rattle.read_record.proofs.read_rows.Symbol.{name as #read-record·read-rows}
-use Rattle.read_record.proofs.read_rows.Met as read-rows-thm
+use Rattle.read_record.proofs.read as read
+use Rattle.read_record.proofs.read.Symbol as read-def
+use Rattle.read_record.proofs.read.Symbol.{name as #read-record·read}
+use Rattle.read_record.proofs.read.Met as read-thm
 use Rattle.test_rows.proofs.put_rows as put-rows
 use Rattle.test_rows.proofs.put_rows.Symbol as put-rows-def
 use Rattle.test_rows.proofs.put_rows.Symbol.{name as #test-rows·put-rows}
@@ -117,8 +117,8 @@ module _ {M : Type 1} (𝓤 : URA M) (H : Heap 𝓤) (A : Atoms 𝓤) (W : Given
 
 module _ {M : Type 1} (𝓤 : URA M) (H : Heap 𝓤) (A : Atoms 𝓤) (mem : Memory → SProp 𝓤) (run : Routine → Fun 𝓤) where
   -- the contracts that the proof cites
-  abbrev read-rows-contract : Contract 𝓤
-  read-rows-contract = tripleOf 𝓤 H A read-rows.signature (read-rows.spec 𝓤 H A mem run)
+  abbrev read-contract : Contract 𝓤
+  read-contract = tripleOf 𝓤 H A read.signature (read.spec 𝓤 H A mem run)
 
   abbrev put-rows-contract : Contract 𝓤
   put-rows-contract = tripleOf 𝓤 H A put-rows.signature (put-rows.spec 𝓤 H A mem run)
@@ -176,7 +176,7 @@ module _ {M : Type 1} (𝓤 : URA M) (H : Heap 𝓤) (A : Atoms 𝓤) (W : Given
   abbrev letters-last : List ℕ → Fml
   letters-last l = finally u8 (letters .name) l
 
-  module _ (C : Calls 𝓤 H) (Λ : Loops 𝓤 H) (fm : FmC 𝓤 H (W .laws) C) (known-read-rows : Triple 𝓤 (C #read-record·read-rows) (read-rows-contract 𝓤 H A mem run)) (known-put-rows : Triple 𝓤 (C #test-rows·put-rows) (put-rows-contract 𝓤 H A mem run)) (l₀ l₁ l₂ l₃ l₄ l₅ l₆ l₇ l₈ l₉ l₁₀ l₁₁ l₁₂ l₁₃ l₁₄ l₁₅ l₁₆ l₁₇ l₁₈ l₁₉ l₂₀ l₂₁ l₂₂ l₂₃ l₂₄ l₂₅ l₂₆ l₂₇ l₂₈ : ℕ) where
+  module _ (C : Calls 𝓤 H) (Λ : Loops 𝓤 H) (fm : FmC 𝓤 H (W .laws) C) (known-read : Triple 𝓤 (C #read-record·read) (read-contract 𝓤 H A mem run)) (known-put-rows : Triple 𝓤 (C #test-rows·put-rows) (put-rows-contract 𝓤 H A mem run)) (l₀ l₁ l₂ l₃ l₄ l₅ l₆ l₇ l₈ l₉ l₁₀ l₁₁ l₁₂ l₁₃ l₁₄ l₁₅ l₁₆ l₁₇ l₁₈ l₁₉ l₂₀ l₂₁ l₂₂ l₂₃ l₂₄ l₂₅ l₂₆ l₂₇ l₂₈ : ℕ) where
     -- the types of the locals
     abbrev ty₀ : Ty
     ty₀ = ReadAnswer-has.mir
@@ -279,67 +279,67 @@ module _ {M : Type 1} (𝓤 : URA M) (H : Heap 𝓤) (A : Atoms 𝓤) (W : Given
     abbrev Params : List (Item 𝓤) → List (Item 𝓤)
     Params Γ = held ty₁₀ l₁₀ (v letters) (held ty₉ l₉ (v qualifiers) (held ty₈ l₈ (v features) (held ty₇ l₇ (vint w64 n) (held ty₆ l₆ (Feature-cells rows) (held ty₅ l₅ (v comments) (held ty₄ l₄ (v references) (held ty₃ l₃ (v texts) (held ty₂ l₂ (vint w64 at′) (held ty₁ l₁ (v s) (vacant ty₀ l₀ Γ))))))))))
 
-    -- the call of `read_rows`
-    abbrev lfts-read-rows : (k-read-rows : Loan) → Lft × (Lft × (Lft × (Lft × (Lft × (Lft × (Lft × Unit {0}))))))
-    lfts-read-rows k-read-rows = (κ₀, (κ₁, (κ₂, (κ₃, (k-read-rows .life ∷ [], (κ₅, (κ₆, tt)))))))
+    -- the call of `read`
+    abbrev lfts-read : (k-read : Loan) → Lft × (Lft × (Lft × (Lft × (Lft × (Lft × (Lft × Unit {0}))))))
+    lfts-read k-read = (κ₀, (κ₁, (κ₂, (κ₃, (k-read .life ∷ [], (κ₅, (κ₆, tt)))))))
 
-    abbrev args-read-rows : (k-read-rows : Loan) → (RefT (List ℕ)) × (ℕ × ((RefT (List ℕ)) × ((RefT (List ℕ)) × ((RefT (List ℕ)) × ((RefT (List Feature)) × ((RefT (List ℕ)) × ((RefT (List ℕ)) × Unit {0})))))))
-    args-read-rows k-read-rows = (s, (at′, (slice-at texts (texts .name) (texts .now), (slice-at references (references .name) (references .now), (slice-at comments (comments .name) (comments .now), (placed Feature-is.the-row l₁₁ (k-read-rows .name) (take n rows), (slice-at qualifiers (qualifiers .name) (qualifiers .now), (slice-at letters (letters .name) (letters .now), tt))))))))
+    abbrev args-read : (k-read : Loan) → (RefT (List ℕ)) × (ℕ × ((RefT (List ℕ)) × ((RefT (List ℕ)) × ((RefT (List ℕ)) × ((RefT (List Feature)) × ((RefT (List ℕ)) × ((RefT (List ℕ)) × Unit {0})))))))
+    args-read k-read = (s, (at′, (slice-at texts (texts .name) (texts .now), (slice-at references (references .name) (references .now), (slice-at comments (comments .name) (comments .now), (placed Feature-is.the-row l₁₁ (k-read .name) (take n rows), (slice-at qualifiers (qualifiers .name) (qualifiers .now), (slice-at letters (letters .name) (letters .now), tt))))))))
 
-    abbrev to-read-rows : (k-read-rows : Loan) → read-rows-contract 𝓤 H A mem run .Ghost
-    to-read-rows k-read-rows = (((lfts-read-rows k-read-rows), (q₀, (q₁, (q₂, (q₃, (fullShare, (q₅, (q₆, tt))))))), tt, (args-read-rows k-read-rows), ((v s) ∷ [], ((vint w64 at′) ∷ [], ((v texts) ∷ [], ((v references) ∷ [], ((v comments) ∷ [], ((sliceVal (l₁₁, 0) n) ∷ [], ((v qualifiers) ∷ [], ((v letters) ∷ [], tt))))))))), tt)
+    abbrev to-read : (k-read : Loan) → read-contract 𝓤 H A mem run .Ghost
+    to-read k-read = (((lfts-read k-read), (q₀, (q₁, (q₂, (q₃, (fullShare, (q₅, (q₆, tt))))))), tt, (args-read k-read), ((v s) ∷ [], ((vint w64 at′) ∷ [], ((v texts) ∷ [], ((v references) ∷ [], ((v comments) ∷ [], ((sliceVal (l₁₁, 0) n) ∷ [], ((v qualifiers) ∷ [], ((v letters) ∷ [], tt))))))))), tt)
 
-    goes-read-rows : (k-read-rows : Loan) → ent 𝓤 (⋆ 𝓤 H A (‵ (flft κ₀ q₀) ∷ ‵ (flft κ₁ q₁) ∷ ‵ (flft κ₂ q₂) ∷ ‵ (flft κ₃ q₃) ∷ ‵ (flft (k-read-rows .life ∷ []) fullShare) ∷ ‵ (flft κ₅ q₅) ∷ ‵ (flft κ₆ q₆) ∷ ‵ s-own ∷ ‵ (texts-own (texts .now)) ∷ ‵ (references-own (references .now)) ∷ ‵ (comments-own (comments .now)) ∷ ‵ (LentCells Feature-is.the-row (named 4) l₁₁ n (take n rows) k-read-rows) ∷ ‵ (qualifiers-own (qualifiers .now)) ∷ ‵ (letters-own (letters .now)) ∷ [])) (read-rows-contract 𝓤 H A mem run .pre (to-read-rows k-read-rows))
-    goes-read-rows k-read-rows = qed W (‵ (flft κ₀ q₀) ∷ ‵ (flft κ₁ q₁) ∷ ‵ (flft κ₂ q₂) ∷ ‵ (flft κ₃ q₃) ∷ ‵ (flft (k-read-rows .life ∷ []) fullShare) ∷ ‵ (flft κ₅ q₅) ∷ ‵ (flft κ₆ q₆) ∷ ‵ s-own ∷ ‵ (texts-own (texts .now)) ∷ ‵ (references-own (references .now)) ∷ ‵ (comments-own (comments .now)) ∷ ‵ (LentCells Feature-is.the-row (named 4) l₁₁ n (take n rows) k-read-rows) ∷ ‵ (qualifiers-own (qualifiers .now)) ∷ ‵ (letters-own (letters .now)) ∷ []) ∵ nothing ! $ move ! (7 ∷ 0 ∷ []) $ join ! $ move ! (6 ∷ 0 ∷ []) $ join ! $ move ! (5 ∷ 0 ∷ []) $ join ! $ move ! (4 ∷ 0 ∷ []) $ join ! $ move ! (3 ∷ 0 ∷ []) $ join ! $ move ! (2 ∷ 0 ∷ []) $ join ! $ move ! (1 ∷ 0 ∷ []) $ join ! $ nothing ! $ move ! (8 ∷ 0 ∷ []) $ fjoin ! $ move ! (7 ∷ 0 ∷ []) $ fjoin ! $ move ! (6 ∷ 0 ∷ []) $ fjoin ! $ move ! (5 ∷ 0 ∷ []) $ fjoin ! $ move ! (4 ∷ 0 ∷ []) $ fjoin ! $ move ! (3 ∷ 0 ∷ []) $ fjoin ! $ owned ! usize (Is usize) (uint-makes 𝓤 H A W w64) at′ ((vint w64 at′) ∷ []) at′-is $ fjoin ! $ move ! (2 ∷ 0 ∷ []) $ fjoin ! $ move ! (1 ∷ 0 ∷ []) $ join ! $ frame ! $ done !
+    goes-read : (k-read : Loan) → ent 𝓤 (⋆ 𝓤 H A (‵ (flft κ₀ q₀) ∷ ‵ (flft κ₁ q₁) ∷ ‵ (flft κ₂ q₂) ∷ ‵ (flft κ₃ q₃) ∷ ‵ (flft (k-read .life ∷ []) fullShare) ∷ ‵ (flft κ₅ q₅) ∷ ‵ (flft κ₆ q₆) ∷ ‵ s-own ∷ ‵ (texts-own (texts .now)) ∷ ‵ (references-own (references .now)) ∷ ‵ (comments-own (comments .now)) ∷ ‵ (LentCells Feature-is.the-row (named 4) l₁₁ n (take n rows) k-read) ∷ ‵ (qualifiers-own (qualifiers .now)) ∷ ‵ (letters-own (letters .now)) ∷ [])) (read-contract 𝓤 H A mem run .pre (to-read k-read))
+    goes-read k-read = qed W (‵ (flft κ₀ q₀) ∷ ‵ (flft κ₁ q₁) ∷ ‵ (flft κ₂ q₂) ∷ ‵ (flft κ₃ q₃) ∷ ‵ (flft (k-read .life ∷ []) fullShare) ∷ ‵ (flft κ₅ q₅) ∷ ‵ (flft κ₆ q₆) ∷ ‵ s-own ∷ ‵ (texts-own (texts .now)) ∷ ‵ (references-own (references .now)) ∷ ‵ (comments-own (comments .now)) ∷ ‵ (LentCells Feature-is.the-row (named 4) l₁₁ n (take n rows) k-read) ∷ ‵ (qualifiers-own (qualifiers .now)) ∷ ‵ (letters-own (letters .now)) ∷ []) ∵ nothing ! $ move ! (7 ∷ 0 ∷ []) $ join ! $ move ! (6 ∷ 0 ∷ []) $ join ! $ move ! (5 ∷ 0 ∷ []) $ join ! $ move ! (4 ∷ 0 ∷ []) $ join ! $ move ! (3 ∷ 0 ∷ []) $ join ! $ move ! (2 ∷ 0 ∷ []) $ join ! $ move ! (1 ∷ 0 ∷ []) $ join ! $ nothing ! $ move ! (8 ∷ 0 ∷ []) $ fjoin ! $ move ! (7 ∷ 0 ∷ []) $ fjoin ! $ move ! (6 ∷ 0 ∷ []) $ fjoin ! $ move ! (5 ∷ 0 ∷ []) $ fjoin ! $ move ! (4 ∷ 0 ∷ []) $ fjoin ! $ move ! (3 ∷ 0 ∷ []) $ fjoin ! $ owned ! usize (Is usize) (uint-makes 𝓤 H A W w64) at′ ((vint w64 at′) ∷ []) at′-is $ fjoin ! $ move ! (2 ∷ 0 ∷ []) $ fjoin ! $ move ! (1 ∷ 0 ∷ []) $ join ! $ frame ! $ done !
 
-    -- what `read_rows` says of its answer and of the lists that it leaves
-    abbrev Said-read-rows : ReadAnswer → List ℕ → List ℕ → List ℕ → List Feature → List ℕ → List ℕ → Type 0
-    Said-read-rows r-read-rows texts-read-rows references-read-rows comments-read-rows array-read-rows qualifiers-read-rows letters-read-rows = Answered (s .now) at′ (roomsIn (texts .now) (references .now) (comments .now) (flat (take n rows)) (qualifiers .now) (letters .now)) (roomsIn (texts-read-rows) (references-read-rows) (comments-read-rows) (flat (array-read-rows)) (qualifiers-read-rows) (letters-read-rows)) r-read-rows
+    -- what `read` says of its answer and of the lists that it leaves
+    abbrev Said-read : ReadAnswer → List ℕ → List ℕ → List ℕ → List Feature → List ℕ → List ℕ → Type 0
+    Said-read r-read texts-read references-read comments-read array-read qualifiers-read letters-read = Answered (s .now) at′ (roomsIn (texts .now) (references .now) (comments .now) (flat (take n rows)) (qualifiers .now) (letters .now)) (roomsIn (texts-read) (references-read) (comments-read) (flat (array-read)) (qualifiers-read) (letters-read)) r-read
 
-    module _ (r-read-rows : ReadAnswer) (r-read-rows-is : Is ReadAnswer-is.the-row r-read-rows ((ReadAnswer-val r-read-rows) ∷ [])) (texts-read-rows : List ℕ) (references-read-rows : List ℕ) (comments-read-rows : List ℕ) (array-read-rows : List Feature) (qualifiers-read-rows : List ℕ) (letters-read-rows : List ℕ) (texts-read-rows-long : length texts-read-rows ≡ length (texts .now)) (references-read-rows-long : length references-read-rows ≡ length (references .now)) (comments-read-rows-long : length comments-read-rows ≡ length (comments .now)) (array-read-rows-is : Is (Array Feature-is.the-row 42) (array-read-rows ++ drop-list n rows) (array-vals (LL.vals Feature-is.the-type Feature-has.the-laws) (array-read-rows ++ drop-list n rows))) (qualifiers-read-rows-long : length qualifiers-read-rows ≡ length (qualifiers .now)) (letters-read-rows-long : length letters-read-rows ≡ length (letters .now)) (said-read-rows : Said-read-rows r-read-rows texts-read-rows references-read-rows comments-read-rows array-read-rows qualifiers-read-rows letters-read-rows) where
+    module _ (r-read : ReadAnswer) (r-read-is : Is ReadAnswer-is.the-row r-read ((ReadAnswer-val r-read) ∷ [])) (texts-read : List ℕ) (references-read : List ℕ) (comments-read : List ℕ) (array-read : List Feature) (qualifiers-read : List ℕ) (letters-read : List ℕ) (texts-read-long : length texts-read ≡ length (texts .now)) (references-read-long : length references-read ≡ length (references .now)) (comments-read-long : length comments-read ≡ length (comments .now)) (array-read-is : Is (Array Feature-is.the-row 42) (array-read ++ drop-list n rows) (array-vals (LL.vals Feature-is.the-type Feature-has.the-laws) (array-read ++ drop-list n rows))) (qualifiers-read-long : length qualifiers-read ≡ length (qualifiers .now)) (letters-read-long : length letters-read ≡ length (letters .now)) (said-read : Said-read r-read texts-read references-read comments-read array-read qualifiers-read letters-read) where
       -- the call of `put_rows`
       abbrev lfts-put-rows : Lft × Unit {0}
       lfts-put-rows = (κ₄, tt)
 
       abbrev args-put-rows : (List Feature) × (ℕ × ((RefT (List ℕ)) × Unit {0}))
-      args-put-rows = ((array-read-rows ++ drop-list n rows), (n, (slice-at features (features .name) (features .now), tt)))
+      args-put-rows = ((array-read ++ drop-list n rows), (n, (slice-at features (features .name) (features .now), tt)))
 
       abbrev to-put-rows : put-rows-contract 𝓤 H A mem run .Ghost
-      to-put-rows = ((lfts-put-rows, (q₄, tt), tt, args-put-rows, ((Feature-cells (array-read-rows ++ drop-list n rows)) ∷ [], ((vint w64 n) ∷ [], ((v features) ∷ [], tt)))), tt)
+      to-put-rows = ((lfts-put-rows, (q₄, tt), tt, args-put-rows, ((Feature-cells (array-read ++ drop-list n rows)) ∷ [], ((vint w64 n) ∷ [], ((v features) ∷ [], tt)))), tt)
 
       -- what `put_rows` requires
       need-put-rows : n ≤ 42
       need-put-rows = required .0
 
       goes-put-rows : ent 𝓤 (⋆ 𝓤 H A (‵ (flft κ₄ q₄) ∷ ‵ (features-own (features .now)) ∷ [])) (put-rows-contract 𝓤 H A mem run .pre to-put-rows)
-      goes-put-rows = qed W (‵ (flft κ₄ q₄) ∷ ‵ (features-own (features .now)) ∷ []) ∵ says ! need-put-rows $ nothing ! $ move ! (1 ∷ 0 ∷ []) $ join ! $ frame ! $ nothing ! $ move ! (1 ∷ 0 ∷ []) $ fjoin ! $ owned ! usize (Is usize) (uint-makes 𝓤 H A W w64) n ((vint w64 n) ∷ []) n-is $ fjoin ! $ owned ! (Array Feature-is.the-row 42) (Is (Array Feature-is.the-row 42)) (array-makes 𝓤 H A W Feature-is.the-row (LL.makes Feature-is.the-type Feature-has.the-plain 𝓤 H A) 42) (array-read-rows ++ drop-list n rows) ((Feature-cells (array-read-rows ++ drop-list n rows)) ∷ []) array-read-rows-is $ fjoin ! $ done !
+      goes-put-rows = qed W (‵ (flft κ₄ q₄) ∷ ‵ (features-own (features .now)) ∷ []) ∵ says ! need-put-rows $ nothing ! $ move ! (1 ∷ 0 ∷ []) $ join ! $ frame ! $ nothing ! $ move ! (1 ∷ 0 ∷ []) $ fjoin ! $ owned ! usize (Is usize) (uint-makes 𝓤 H A W w64) n ((vint w64 n) ∷ []) n-is $ fjoin ! $ owned ! (Array Feature-is.the-row 42) (Is (Array Feature-is.the-row 42)) (array-makes 𝓤 H A W Feature-is.the-row (LL.makes Feature-is.the-type Feature-has.the-plain 𝓤 H A) 42) (array-read ++ drop-list n rows) ((Feature-cells (array-read ++ drop-list n rows)) ∷ []) array-read-is $ fjoin ! $ done !
 
       -- what `put_rows` says of its answer and of the lists that it leaves
       abbrev Said-put-rows : Unit {0} → List ℕ → Type 0
-      Said-put-rows r-put-rows features-put-rows = features-put-rows ≡ sets (features .now) 0 (flat (take′ n (array-read-rows ++ drop-list n rows)))
+      Said-put-rows r-put-rows features-put-rows = features-put-rows ≡ sets (features .now) 0 (flat (take′ n (array-read ++ drop-list n rows)))
 
       module _ (r-put-rows : Unit {0}) (r-put-rows-is : Is unit r-put-rows (vunit ∷ [])) (features-put-rows : List ℕ) (features-put-rows-long : length features-put-rows ≡ length (features .now)) (said-put-rows : Said-put-rows r-put-rows features-put-rows) where
         -- the law, and the end
-        ended : Through (s .now) at′ (6 * n) (roomsIn (texts .now) (references .now) (comments .now) (features .now) (qualifiers .now) (letters .now)) (roomsIn (texts-read-rows) (references-read-rows) (comments-read-rows) (features-put-rows) (qualifiers-read-rows) (letters-read-rows)) r-read-rows
-        ended = through (s .now) at′ n rows array-read-rows (roomsIn (texts .now) (references .now) (comments .now) (features .now) (qualifiers .now) (letters .now)) (roomsIn texts-read-rows references-read-rows comments-read-rows features-put-rows qualifiers-read-rows letters-read-rows) r-read-rows (rows-is .1 .0 .1) (required .0) (required .1) (required .2) (array-read-rows-is .1 .0 .1) said-read-rows said-put-rows
+        ended : Through (s .now) at′ (6 * n) (roomsIn (texts .now) (references .now) (comments .now) (features .now) (qualifiers .now) (letters .now)) (roomsIn (texts-read) (references-read) (comments-read) (features-put-rows) (qualifiers-read) (letters-read)) r-read
+        ended = through (s .now) at′ n rows array-read (roomsIn (texts .now) (references .now) (comments .now) (features .now) (qualifiers .now) (letters .now)) (roomsIn texts-read references-read comments-read features-put-rows qualifiers-read letters-read) r-read (rows-is .1 .0 .1) (required .0) (required .1) (required .2) (array-read-is .1 .0 .1) said-read said-put-rows
 
-        exits : ent 𝓤 (⋆ 𝓤 H A (‵ (flft κ₀ q₀) ∷ ‵ (flft κ₁ q₁) ∷ ‵ (flft κ₂ q₂) ∷ ‵ (flft κ₃ q₃) ∷ ‵ (flft κ₄ q₄) ∷ ‵ (flft κ₅ q₅) ∷ ‵ (flft κ₆ q₆) ∷ ‵ (texts-last texts-read-rows) ∷ ‵ (references-last references-read-rows) ∷ ‵ (comments-last comments-read-rows) ∷ ‵ (features-last features-put-rows) ∷ ‵ (qualifiers-last qualifiers-read-rows) ∷ ‵ (letters-last letters-read-rows) ∷ [])) (Post (ReadAnswer-val r-read-rows))
+        exits : ent 𝓤 (⋆ 𝓤 H A (‵ (flft κ₀ q₀) ∷ ‵ (flft κ₁ q₁) ∷ ‵ (flft κ₂ q₂) ∷ ‵ (flft κ₃ q₃) ∷ ‵ (flft κ₄ q₄) ∷ ‵ (flft κ₅ q₅) ∷ ‵ (flft κ₆ q₆) ∷ ‵ (texts-last texts-read) ∷ ‵ (references-last references-read) ∷ ‵ (comments-last comments-read) ∷ ‵ (features-last features-put-rows) ∷ ‵ (qualifiers-last qualifiers-read) ∷ ‵ (letters-last letters-read) ∷ [])) (Post (ReadAnswer-val r-read))
         exits =
-            qed W (‵ (flft κ₀ q₀) ∷ ‵ (flft κ₁ q₁) ∷ ‵ (flft κ₂ q₂) ∷ ‵ (flft κ₃ q₃) ∷ ‵ (flft κ₄ q₄) ∷ ‵ (flft κ₅ q₅) ∷ ‵ (flft κ₆ q₆) ∷ ‵ (texts-last texts-read-rows) ∷ ‵ (references-last references-read-rows) ∷ ‵ (comments-last comments-read-rows) ∷ ‵ (features-last features-put-rows) ∷ ‵ (qualifiers-last qualifiers-read-rows) ∷ ‵ (letters-last letters-read-rows) ∷ []) ∵
-            suffices ! _ (ends-at 𝓤 H A f.ended stayed (f.clauses 𝓤 H A mem run) W bound (ReadAnswer-val r-read-rows) r-read-rows (tt, (tt, (texts-read-rows, (references-read-rows, (comments-read-rows, (tt, (tt, (features-put-rows, (qualifiers-read-rows, (letters-read-rows, tt)))))))))) (tt, (tt, (texts-read-rows-long, (references-read-rows-long, (comments-read-rows-long, (tt, (tt, (features-put-rows-long, (qualifiers-read-rows-long, (letters-read-rows-long, tt))))))))))) $ says ! ended $
+            qed W (‵ (flft κ₀ q₀) ∷ ‵ (flft κ₁ q₁) ∷ ‵ (flft κ₂ q₂) ∷ ‵ (flft κ₃ q₃) ∷ ‵ (flft κ₄ q₄) ∷ ‵ (flft κ₅ q₅) ∷ ‵ (flft κ₆ q₆) ∷ ‵ (texts-last texts-read) ∷ ‵ (references-last references-read) ∷ ‵ (comments-last comments-read) ∷ ‵ (features-last features-put-rows) ∷ ‵ (qualifiers-last qualifiers-read) ∷ ‵ (letters-last letters-read) ∷ []) ∵
+            suffices ! _ (ends-at 𝓤 H A f.ended stayed (f.clauses 𝓤 H A mem run) W bound (ReadAnswer-val r-read) r-read (tt, (tt, (texts-read, (references-read, (comments-read, (tt, (tt, (features-put-rows, (qualifiers-read, (letters-read, tt)))))))))) (tt, (tt, (texts-read-long, (references-read-long, (comments-read-long, (tt, (tt, (features-put-rows-long, (qualifiers-read-long, (letters-read-long, tt))))))))))) $ says ! ended $
             nothing ! $ move ! (7 ∷ 0 ∷ []) $ join ! $ move ! (6 ∷ 0 ∷ []) $ join ! $ move ! (5 ∷ 0 ∷ []) $ join ! $ move ! (4 ∷ 0 ∷ []) $ join ! $ move ! (3 ∷ 0 ∷ []) $ join ! $ move ! (2 ∷ 0 ∷ []) $ join ! $ move ! (1 ∷ 0 ∷ []) $ join ! $ frame ! $
             nothing ! $ move ! (6 ∷ 0 ∷ []) $ fjoin ! $ move ! (5 ∷ 0 ∷ []) $ fjoin ! $ move ! (4 ∷ 0 ∷ []) $ fjoin ! $ nothing ! $ fjoin ! $ nothing ! $ fjoin ! $ move ! (3 ∷ 0 ∷ []) $ fjoin ! $ move ! (2 ∷ 0 ∷ []) $ fjoin ! $ move ! (1 ∷ 0 ∷ []) $ fjoin ! $ nothing ! $ fjoin ! $ nothing ! $ fjoin ! $ frame ! $
-            owned ! ReadAnswer-is.the-row (Is ReadAnswer-is.the-row) (EL.makes ReadAnswer-is.the-type ReadAnswer-has.the-plain 𝓤 H A) r-read-rows ((ReadAnswer-val r-read-rows) ∷ []) r-read-rows-is $ done !
+            owned ! ReadAnswer-is.the-row (Is ReadAnswer-is.the-row) (EL.makes ReadAnswer-is.the-type ReadAnswer-has.the-plain 𝓤 H A) r-read ((ReadAnswer-val r-read) ∷ []) r-read-is $ done !
 
-        part-3 : Sq W (‵ (fat fullShare ty₁₁ l₁₁ 0 (Feature-cells (array-read-rows ++ drop-list n rows))) ∷ ‵ (flft κ₀ q₀) ∷ ‵ (flft κ₁ q₁) ∷ ‵ (flft κ₂ q₂) ∷ ‵ (flft κ₃ q₃) ∷ ‵ (flft κ₄ q₄) ∷ ‵ (flft κ₅ q₅) ∷ ‵ (flft κ₆ q₆) ∷ ‵ (texts-last texts-read-rows) ∷ ‵ (references-last references-read-rows) ∷ ‵ (comments-last comments-read-rows) ∷ ‵ (features-last features-put-rows) ∷ ‵ (qualifiers-last qualifiers-read-rows) ∷ ‵ (letters-last letters-read-rows) ∷ held ty₂₈ l₂₈ (v features) (held ty₂₇ l₂₇ (vptr (features .ptr .0) (features .ptr .1)) (held ty₂₆ l₂₆ (Feature-cells (array-read-rows ++ drop-list n rows)) (held ty₂₅ l₂₅ vunit (held ty₂₄ l₂₄ (v letters) (held ty₂₃ l₂₃ (vptr (letters .ptr .0) (letters .ptr .1)) (held ty₂₂ l₂₂ (v qualifiers) (held ty₂₁ l₂₁ (vptr (qualifiers .ptr .0) (qualifiers .ptr .1)) (held ty₂₀ l₂₀ (sliceVal (l₁₁, 0) n) (held ty₁₉ l₁₉ (vptr l₁₁ 0) (held ty₁₈ l₁₈ (v comments) (held ty₁₇ l₁₇ (vptr (comments .ptr .0) (comments .ptr .1)) (held ty₁₆ l₁₆ (v references) (held ty₁₅ l₁₅ (vptr (references .ptr .0) (references .ptr .1)) (held ty₁₄ l₁₄ (v texts) (held ty₁₃ l₁₃ (vptr (texts .ptr .0) (texts .ptr .1)) (held ty₁₂ l₁₂ (ReadAnswer-val r-read-rows) (‵ (fdies ty₁₁ l₁₁) ∷ Params [])))))))))))))))))) (runs C Λ E body.t-19 (atRet E Post))
+        part-3 : Sq W (‵ (fat fullShare ty₁₁ l₁₁ 0 (Feature-cells (array-read ++ drop-list n rows))) ∷ ‵ (flft κ₀ q₀) ∷ ‵ (flft κ₁ q₁) ∷ ‵ (flft κ₂ q₂) ∷ ‵ (flft κ₃ q₃) ∷ ‵ (flft κ₄ q₄) ∷ ‵ (flft κ₅ q₅) ∷ ‵ (flft κ₆ q₆) ∷ ‵ (texts-last texts-read) ∷ ‵ (references-last references-read) ∷ ‵ (comments-last comments-read) ∷ ‵ (features-last features-put-rows) ∷ ‵ (qualifiers-last qualifiers-read) ∷ ‵ (letters-last letters-read) ∷ held ty₂₈ l₂₈ (v features) (held ty₂₇ l₂₇ (vptr (features .ptr .0) (features .ptr .1)) (held ty₂₆ l₂₆ (Feature-cells (array-read ++ drop-list n rows)) (held ty₂₅ l₂₅ vunit (held ty₂₄ l₂₄ (v letters) (held ty₂₃ l₂₃ (vptr (letters .ptr .0) (letters .ptr .1)) (held ty₂₂ l₂₂ (v qualifiers) (held ty₂₁ l₂₁ (vptr (qualifiers .ptr .0) (qualifiers .ptr .1)) (held ty₂₀ l₂₀ (sliceVal (l₁₁, 0) n) (held ty₁₉ l₁₉ (vptr l₁₁ 0) (held ty₁₈ l₁₈ (v comments) (held ty₁₇ l₁₇ (vptr (comments .ptr .0) (comments .ptr .1)) (held ty₁₆ l₁₆ (v references) (held ty₁₅ l₁₅ (vptr (references .ptr .0) (references .ptr .1)) (held ty₁₄ l₁₄ (v texts) (held ty₁₃ l₁₃ (vptr (texts .ptr .0) (texts .ptr .1)) (held ty₁₂ l₁₂ (ReadAnswer-val r-read) (‵ (fdies ty₁₁ l₁₁) ∷ Params [])))))))))))))))))) (runs C Λ E body.t-19 (atRet E Post))
         part-3 =
-            assigns ! (of-opd ! (load ! (from ! (stop !)) (look ! 46 refl))) (from ! (stop !)) (init ! 69 refl (EL.lawful ReadAnswer-is.the-type ReadAnswer-has.the-laws 𝓤 H A W tt .typed r-read-rows ((ReadAnswer-val r-read-rows) ∷ []) r-read-rows-is .0)) $
+            assigns ! (of-opd ! (load ! (from ! (stop !)) (look ! 46 refl))) (from ! (stop !)) (init ! 69 refl (EL.lawful ReadAnswer-is.the-type ReadAnswer-has.the-laws 𝓤 H A W tt .typed r-read ((ReadAnswer-val r-read) ∷ []) r-read-is .0)) $
             returns ! (look ! 69 refl) $ forget ! 14 refl $ forget ! 16 refl $ forget ! 18 refl $ forget ! 20 refl $ forget ! 22 refl $ forget ! 24 refl $ forget ! 26 refl $ forget ! 28 refl $ forget ! 30 refl $ forget ! 32 refl $ forget ! 34 refl $ forget ! 36 refl $ forget ! 38 refl $ forget ! 40 refl $ forget ! 42 refl $ forget ! 44 refl $ forget ! 46 refl $ forget ! 0 refl $ forget ! 49 refl $ forget ! 51 refl $ forget ! 53 refl $ forget ! 55 refl $ forget ! 57 refl $ forget ! 59 refl $ forget ! 61 refl $ forget ! 63 refl $ forget ! 65 refl $ forget ! 67 refl $ forget ! 69 refl $
             move ! (69 ∷ 70 ∷ []) $ free1 ! $ move ! (67 ∷ 68 ∷ []) $ free1 ! $ move ! (65 ∷ 66 ∷ []) $ free1 ! $ move ! (63 ∷ 64 ∷ []) $ free1 ! $ move ! (61 ∷ 62 ∷ []) $ free1 ! $ move ! (59 ∷ 60 ∷ []) $ free1 ! $ move ! (57 ∷ 58 ∷ []) $ free1 ! $ move ! (55 ∷ 56 ∷ []) $ free1 ! $ move ! (53 ∷ 54 ∷ []) $ free1 ! $ move ! (51 ∷ 52 ∷ []) $ free1 ! $ move ! (49 ∷ 50 ∷ []) $ free1 ! $ move ! (0 ∷ 48 ∷ []) $ free1 ! $ move ! (45 ∷ 46 ∷ []) $ free1 ! $ move ! (43 ∷ 44 ∷ []) $ free1 ! $ move ! (41 ∷ 42 ∷ []) $ free1 ! $ move ! (39 ∷ 40 ∷ []) $ free1 ! $ move ! (37 ∷ 38 ∷ []) $ free1 ! $ move ! (35 ∷ 36 ∷ []) $ free1 ! $ move ! (33 ∷ 34 ∷ []) $ free1 ! $ move ! (31 ∷ 32 ∷ []) $ free1 ! $ move ! (29 ∷ 30 ∷ []) $ free1 ! $ move ! (27 ∷ 28 ∷ []) $ free1 ! $ move ! (25 ∷ 26 ∷ []) $ free1 ! $ move ! (23 ∷ 24 ∷ []) $ free1 ! $ move ! (21 ∷ 22 ∷ []) $ free1 ! $ move ! (19 ∷ 20 ∷ []) $ free1 ! $ move ! (17 ∷ 18 ∷ []) $ free1 ! $ move ! (15 ∷ 16 ∷ []) $ free1 ! $ move ! (13 ∷ 14 ∷ []) $ free1 ! $ free0 ! $ by ! exits
 
-      part-2 : Sq W (‵ (fat fullShare ty₁₁ l₁₁ 0 (Feature-cells (array-read-rows ++ drop-list n rows))) ∷ ‵ (flft κ₀ q₀) ∷ ‵ (flft κ₁ q₁) ∷ ‵ (flft κ₂ q₂) ∷ ‵ (flft κ₃ q₃) ∷ ‵ (flft κ₄ q₄) ∷ ‵ (flft κ₅ q₅) ∷ ‵ (flft κ₆ q₆) ∷ ‵ (texts-last texts-read-rows) ∷ ‵ (references-last references-read-rows) ∷ ‵ (comments-last comments-read-rows) ∷ ‵ (features-own (features .now)) ∷ ‵ (qualifiers-last qualifiers-read-rows) ∷ ‵ (letters-last letters-read-rows) ∷ vacant ty₂₈ l₂₈ (vacant ty₂₇ l₂₇ (vacant ty₂₆ l₂₆ (vacant ty₂₅ l₂₅ (held ty₂₄ l₂₄ (v letters) (held ty₂₃ l₂₃ (vptr (letters .ptr .0) (letters .ptr .1)) (held ty₂₂ l₂₂ (v qualifiers) (held ty₂₁ l₂₁ (vptr (qualifiers .ptr .0) (qualifiers .ptr .1)) (held ty₂₀ l₂₀ (sliceVal (l₁₁, 0) n) (held ty₁₉ l₁₉ (vptr l₁₁ 0) (held ty₁₈ l₁₈ (v comments) (held ty₁₇ l₁₇ (vptr (comments .ptr .0) (comments .ptr .1)) (held ty₁₆ l₁₆ (v references) (held ty₁₅ l₁₅ (vptr (references .ptr .0) (references .ptr .1)) (held ty₁₄ l₁₄ (v texts) (held ty₁₃ l₁₃ (vptr (texts .ptr .0) (texts .ptr .1)) (held ty₁₂ l₁₂ (ReadAnswer-val r-read-rows) (‵ (fdies ty₁₁ l₁₁) ∷ Params [])))))))))))))))))) (runs C Λ E body.t-15 (atRet E Post))
+      part-2 : Sq W (‵ (fat fullShare ty₁₁ l₁₁ 0 (Feature-cells (array-read ++ drop-list n rows))) ∷ ‵ (flft κ₀ q₀) ∷ ‵ (flft κ₁ q₁) ∷ ‵ (flft κ₂ q₂) ∷ ‵ (flft κ₃ q₃) ∷ ‵ (flft κ₄ q₄) ∷ ‵ (flft κ₅ q₅) ∷ ‵ (flft κ₆ q₆) ∷ ‵ (texts-last texts-read) ∷ ‵ (references-last references-read) ∷ ‵ (comments-last comments-read) ∷ ‵ (features-own (features .now)) ∷ ‵ (qualifiers-last qualifiers-read) ∷ ‵ (letters-last letters-read) ∷ vacant ty₂₈ l₂₈ (vacant ty₂₇ l₂₇ (vacant ty₂₆ l₂₆ (vacant ty₂₅ l₂₅ (held ty₂₄ l₂₄ (v letters) (held ty₂₃ l₂₃ (vptr (letters .ptr .0) (letters .ptr .1)) (held ty₂₂ l₂₂ (v qualifiers) (held ty₂₁ l₂₁ (vptr (qualifiers .ptr .0) (qualifiers .ptr .1)) (held ty₂₀ l₂₀ (sliceVal (l₁₁, 0) n) (held ty₁₉ l₁₉ (vptr l₁₁ 0) (held ty₁₈ l₁₈ (v comments) (held ty₁₇ l₁₇ (vptr (comments .ptr .0) (comments .ptr .1)) (held ty₁₆ l₁₆ (v references) (held ty₁₅ l₁₅ (vptr (references .ptr .0) (references .ptr .1)) (held ty₁₄ l₁₄ (v texts) (held ty₁₃ l₁₃ (vptr (texts .ptr .0) (texts .ptr .1)) (held ty₁₂ l₁₂ (ReadAnswer-val r-read) (‵ (fdies ty₁₁ l₁₁) ∷ Params [])))))))))))))))))) (runs C Λ E body.t-15 (atRet E Post))
       part-2 =
-          assigns ! (of-opd ! (load ! (from ! (stop !)) (look ! 0 refl))) (from ! (stop !)) (init ! 18 refl (array-lawful 𝓤 H A W Feature-is.the-row (LL.lawful Feature-is.the-type Feature-has.the-laws 𝓤 H A W) 42 .typed (array-read-rows ++ drop-list n rows) ((Feature-cells (array-read-rows ++ drop-list n rows)) ∷ []) array-read-rows-is .0)) $
+          assigns ! (of-opd ! (load ! (from ! (stop !)) (look ! 0 refl))) (from ! (stop !)) (init ! 18 refl (array-lawful 𝓤 H A W Feature-is.the-row (LL.lawful Feature-is.the-type Feature-has.the-laws 𝓤 H A W) 42 .typed (array-read ++ drop-list n rows) ((Feature-cells (array-read ++ drop-list n rows)) ∷ []) array-read-is .0)) $
           assigns ! (addr ! (from ! (fld ! refl (hop ! (look-in ! 53 (sub ! 0 refl (whole !))) (stop !))))) (from ! (stop !)) (init ! 16 refl (tt, tt)) $
           assigns ! (agg ! (and-then ! (load ! (from ! (stop !)) (look ! 16 refl)) (and-then ! (load ! (from ! (fld ! refl (stop !))) (look-in ! 53 (sub ! 1 refl (whole !)))) (no-more !)))) (from ! (stop !)) (init ! 14 refl (tt, (tt, (record { fits = features-room .0 }, tt)))) $
           move ! (5 ∷ 11 ∷ []) $ group ! 2 $ use1 W (raw (put-rows-contract 𝓤 H A mem run .pre to-put-rows)) goes-put-rows $
@@ -369,20 +369,20 @@ module _ {M : Type 1} (𝓤 : URA M) (H : Heap 𝓤) (A : Atoms 𝓤) (W : Given
         assigns ! (addr ! (from ! (fld ! refl (hop ! (look-in ! 50 (sub ! 0 refl (whole !))) (stop !))))) (from ! (stop !)) (init ! 24 refl (tt, tt)) $
         assigns ! (agg ! (and-then ! (load ! (from ! (stop !)) (look ! 24 refl)) (and-then ! (load ! (from ! (fld ! refl (stop !))) (look-in ! 50 (sub ! 1 refl (whole !)))) (no-more !)))) (from ! (stop !)) (init ! 22 refl (tt, (tt, (record { fits = letters-room .0 }, tt)))) $
         owned ! (Array Feature-is.the-row 42) (Is (Array Feature-is.the-row 42)) (array-makes 𝓤 H A W Feature-is.the-row (LL.makes Feature-is.the-type Feature-has.the-plain 𝓤 H A) 42) rows (array-vals (LL.vals Feature-is.the-type Feature-has.the-laws) rows) rows-is $ move ! (49 ∷ 0 ∷ []) $ use2 W (given (length rows ≡ 42) (‵ (cells (in-memory Feature-is.the-row) rows l₁₁ 0))) (Feature-apart 𝓤 H A W l₁₁ rows (Feature-cells rows)) $ learn ! (λ full. use1 W (‵ (cells (in-memory Feature-is.the-row) (take n rows) l₁₁ 0) ⊛ ‵ (rest-cells Feature-is.the-row l₁₁ n rows)) (cells-cut Feature-is.the-row 𝓤 H A W l₁₁ n rows) $ split ! $
-        use1 W (later (some (λ (k-read-rows : Loan). ‵ (flft (k-read-rows .life ∷ []) fullShare) ⊛ ‵ (LentCells Feature-is.the-row (named 4) l₁₁ n (take n rows) k-read-rows) ⊛ ‵ (MineMut Feature-is.the-row l₁₁ n k-read-rows)))) (lends-cells Feature-is.the-row 𝓤 H A W (named 4) l₁₁ n (front-room Feature-is.the-row n 42 rows full (required .0) (lit< tt, lit< tt)) (take n rows) (front-long n 42 rows full (required .0))) $ await ! tt $ pick ! (λ k-read-rows. split3 ! $
-        move ! (4 ∷ 5 ∷ 6 ∷ 7 ∷ 0 ∷ 9 ∷ 10 ∷ 11 ∷ 12 ∷ 13 ∷ 14 ∷ 1 ∷ 16 ∷ 17 ∷ []) $ group ! 14 $ use1 W (raw (read-rows-contract 𝓤 H A mem run .pre (to-read-rows k-read-rows))) (goes-read-rows k-read-rows) $
-        calls-at ! fm (read-rows-contract 𝓤 H A mem run) known-read-rows (to-read-rows k-read-rows) (and-then ! (load ! (from ! (stop !)) (look ! 58 refl)) (and-then ! (load ! (from ! (stop !)) (look ! 56 refl)) (and-then ! (load ! (from ! (stop !)) (look ! 33 refl)) (and-then ! (load ! (from ! (stop !)) (look ! 29 refl)) (and-then ! (load ! (from ! (stop !)) (look ! 25 refl)) (and-then ! (load ! (from ! (stop !)) (look ! 21 refl)) (and-then ! (load ! (from ! (stop !)) (look ! 17 refl)) (and-then ! (load ! (from ! (stop !)) (look ! 13 refl)) (no-more !))))))))) (λ u.
-        use1 W (later (some (λ (r-read-rows : ReadAnswer). ((‵ (flft κ₀ q₀) ⊛ ‵ (flft κ₁ q₁) ⊛ ‵ (flft κ₂ q₂) ⊛ ‵ (flft κ₃ q₃) ⊛ ‵ (flft (k-read-rows .life ∷ []) fullShare) ⊛ ‵ (flft κ₅ q₅) ⊛ ‵ (flft κ₆ q₆) ⊛ ‵ ftrue) ⊛ ‵ (ReadAnswer-is.the-row .own r-read-rows (u ∷ []))) ⊛ raw (ensured 𝓤 H A read-rows.ended (read-rows.clauses 𝓤 H A mem run) (lfts-read-rows k-read-rows) (args-read-rows k-read-rows) tt r-read-rows)))) (id⊢ 𝓤 _) $ await ! tt $ pick ! (λ r-read-rows.
-        split ! $ move ! (1 ∷ []) $ use1 W (some (λ (ws : (Unit {0}) × ((Unit {0}) × ((List ℕ) × ((List ℕ) × ((List ℕ) × ((List Feature) × ((List ℕ) × ((List ℕ) × Unit {0})))))))). ‵ (lasts read-rows.ended (lfts-read-rows k-read-rows) (args-read-rows k-read-rows) ws) ⊛ raw (fact 𝓤 (Said-read-rows r-read-rows (ws .1 .1 .0) (ws .1 .1 .1 .0) (ws .1 .1 .1 .1 .0) (ws .1 .1 .1 .1 .1 .0) (ws .1 .1 .1 .1 .1 .1 .0) (ws .1 .1 .1 .1 .1 .1 .1 .0))))) (id⊢ 𝓤 _) $ pick ! (λ ws.
-        split ! $ move ! (1 ∷ []) $ heard ! (Said-read-rows r-read-rows (ws .1 .1 .0) (ws .1 .1 .1 .0) (ws .1 .1 .1 .1 .0) (ws .1 .1 .1 .1 .1 .0) (ws .1 .1 .1 .1 .1 .1 .0) (ws .1 .1 .1 .1 .1 .1 .1 .0)) (λ said-read-rows.
+        use1 W (later (some (λ (k-read : Loan). ‵ (flft (k-read .life ∷ []) fullShare) ⊛ ‵ (LentCells Feature-is.the-row (named 4) l₁₁ n (take n rows) k-read) ⊛ ‵ (MineMut Feature-is.the-row l₁₁ n k-read)))) (lends-cells Feature-is.the-row 𝓤 H A W (named 4) l₁₁ n (front-room Feature-is.the-row n 42 rows full (required .0) (lit< tt, lit< tt)) (take n rows) (front-long n 42 rows full (required .0))) $ await ! tt $ pick ! (λ k-read. split3 ! $
+        move ! (4 ∷ 5 ∷ 6 ∷ 7 ∷ 0 ∷ 9 ∷ 10 ∷ 11 ∷ 12 ∷ 13 ∷ 14 ∷ 1 ∷ 16 ∷ 17 ∷ []) $ group ! 14 $ use1 W (raw (read-contract 𝓤 H A mem run .pre (to-read k-read))) (goes-read k-read) $
+        calls-at ! fm (read-contract 𝓤 H A mem run) known-read (to-read k-read) (and-then ! (load ! (from ! (stop !)) (look ! 58 refl)) (and-then ! (load ! (from ! (stop !)) (look ! 56 refl)) (and-then ! (load ! (from ! (stop !)) (look ! 33 refl)) (and-then ! (load ! (from ! (stop !)) (look ! 29 refl)) (and-then ! (load ! (from ! (stop !)) (look ! 25 refl)) (and-then ! (load ! (from ! (stop !)) (look ! 21 refl)) (and-then ! (load ! (from ! (stop !)) (look ! 17 refl)) (and-then ! (load ! (from ! (stop !)) (look ! 13 refl)) (no-more !))))))))) (λ u.
+        use1 W (later (some (λ (r-read : ReadAnswer). ((‵ (flft κ₀ q₀) ⊛ ‵ (flft κ₁ q₁) ⊛ ‵ (flft κ₂ q₂) ⊛ ‵ (flft κ₃ q₃) ⊛ ‵ (flft (k-read .life ∷ []) fullShare) ⊛ ‵ (flft κ₅ q₅) ⊛ ‵ (flft κ₆ q₆) ⊛ ‵ ftrue) ⊛ ‵ (ReadAnswer-is.the-row .own r-read (u ∷ []))) ⊛ raw (ensured 𝓤 H A read.ended (read.clauses 𝓤 H A mem run) (lfts-read k-read) (args-read k-read) tt r-read)))) (id⊢ 𝓤 _) $ await ! tt $ pick ! (λ r-read.
+        split ! $ move ! (1 ∷ []) $ use1 W (some (λ (ws : (Unit {0}) × ((Unit {0}) × ((List ℕ) × ((List ℕ) × ((List ℕ) × ((List Feature) × ((List ℕ) × ((List ℕ) × Unit {0})))))))). ‵ (lasts read.ended (lfts-read k-read) (args-read k-read) ws) ⊛ raw (fact 𝓤 (Said-read r-read (ws .1 .1 .0) (ws .1 .1 .1 .0) (ws .1 .1 .1 .1 .0) (ws .1 .1 .1 .1 .1 .0) (ws .1 .1 .1 .1 .1 .1 .0) (ws .1 .1 .1 .1 .1 .1 .1 .0))))) (id⊢ 𝓤 _) $ pick ! (λ ws.
+        split ! $ move ! (1 ∷ []) $ heard ! (Said-read r-read (ws .1 .1 .0) (ws .1 .1 .1 .0) (ws .1 .1 .1 .1 .0) (ws .1 .1 .1 .1 .1 .0) (ws .1 .1 .1 .1 .1 .1 .0) (ws .1 .1 .1 .1 .1 .1 .1 .0)) (λ said-read.
         fsplit ! $ drop ! $ fsplit ! $ drop ! $ fsplit ! $ fsplit ! $ move ! (1 ∷ []) $ feqL ! (λ texts-long. move ! (1 ∷ []) $ fsplit ! $ fsplit ! $ move ! (1 ∷ []) $ feqL ! (λ references-long. move ! (1 ∷ []) $ fsplit ! $ fsplit ! $ move ! (1 ∷ []) $ feqL ! (λ comments-long. move ! (1 ∷ []) $ fsplit ! $ fsplit ! $ move ! (1 ∷ []) $ feqL ! (λ array-long. move ! (1 ∷ []) $ fsplit ! $ fsplit ! $ move ! (1 ∷ []) $ feqL ! (λ qualifiers-long. move ! (1 ∷ []) $ fsplit ! $ fsplit ! $ move ! (1 ∷ []) $ feqL ! (λ letters-long. move ! (1 ∷ []) $ drop ! $
-        move ! (6 ∷ []) $ split ! $ split ! $ move ! (1 ∷ []) $ split ! $ move ! (1 ∷ []) $ split ! $ move ! (1 ∷ []) $ split ! $ move ! (1 ∷ []) $ split ! $ move ! (1 ∷ []) $ split ! $ move ! (1 ∷ []) $ split ! $ move ! (1 ∷ []) $ drop ! $ move ! (7 ∷ []) $ peeks ! ReadAnswer-is.the-row (Is ReadAnswer-is.the-row) (shows 𝓤 H A ReadAnswer-is.the-row) r-read-rows (u ∷ []) (λ is. let spelled = EL.tells ReadAnswer-is.the-type ReadAnswer-has.the-laws r-read-rows _ is in
-        land ! (from ! (stop !)) (init ! 50 refl (EL.lawful ReadAnswer-is.the-type ReadAnswer-has.the-laws 𝓤 H A W tt .typed r-read-rows _ is .0)) $ rewrite ! 50 (λ (y : Val). ‵ (fat fullShare ty₁₂ l₁₂ 0 y)) (ap only spelled) refl $ drop ! $
-        move ! (2 ∷ []) $ lft-end ! tt $ move ! (0 ∷ 13 ∷ 9 ∷ []) $ use3 W (later (‵ (Arr (in-memory Feature-is.the-row) n .lies (ws .1 .1 .1 .1 .1 .0) l₁₁ 0))) (slice-back 𝓤 H A W Feature-is.the-row (k-read-rows .life ∷ []) (k-read-rows .name) (ws .1 .1 .1 .1 .1 .0) n l₁₁ 0) $ await ! tt $ fsplit ! $ feqL ! (λ filled.
+        move ! (6 ∷ []) $ split ! $ split ! $ move ! (1 ∷ []) $ split ! $ move ! (1 ∷ []) $ split ! $ move ! (1 ∷ []) $ split ! $ move ! (1 ∷ []) $ split ! $ move ! (1 ∷ []) $ split ! $ move ! (1 ∷ []) $ split ! $ move ! (1 ∷ []) $ drop ! $ move ! (7 ∷ []) $ peeks ! ReadAnswer-is.the-row (Is ReadAnswer-is.the-row) (shows 𝓤 H A ReadAnswer-is.the-row) r-read (u ∷ []) (λ is. let spelled = EL.tells ReadAnswer-is.the-type ReadAnswer-has.the-laws r-read _ is in
+        land ! (from ! (stop !)) (init ! 50 refl (EL.lawful ReadAnswer-is.the-type ReadAnswer-has.the-laws 𝓤 H A W tt .typed r-read _ is .0)) $ rewrite ! 50 (λ (y : Val). ‵ (fat fullShare ty₁₂ l₁₂ 0 y)) (ap only spelled) refl $ drop ! $
+        move ! (2 ∷ []) $ lft-end ! tt $ move ! (0 ∷ 13 ∷ 9 ∷ []) $ use3 W (later (‵ (Arr (in-memory Feature-is.the-row) n .lies (ws .1 .1 .1 .1 .1 .0) l₁₁ 0))) (slice-back 𝓤 H A W Feature-is.the-row (k-read .life ∷ []) (k-read .name) (ws .1 .1 .1 .1 .1 .0) n l₁₁ 0) $ await ! tt $ fsplit ! $ feqL ! (λ filled.
         move ! (0 ∷ 12 ∷ []) $ use2 W (‵ (cells (in-memory Feature-is.the-row) ((ws .1 .1 .1 .1 .1 .0) ++ drop-list n rows) l₁₁ 0)) (cells-joined Feature-is.the-row 𝓤 H A W l₁₁ n rows (ws .1 .1 .1 .1 .1 .0) (filled ∙ sym (front-long n 42 rows full (required .0)))) $
         use1 W (‵ (fat fullShare ty₁₁ l₁₁ 0 (Feature-cells ((ws .1 .1 .1 .1 .1 .0) ++ drop-list n rows))) ⊛ ‵ ((Array Feature-is.the-row 42) .own ((ws .1 .1 .1 .1 .1 .0) ++ drop-list n rows) (array-vals (LL.vals Feature-is.the-type Feature-has.the-laws) ((ws .1 .1 .1 .1 .1 .0) ++ drop-list n rows)))) (Feature-together 𝓤 H A W l₁₁ ((ws .1 .1 .1 .1 .1 .0) ++ drop-list n rows) (same-len n rows (ws .1 .1 .1 .1 .1 .0) (filled ∙ sym (front-long n 42 rows full (required .0))) ∙ full)) $ split ! $ move ! (1 ∷ []) $ peeks ! (Array Feature-is.the-row 42) (Is (Array Feature-is.the-row 42)) (shows 𝓤 H A (Array Feature-is.the-row 42)) ((ws .1 .1 .1 .1 .1 .0) ++ drop-list n rows) (array-vals (LL.vals Feature-is.the-type Feature-has.the-laws) ((ws .1 .1 .1 .1 .1 .0) ++ drop-list n rows)) (λ array-is. drop ! $
         move ! (0 ∷ 6 ∷ 5 ∷ 4 ∷ 3 ∷ 12 ∷ 2 ∷ 1 ∷ 11 ∷ 10 ∷ 9 ∷ 13 ∷ 8 ∷ 7 ∷ []) $
-        part-2 r-read-rows (subst (λ (vs : List Val). Is ReadAnswer-is.the-row r-read-rows vs) spelled is) (ws .1 .1 .0) (ws .1 .1 .1 .0) (ws .1 .1 .1 .1 .0) (ws .1 .1 .1 .1 .1 .0) (ws .1 .1 .1 .1 .1 .1 .0) (ws .1 .1 .1 .1 .1 .1 .1 .0) texts-long references-long comments-long array-is qualifiers-long letters-long said-read-rows)))))))))))))))
+        part-2 r-read (subst (λ (vs : List Val). Is ReadAnswer-is.the-row r-read vs) spelled is) (ws .1 .1 .0) (ws .1 .1 .1 .0) (ws .1 .1 .1 .1 .0) (ws .1 .1 .1 .1 .1 .0) (ws .1 .1 .1 .1 .1 .1 .0) (ws .1 .1 .1 .1 .1 .1 .1 .0) texts-long references-long comments-long array-is qualifiers-long letters-long said-read)))))))))))))))
 
     -- what is had at entry is taken apart
     begins : Sq W (vacant ty₂₈ l₂₈ (vacant ty₂₇ l₂₇ (vacant ty₂₆ l₂₆ (vacant ty₂₅ l₂₅ (vacant ty₂₄ l₂₄ (vacant ty₂₃ l₂₃ (vacant ty₂₂ l₂₂ (vacant ty₂₁ l₂₁ (vacant ty₂₀ l₂₀ (vacant ty₁₉ l₁₉ (vacant ty₁₈ l₁₈ (vacant ty₁₇ l₁₇ (vacant ty₁₆ l₁₆ (vacant ty₁₅ l₁₅ (vacant ty₁₄ l₁₄ (vacant ty₁₃ l₁₃ (vacant ty₁₂ l₁₂ (vacant ty₁₁ l₁₁ (Params ((‵ (flft κ₀ q₀) ⊛ ‵ (flft κ₁ q₁) ⊛ ‵ (flft κ₂ q₂) ⊛ ‵ (flft κ₃ q₃) ⊛ ‵ (flft κ₄ q₄) ⊛ ‵ (flft κ₅ q₅) ⊛ ‵ (flft κ₆ q₆) ⊛ ‵ ftrue) ∷ ‵ (owns (ShrSlice (named 0) κ₀ u8 ∷ usize ∷ MutSlice (named 1) κ₁ u8 ∷ MutSlice (named 2) κ₂ usize ∷ MutSlice (named 3) κ₃ usize ∷ (Array Feature-is.the-row 42) ∷ usize ∷ MutSlice (named 4) κ₄ usize ∷ MutSlice (named 5) κ₅ usize ∷ MutSlice (named 6) κ₆ u8 ∷ []) a at-entry) ∷ [])))))))))))))))))))) (runs C Λ E body.t-1 (atRet E Post))
@@ -392,20 +392,20 @@ module _ {M : Type 1} (𝓤 : URA M) (H : Heap 𝓤) (A : Atoms 𝓤) (W : Given
         move ! (6 ∷ 5 ∷ 4 ∷ 3 ∷ 2 ∷ 1 ∷ 0 ∷ 13 ∷ 12 ∷ 11 ∷ 10 ∷ 9 ∷ 8 ∷ 7 ∷ []) $
         part-1
 
-  walk : (C : Calls 𝓤 H) (Λ : Loops 𝓤 H) (fm : FmC 𝓤 H (W .laws) C) (known-read-rows : Triple 𝓤 (C #read-record·read-rows) (read-rows-contract 𝓤 H A mem run)) (known-put-rows : Triple 𝓤 (C #test-rows·put-rows) (put-rows-contract 𝓤 H A mem run))
+  walk : (C : Calls 𝓤 H) (Λ : Loops 𝓤 H) (fm : FmC 𝓤 H (W .laws) C) (known-read : Triple 𝓤 (C #read-record·read) (read-contract 𝓤 H A mem run)) (known-put-rows : Triple 𝓤 (C #test-rows·put-rows) (put-rows-contract 𝓤 H A mem run))
       → ent 𝓤 (onEntry 𝓤 H A f.signature (κ₀, (κ₁, (κ₂, (κ₃, (κ₄, (κ₅, (κ₆, tt))))))) (q₀, (q₁, (q₂, (q₃, (q₄, (q₅, (q₆, tt))))))) a at-entry) (WpFn 𝓤 H C Λ code.function ((v s) ∷ (vint w64 at′) ∷ (v texts) ∷ (v references) ∷ (v comments) ∷ (Feature-cells rows) ∷ (vint w64 n) ∷ (v features) ∷ (v qualifiers) ∷ (v letters) ∷ []) Post)
-  walk C Λ fm known-read-rows known-put-rows =
+  walk C Λ fm known-read known-put-rows =
       qed W ((‵ (flft κ₀ q₀) ⊛ ‵ (flft κ₁ q₁) ⊛ ‵ (flft κ₂ q₂) ⊛ ‵ (flft κ₃ q₃) ⊛ ‵ (flft κ₄ q₄) ⊛ ‵ (flft κ₅ q₅) ⊛ ‵ (flft κ₆ q₆) ⊛ ‵ ftrue) ∷ ‵ (owns (ShrSlice (named 0) κ₀ u8 ∷ usize ∷ MutSlice (named 1) κ₁ u8 ∷ MutSlice (named 2) κ₂ usize ∷ MutSlice (named 3) κ₃ usize ∷ (Array Feature-is.the-row 42) ∷ usize ∷ MutSlice (named 4) κ₄ usize ∷ MutSlice (named 5) κ₅ usize ∷ MutSlice (named 6) κ₆ u8 ∷ []) a at-entry) ∷ []) ∵ enter ! C Λ code.function ((v s) ∷ (vint w64 at′) ∷ (v texts) ∷ (v references) ∷ (v comments) ∷ (Feature-cells rows) ∷ (vint w64 n) ∷ (v features) ∷ (v qualifiers) ∷ (v letters) ∷ []) _ $
       alloc1 ! (λ l₀. alloc1 ! (λ l₁. alloc1 ! (λ l₂. alloc1 ! (λ l₃. alloc1 ! (λ l₄. alloc1 ! (λ l₅. alloc1 ! (λ l₆. alloc1 ! (λ l₇. alloc1 ! (λ l₈. alloc1 ! (λ l₉. alloc1 ! (λ l₁₀. alloc1 ! (λ l₁₁. alloc1 ! (λ l₁₂. alloc1 ! (λ l₁₃. alloc1 ! (λ l₁₄. alloc1 ! (λ l₁₅. alloc1 ! (λ l₁₆. alloc1 ! (λ l₁₇. alloc1 ! (λ l₁₈. alloc1 ! (λ l₁₉. alloc1 ! (λ l₂₀. alloc1 ! (λ l₂₁. alloc1 ! (λ l₂₂. alloc1 ! (λ l₂₃. alloc1 ! (λ l₂₄. alloc1 ! (λ l₂₅. alloc1 ! (λ l₂₆. alloc1 ! (λ l₂₇. alloc1 ! (λ l₂₈. alloc0 ! $ params1 ! $
       pass1 ! (init ! 54 refl (tt, (tt, (record { fits = s-room .0 }, tt)))) $ pass1 ! (init ! 52 refl (uint-lawful 𝓤 H A W w64 .typed at′ ((vint w64 at′) ∷ []) at′-is .0)) $ pass1 ! (init ! 50 refl (tt, (tt, (record { fits = texts-room .0 }, tt)))) $ pass1 ! (init ! 48 refl (tt, (tt, (record { fits = references-room .0 }, tt)))) $ pass1 ! (init ! 46 refl (tt, (tt, (record { fits = comments-room .0 }, tt)))) $ pass1 ! (init ! 44 refl (array-lawful 𝓤 H A W Feature-is.the-row (LL.lawful Feature-is.the-type Feature-has.the-laws 𝓤 H A W) 42 .typed rows ((Feature-cells rows) ∷ []) rows-is .0)) $ pass1 ! (init ! 42 refl (uint-lawful 𝓤 H A W w64 .typed n ((vint w64 n) ∷ []) n-is .0)) $ pass1 ! (init ! 40 refl (tt, (tt, (record { fits = features-room .0 }, tt)))) $ pass1 ! (init ! 38 refl (tt, (tt, (record { fits = qualifiers-room .0 }, tt)))) $ pass1 ! (init ! 36 refl (tt, (tt, (record { fits = letters-room .0 }, tt)))) $ pass0 ! $
-      begins C Λ fm known-read-rows known-put-rows l₀ l₁ l₂ l₃ l₄ l₅ l₆ l₇ l₈ l₉ l₁₀ l₁₁ l₁₂ l₁₃ l₁₄ l₁₅ l₁₆ l₁₇ l₁₈ l₁₉ l₂₀ l₂₁ l₂₂ l₂₃ l₂₄ l₂₅ l₂₆ l₂₇ l₂₈)))))))))))))))))))))))))))))
+      begins C Λ fm known-read known-put-rows l₀ l₁ l₂ l₃ l₄ l₅ l₆ l₇ l₈ l₉ l₁₀ l₁₁ l₁₂ l₁₃ l₁₄ l₁₅ l₁₆ l₁₇ l₁₈ l₁₉ l₂₀ l₂₁ l₂₂ l₂₃ l₂₄ l₂₅ l₂₆ l₂₇ l₂₈)))))))))))))))))))))))))))))
 
-module _ {M : Type 1} (𝓤 : URA M) (H : Heap 𝓤) (A : Atoms 𝓤) (W : Given 𝓤 H A) (mem : Memory → SProp 𝓤) (run : Routine → Fun 𝓤) (𝓣 : Tables 𝓤 H) (known-read-rows : Triple 𝓤 (𝓣 .C #read-record·read-rows) (read-rows-contract 𝓤 H A mem run)) (known-put-rows : Triple 𝓤 (𝓣 .C #test-rows·put-rows) (put-rows-contract 𝓤 H A mem run)) where
+module _ {M : Type 1} (𝓤 : URA M) (H : Heap 𝓤) (A : Atoms 𝓤) (W : Given 𝓤 H A) (mem : Memory → SProp 𝓤) (run : Routine → Fun 𝓤) (𝓣 : Tables 𝓤 H) (known-read : Triple 𝓤 (𝓣 .C #read-record·read) (read-contract 𝓤 H A mem run)) (known-put-rows : Triple 𝓤 (𝓣 .C #test-rows·put-rows) (put-rows-contract 𝓤 H A mem run)) where
   read-lent-walks : Walks 𝓤 H A f.ended stayed (WpFn 𝓤 H (𝓣 .C) (𝓣 .Λ) code.function) (f.clauses 𝓤 H A mem run)
   read-lent-walks = walked 𝓤 H A f.ended stayed (f.clauses 𝓤 H A mem run) (WpFn 𝓤 H (𝓣 .C) (𝓣 .Λ) code.function)
       (λ κs. (slice-vals, (uint-vals w64, (slice-vals, (slice-vals, (slice-vals, (array-vals (LL.vals Feature-is.the-type Feature-has.the-laws), (uint-vals w64, (slice-vals, (slice-vals, (slice-vals, tt)))))))))))
       (λ κs. (shr-slice-tells (named 0) (κs .0) u8, (uint-tells w64, (mut-slice-tells (named 1) (κs .1 .0) u8, (mut-slice-tells (named 2) (κs .1 .1 .0) usize, (mut-slice-tells (named 3) (κs .1 .1 .1 .0) usize, (array-tells Feature-is.the-row (LL.vals Feature-is.the-type Feature-has.the-laws) (LL.tells Feature-is.the-type Feature-has.the-laws) 42, (uint-tells w64, (mut-slice-tells (named 4) (κs .1 .1 .1 .1 .0) usize, (mut-slice-tells (named 5) (κs .1 .1 .1 .1 .1 .0) usize, (mut-slice-tells (named 6) (κs .1 .1 .1 .1 .1 .1 .0) u8, tt)))))))))))
-      (λ κs qs bounds a g are. needs 𝓤 (((a .1 .1 .1 .1 .1 .1 .0) ≤ 42) × (6 * (a .1 .1 .1 .1 .1 .1 .0) ≤ length (a .1 .1 .1 .1 .1 .1 .1 .0 .now)) × (flat (take′ (a .1 .1 .1 .1 .1 .1 .0) (a .1 .1 .1 .1 .1 .0)) ≡ take′ (6 * (a .1 .1 .1 .1 .1 .1 .0)) (a .1 .1 .1 .1 .1 .1 .1 .0 .now))) _ (λ required. walk 𝓤 H A W mem run (κs .0) (κs .1 .0) (κs .1 .1 .0) (κs .1 .1 .1 .0) (κs .1 .1 .1 .1 .0) (κs .1 .1 .1 .1 .1 .0) (κs .1 .1 .1 .1 .1 .1 .0) (qs .0) (qs .1 .0) (qs .1 .1 .0) (qs .1 .1 .1 .0) (qs .1 .1 .1 .1 .0) (qs .1 .1 .1 .1 .1 .0) (qs .1 .1 .1 .1 .1 .1 .0) (a .0) (a .1 .0) (a .1 .1 .0) (a .1 .1 .1 .0) (a .1 .1 .1 .1 .0) (a .1 .1 .1 .1 .1 .0) (a .1 .1 .1 .1 .1 .1 .0) (a .1 .1 .1 .1 .1 .1 .1 .0) (a .1 .1 .1 .1 .1 .1 .1 .1 .0) (a .1 .1 .1 .1 .1 .1 .1 .1 .1 .0) (are .0 .0 .1) (are .1 .0) (are .1 .1 .0 .0 .1) (are .1 .1 .1 .0 .0 .1) (are .1 .1 .1 .1 .0 .0 .1) (are .1 .1 .1 .1 .1 .0) (are .1 .1 .1 .1 .1 .1 .0) (are .1 .1 .1 .1 .1 .1 .1 .0 .0 .1) (are .1 .1 .1 .1 .1 .1 .1 .1 .0 .0 .1) (are .1 .1 .1 .1 .1 .1 .1 .1 .1 .0 .0 .1) required (𝓣 .C) (𝓣 .Λ) (fmOf 𝓤 H (W .laws) 𝓣) known-read-rows known-put-rows))
+      (λ κs qs bounds a g are. needs 𝓤 (((a .1 .1 .1 .1 .1 .1 .0) ≤ 42) × (6 * (a .1 .1 .1 .1 .1 .1 .0) ≤ length (a .1 .1 .1 .1 .1 .1 .1 .0 .now)) × (flat (take′ (a .1 .1 .1 .1 .1 .1 .0) (a .1 .1 .1 .1 .1 .0)) ≡ take′ (6 * (a .1 .1 .1 .1 .1 .1 .0)) (a .1 .1 .1 .1 .1 .1 .1 .0 .now))) _ (λ required. walk 𝓤 H A W mem run (κs .0) (κs .1 .0) (κs .1 .1 .0) (κs .1 .1 .1 .0) (κs .1 .1 .1 .1 .0) (κs .1 .1 .1 .1 .1 .0) (κs .1 .1 .1 .1 .1 .1 .0) (qs .0) (qs .1 .0) (qs .1 .1 .0) (qs .1 .1 .1 .0) (qs .1 .1 .1 .1 .0) (qs .1 .1 .1 .1 .1 .0) (qs .1 .1 .1 .1 .1 .1 .0) (a .0) (a .1 .0) (a .1 .1 .0) (a .1 .1 .1 .0) (a .1 .1 .1 .1 .0) (a .1 .1 .1 .1 .1 .0) (a .1 .1 .1 .1 .1 .1 .0) (a .1 .1 .1 .1 .1 .1 .1 .0) (a .1 .1 .1 .1 .1 .1 .1 .1 .0) (a .1 .1 .1 .1 .1 .1 .1 .1 .1 .0) (are .0 .0 .1) (are .1 .0) (are .1 .1 .0 .0 .1) (are .1 .1 .1 .0 .0 .1) (are .1 .1 .1 .1 .0 .0 .1) (are .1 .1 .1 .1 .1 .0) (are .1 .1 .1 .1 .1 .1 .0) (are .1 .1 .1 .1 .1 .1 .1 .0 .0 .1) (are .1 .1 .1 .1 .1 .1 .1 .1 .0 .0 .1) (are .1 .1 .1 .1 .1 .1 .1 .1 .1 .0 .0 .1) required (𝓣 .C) (𝓣 .Λ) (fmOf 𝓤 H (W .laws) 𝓣) known-read known-put-rows))
 
   read-lent-meets : Meets 𝓤 H A f.signature (WpFn 𝓤 H (𝓣 .C) (𝓣 .Λ) code.function) (f.spec 𝓤 H A mem run)
   read-lent-meets =
@@ -418,5 +418,5 @@ read-lent-spec 𝓤 H 𝓜 𝓖 𝓡 =
     entered 𝓤 H (tripleOf 𝓤 H (𝓖 .A) f.signature (f.spec 𝓤 H (𝓖 .A) (𝓜 .mem) (𝓡 .run)))
     (tables 𝓤 H 𝓜 𝓡 code.env .C) (tables 𝓤 H 𝓜 𝓡 code.env .Λ) #test-rows·read-lent code.function (code.unfolded 𝓤 H 𝓜 𝓡)
     (read-lent-meets 𝓤 H (𝓖 .A) (givenOf 𝓤 H 𝓜 𝓖) (𝓜 .mem) (𝓡 .run) (tablesOf 𝓤 H 𝓜 (tables 𝓤 H 𝓜 𝓡 code.env))
-    (cited 𝓤 H (read-rows-contract 𝓤 H (𝓖 .A) (𝓜 .mem) (𝓡 .run)) 𝓜 𝓡 code.env #read-record·read-rows read-rows-def.routine code.calls-read-record·read-rows (read-rows-thm.met 𝓤 H 𝓜 𝓖 𝓡))
+    (cited 𝓤 H (read-contract 𝓤 H (𝓖 .A) (𝓜 .mem) (𝓡 .run)) 𝓜 𝓡 code.env #read-record·read read-def.routine code.calls-read-record·read (read-thm.met 𝓤 H 𝓜 𝓖 𝓡))
     (cited 𝓤 H (put-rows-contract 𝓤 H (𝓖 .A) (𝓜 .mem) (𝓡 .run)) 𝓜 𝓡 code.env #test-rows·put-rows put-rows-def.routine code.calls-test-rows·put-rows (put-rows-thm.met 𝓤 H 𝓜 𝓖 𝓡)))
