@@ -1,4 +1,4 @@
-// The writers on feature rows that are structs: one entry point, which answers as the writers on flat numbers do.
+// The writer: one entry point, plain or keeping.
 use base_rows::Feature;
 use base_rows::fetch_row;
 use spec_format::Head;
