@@ -45,7 +45,8 @@ date-three (dated.On d) = refl
 -- a head's numbers one by one
 unfoldable each : Head → List ℕ
 each h =
-    getD (textNumbers (h .name)) 0 0 ∷ getD (textNumbers (h .name)) 1 0 ∷ getD (lengthNumbers (h .length)) 0 0 ∷ getD (textNumbers (h .molecule)) 0 0 ∷ getD (textNumbers (h .molecule)) 1 0 ∷ flag (h .circular) ∷ h .division .start ∷ h .division .length ∷
+    getD (textNumbers (h .name)) 0 0 ∷ getD (textNumbers (h .name)) 1 0 ∷ getD (lengthNumbers (h .length)) 0 0 ∷
+    getD (textNumbers (h .molecule)) 0 0 ∷ getD (textNumbers (h .molecule)) 1 0 ∷ flag (h .circular) ∷ h .division .start ∷ h .division .length ∷
     getD (dateNumbers (h .date)) 0 0 ∷ getD (dateNumbers (h .date)) 1 0 ∷ getD (dateNumbers (h .date)) 2 0 ∷
     getD (textNumbers (h .definition)) 0 0 ∷ getD (textNumbers (h .definition)) 1 0 ∷ getD (textNumbers (h .accession)) 0 0 ∷ getD (textNumbers (h .accession)) 1 0 ∷
     getD (textNumbers (h .version)) 0 0 ∷ getD (textNumbers (h .version)) 1 0 ∷ getD (textNumbers (h .dblink)) 0 0 ∷ getD (textNumbers (h .dblink)) 1 0 ∷

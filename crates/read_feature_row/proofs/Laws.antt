@@ -24,8 +24,8 @@ use Rattle.read_feature_qualifiers.specs.Turns.{qualifiersIn}
 use Rattle.read_feature_table.specs.Reads.{Located, featureRest}
 use Rattle.read_feature_table.specs.Texts.{head-text, whole-text, whole-length}
 use Rattle.read_feature_table.specs.Steps.{kind-is, kind-bad, kind-short, kinded, located, location-is, location-bad, location-short}
-use Rattle.read_feature_texts.specs.declared.Run.{Run}
-use Rattle.read_feature_texts.specs.Puts.{WroteTwo, PutTwo, QualifiersPut}
+use Rattle.read_feature_qualifier_rows.specs.declared.Run.{Run}
+use Rattle.read_feature_qualifier_rows.specs.Puts.{WroteTwo, PutTwo, QualifiersPut}
 use Rattle.read_feature_row.specs.declared.Reached.{Reached}
 use Rattle.read_feature_row.specs.declared.Made.{Made}
 use Rattle.read_feature_row.specs.Makes.{Ahead, noRow, rowOf, underOf, FeatureWrote, RowThen, RowMade}

@@ -72,7 +72,7 @@ fn make_located(
     let place = reached.text;
     let start = base_pen::put_part(texts, place, s, first, end);
     let stop = read_feature_bare::put_bare(s, location, indent, texts, start);
-    let run = read_feature_texts::put_qualifiers(
+    let run = read_feature_qualifier_rows::put_qualifiers(
         s,
         rest,
         indent,

@@ -17,7 +17,7 @@ use Rattle.base_rows.specs.declared.Feature.{Feature}
 use Rattle.base_rows.specs.Rows.{flat}
 use Rattle.base_rows.specs.Flat.{flat-set}
 use Rattle.read_feature_table.specs.Reads.{featuresIn}
-use Rattle.read_feature_texts.specs.Puts.{Fits, FeaturesPut}
+use Rattle.read_feature_qualifier_rows.specs.Puts.{Fits, FeaturesPut}
 use Rattle.read_feature_row.specs.declared.Reached.{Reached}
 use Rattle.read_feature_row.specs.declared.Made.{Made}
 use Rattle.read_feature_row.specs.Makes.{rowOf, underOf, Ahead, FeatureMade, RowThen, RowMade}

@@ -3,7 +3,7 @@ use base_rows::Feature;
 use read_feature_row::Reached;
 ghost use lib.ListN.{drop};
 ghost use Rattle.read_feature_table.specs.Reads.{featuresIn};
-ghost use Rattle.read_feature_texts.specs.Puts.{Fits, FeaturesPut};
+ghost use Rattle.read_feature_qualifier_rows.specs.Puts.{Fits, FeaturesPut};
 ghost use Rattle.base_rows.specs.Rows.{flat};
 
 // The n features that stand from `at` on: texts from `place` on, rows from the start of their rooms on. The place after the texts.

@@ -17,7 +17,7 @@ use Rattle.spec_rooms.specs.LayoutLengths.{Lengths, layout-lengths, SameLengths
 use Rattle.spec_contracts.specs.Equal.{rooms-equal}
 use Rattle.base_pen.specs.Pen.{sets-append}
 use Rattle.read_feature_table.specs.Reads.{featuresIn}
-use Rattle.read_feature_texts.specs.Puts.{Fits, FeaturesPut}
+use Rattle.read_feature_qualifier_rows.specs.Puts.{Fits, FeaturesPut}
 use Rattle.read_record_plan.specs.declared.Plan.{Plan}
 use Rattle.read_record_plan.specs.Plans.{planTable, Ready}
 use Rattle.read_record_plan.specs.Parts.{TableParts, table-parts, SmallParts, small-parts}

@@ -19,7 +19,7 @@ use Rattle.spec_format.specs.declared.ReadAnswer.the-variants as answer
 use Rattle.spec_loops.specs.Loops.{try-members-no, try-members-cut}
 use Rattle.spec_loops.specs.Shrinks.{feature-small}
 use Rattle.read_feature_table.specs.Reads.{featuresIn}
-use Rattle.read_feature_texts.specs.Puts.{Fits, FeaturesPut}
+use Rattle.read_feature_qualifier_rows.specs.Puts.{Fits, FeaturesPut}
 use Rattle.read_record_plan.specs.declared.Plan.{Plan}
 use Rattle.read_record_plan.specs.declared.PlanAt.{PlanAt}
 use Rattle.read_record_plan.specs.declared.PlanAt.the-variants as plan

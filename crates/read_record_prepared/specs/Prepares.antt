@@ -8,7 +8,7 @@ use Rattle.spec_format.specs.Rooms.{Rooms, answerOf, roomsOf, roomsIn}
 use Rattle.spec_format.specs.declared.ReadAnswer.{ReadAnswer}
 use Rattle.spec_format.specs.declared.ReadAnswer.the-variants as answer
 use Rattle.read_feature_table.specs.Reads.{featuresIn}
-use Rattle.read_feature_texts.specs.Puts.{Fits, FeaturesPut}
+use Rattle.read_feature_qualifier_rows.specs.Puts.{Fits, FeaturesPut}
 use Rattle.read_record_plan.specs.declared.Plan.{Plan}
 use Rattle.read_record_plan.specs.Plans.{planTable}
 use Rattle.read_record_sizes.specs.Sizing.{headPlan}

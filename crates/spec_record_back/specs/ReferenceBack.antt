@@ -78,7 +78,8 @@ no indent word keep y = refused (field indent word keep y)
 
 maybe-back :
     (W indent : ℕ) (word : List ℕ) (keep : Bool) (o : May (List ℕ)) (s : List ℕ) → indent + length word < 12 → ifIs (headerKept W) o ≡ true →
-    ifIs utf8 o ≡ true → ifIs (λ t. keep || all (but 10) t) o ≡ true → twelve s ≡ true → no indent word keep s ≡ true → maybeField indent word keep (maybeLines W (spaces indent ++ word) o ++ s) ≡ Got o s
+    ifIs utf8 o ≡ true → ifIs (λ t. keep || all (but 10) t) o ≡ true → twelve s ≡ true → no indent word keep s ≡ true →
+    maybeField indent word keep (maybeLines W (spaces indent ++ word) o ++ s) ≡ Got o s
 unfolding twelve no
 maybe-back W indent word keep absent s h k u one stops next = rw (is-no (field indent word keep s) next)
 maybe-back W indent word keep (is t) s h k u one stops next = rw (field-back W indent word t s keep h k u one (is-no _ stops))
@@ -254,7 +255,8 @@ module _ (W : ℕ) (x : Reference) (s : List ℕ) (k : Texts (headerKept W) x) (
   whole₁ : reference (referenceLines W x ++ s) ≡ Got x s
   whole₁ =
       rw (lines₁ W x s)
-      (reference-steps x (fieldLines W (bytes "REFERENCE") (x .text) ++ (s₁ W x s)) (s₁ W x s) (s₂ W x s) (s₃ W x s) (s₄ W x s) (s₅ W x s) (s₆ W x s) s text₁ authors₁ consrtm₁ title₁ journal₁ pubmed₁ remark₁)
+      (reference-steps x (fieldLines W (bytes "REFERENCE") (x .text) ++ (s₁ W x s)) (s₁ W x s) (s₂ W x s) (s₃ W x s) (s₄ W x s) (s₅ W x s) (s₆ W x s) s
+      text₁ authors₁ consrtm₁ title₁ journal₁ pubmed₁ remark₁)
 
 pub reference-back :
     (W : ℕ) (x : Reference) (s : List ℕ) → referenceTexts (headerKept W) x ≡ true → referenceTexts utf8 x ≡ true → pubmedKept x ≡ true →

@@ -117,9 +117,17 @@ layout-keeps t r h =
     let l : Lengths t = layout-lengths t in
     record {
       texts = over-length (layout t .texts) (r .texts) (omega (arith, l .texts, leb-true (sizes t .texts) (length (r .texts)) (f .texts)));
-      references = over-length (layout t .references) (r .references) (rows-fit 14 (sizes t .references) (length (r .references)) _ (l .references) (leb-true (sizes t .references) (length (r .references) / 14) (f .references)));
-      comments = over-length (layout t .comments) (r .comments) (rows-fit 2 (sizes t .comments) (length (r .comments)) _ (l .comments) (leb-true (sizes t .comments) (length (r .comments) / 2) (f .comments)));
-      features = over-length (layout t .features) (r .features) (rows-fit 6 (sizes t .features) (length (r .features)) _ (l .features) (leb-true (sizes t .features) (length (r .features) / 6) (f .features)));
-      qualifiers = over-length (layout t .qualifiers) (r .qualifiers) (rows-fit 4 (sizes t .qualifiers) (length (r .qualifiers)) _ (l .qualifiers) (leb-true (sizes t .qualifiers) (length (r .qualifiers) / 4) (f .qualifiers)));
+      references =
+          over-length (layout t .references) (r .references)
+          (rows-fit 14 (sizes t .references) (length (r .references)) _ (l .references) (leb-true (sizes t .references) (length (r .references) / 14) (f .references)));
+      comments =
+          over-length (layout t .comments) (r .comments)
+          (rows-fit 2 (sizes t .comments) (length (r .comments)) _ (l .comments) (leb-true (sizes t .comments) (length (r .comments) / 2) (f .comments)));
+      features =
+          over-length (layout t .features) (r .features)
+          (rows-fit 6 (sizes t .features) (length (r .features)) _ (l .features) (leb-true (sizes t .features) (length (r .features) / 6) (f .features)));
+      qualifiers =
+          over-length (layout t .qualifiers) (r .qualifiers)
+          (rows-fit 4 (sizes t .qualifiers) (length (r .qualifiers)) _ (l .qualifiers) (leb-true (sizes t .qualifiers) (length (r .qualifiers) / 4) (f .qualifiers)));
       letters = over-length (layout t .letters) (r .letters) (omega (arith, l .letters, leb-true (sizes t .letters) (length (r .letters)) (f .letters)));
     }

@@ -26,7 +26,8 @@ module _ (turn : List ℕ → Ans (Turn (List ℕ))) where
   unfolding joining
   joining-stop s r e = rw (loop-stop turn s r e)
 
-  pub joining-parts : (f : List ℕ) (s t r : List ℕ) (g : List (List ℕ) → List ℕ) → ((l : List (List ℕ)) → g l ≡ f ++ concat l) → joining turn s ≡ Got t r → bind (loop turn s) (λ l z. Got (g l) z) ≡ Got (f ++ t) r
+  pub joining-parts : (f : List ℕ) (s t r : List ℕ) (g : List (List ℕ) → List ℕ) → ((l : List (List ℕ)) → g l ≡ f ++ concat l) →
+      joining turn s ≡ Got t r → bind (loop turn s) (λ l z. Got (g l) z) ≡ Got (f ++ t) r
   unfolding joining
   joining-parts f s t r g e h = go (loop turn s) h
     where

@@ -63,7 +63,8 @@ pub start-with :
 unfolding lineStart
 start-with truncate escape store h n chose e f =
     ap (λ (w : List ℕ). bytes "LOCUS       " ++ nameAndLength w (decimal n) ++ bytes " bp    ") (name-with truncate escape store h n chose e f) ∙
-    ap (λ (d : ℕ). bytes "LOCUS       " ++ nameAndLength (nameWith truncate escape (lengthOr (mayLength (h .length)) (h .letters)) (tableOf (referenceRooms store []) h)) (decimal d) ++ bytes " bp    ") e
+    ap (λ (d : ℕ). bytes "LOCUS       " ++
+    nameAndLength (nameWith truncate escape (lengthOr (mayLength (h .length)) (h .letters)) (tableOf (referenceRooms store []) h)) (decimal d) ++ bytes " bp    ") e
 
 -- ---- of a table in rooms
 

@@ -41,7 +41,8 @@ measured i (b ∷ t) h =
     let e : i + suc (length t) ≡ suc i + length t = omega arith in
     let l : length (lineStart i ++ tenStart i ++ b ∷ [] ++ letterLines (suc i) t) ≡ length (lineStart i) + length (tenStart i) + 1 + length (letterLines (suc i) t) =
     simp length-append in
-    rw e (one-more _ (length (lineStart i)) (length (tenStart i)) _ i _ _ _ _ _ l (start-by i (omega arith) (eqb (i % 60) 0) refl) (space-by i (eqb (i % 10) 0) refl) (measured (suc i) t (omega arith)))
+    rw e (one-more _ (length (lineStart i)) (length (tenStart i)) _ i _ _ _ _ _ l (start-by i (omega arith) (eqb (i % 60) 0) refl)
+    (space-by i (eqb (i % 10) 0) refl) (measured (suc i) t (omega arith)))
 
 pub letters-measured : (t : List ℕ) → length t ≤ 16777216 → length (letterLines 0 t) ≡ lettersLength (length t)
 letters-measured t h = omega (arith, measured 0 t (omega arith))

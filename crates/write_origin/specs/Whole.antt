@@ -92,7 +92,8 @@ line-first t i h l =
       next-ten t i 40 (omega arith) (λ e. omega arith) (omega arith),
       next-ten t i 50 (omega arith) (λ e. omega arith) (omega arith),
     )
-    (grouped (10 ∷ [] ++ rightAligned 9 (decimal (i + 1))) (spaced t i) (spaced t (i + 10)) (spaced t (i + 20)) (spaced t (i + 30)) (spaced t (i + 40)) (spaced t (i + 50)) (letterLines (i + 60) (drop (i + 60) t)))
+    (grouped (10 ∷ [] ++ rightAligned 9 (decimal (i + 1))) (spaced t i) (spaced t (i + 10)) (spaced t (i + 20)) (spaced t (i + 30)) (spaced t (i + 40))
+    (spaced t (i + 50)) (letterLines (i + 60) (drop (i + 60) t)))
 
 -- texts that fit, one after the other, each at a place of its own
 pub twice : {l m n x y : List ℕ} {i j p q : ℕ} (h : ℕ) → Wrote l i x m p → Wrote m j y n q → p ≡ j → q ≡ h → Wrote l i (x ++ y) n h

@@ -3,6 +3,7 @@
 use base_pen::put_byte;
 use base_pen::put_bytes;
 use base_pen::put_part;
+use base_pen::store_ten;
 use write_decimal::put_nine;
 ghost use mathlib.Core.Path.{_≡_};
 ghost use mathlib.Core.List.{[], _∷_, _++_};
@@ -115,17 +116,6 @@ fn store(out: &mut [u8], at: usize, b: u8)
     ensures { λ r. ⌜ Wrote (now (out .entry)) at (b ∷ []) (now (out .exit)) (at + 1) ⌝ }
 {
     out[at] = b;
-}
-
-fn store_ten(out: &mut [u8], at: usize, ten: &[u8; 10])
-    requires { ⌜ (at + 10 ≤ length (now out)) × (length (now ten) ≡ 10) ⌝ }
-    ensures { λ r. ⌜ Wrote (now (out .entry)) at (now (ten .entry)) (now (out .exit)) (at + 10) ⌝ }
-{
-    let mut j = 0;
-    while j < 10 {
-        out[at + j] = ten[j];
-        j += 1;
-    }
 }
 
 // A space and ten letters, which fit.

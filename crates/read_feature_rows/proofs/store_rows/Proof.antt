@@ -51,7 +51,7 @@ use Rattle.base_walk.proofs.Loans.{Loan, again as slice-at, Own, Lent, Kept, le
 use Rattle.base_rows.specs.Rows.{Stored, flat}
 use Rattle.read_feature_row.specs.Makes.{Ahead, RowMade}
 use Rattle.read_feature_table.specs.Reads.{featuresIn}
-use Rattle.read_feature_texts.specs.Puts.{FeaturesPut, Fits}
+use Rattle.read_feature_qualifier_rows.specs.Puts.{FeaturesPut, Fits}
 use Rattle.spec_format.specs.Features.{feature}
 use Rattle.read_feature_rows.proofs.Laws.{Storing, storing-none, storing-ahead, storing-on, storing-all, nearer}
 use Rattle.base_rows.specs.declared.Feature.{Feature}

@@ -63,7 +63,12 @@ put-found-requires c κs =
     (walking-ready (now (a .s)) _ _ _ _ _ _ _ _ _ (loop .3) _ header-field-at _ _ field, walking-room (now (a .s)) _ _ _ _ _ _ _ _ _ (loop .3) _ header-field-at _ _ field (pre .1))
 
 loop-less : tie.Need-loop-less Inv-loop μ-loop
-loop-less c = let h = walking-known (now (c .before .before .before .before .before .before .before .before .before .before .before .before .before .before .before .args .s)) _ _ _ _ _ _ _ _ _ (c .before .before .before .before .before .before .before .before .before .before .before .loop .inv .3) _ (c .before .before .before .before .before .before .before .before .before .before .header-field-at .ensures) _ _ (c .before .before .before .before .before .before .before .before .field .given .1) in omega (arith, h .ahead, h .within)
+loop-less c =
+    let found = c .before .before .before .before .before .before .before .before in
+    let asked = found .before .before in
+    let turn = asked .before in
+    let h = walking-known (now (turn .before .before .before .before .args .s)) _ _ _ _ _ _ _ _ _ (turn .loop .inv .3) _ (asked .header-field-at .ensures) _ _ (found .field .given .1) in
+    omega (arith, h .ahead, h .within)
 
 loop-again : tie.Need-loop-again Inv-loop μ-loop
 loop-again c =

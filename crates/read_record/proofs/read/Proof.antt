@@ -47,7 +47,7 @@ use Rattle.base_walk.proofs.Locals.{Cell, vacant, holds, locals, Dies, allocs-a
 use Rattle.base_walk.proofs.Loans.{Loan, again as slice-at, Own, Lent, Kept, lends, returned}
 use Rattle.base_rows.specs.Rows.{flat}
 use Rattle.read_feature_table.specs.Reads.{featuresIn}
-use Rattle.read_feature_texts.specs.Puts.{FeaturesPut, Fits}
+use Rattle.read_feature_qualifier_rows.specs.Puts.{FeaturesPut, Fits}
 use Rattle.read_record_prepared.specs.Prepares.{Prepares}
 use Rattle.spec_contracts.specs.Reads.{Answered}
 use Rattle.spec_format.specs.Rooms.{roomsIn}

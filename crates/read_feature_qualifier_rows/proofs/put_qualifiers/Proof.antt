@@ -2,9 +2,9 @@
 use Prim.Native.Nat.{_-_}
 use lib.ListN.{length}
 use borrow.Author.Needs.{needs}
-use Rattle.read_feature_texts.proofs.Qualifiers.{Putting, puttings}
-use Rattle.read_feature_texts.proofs.put_qualifiers.Statement.{statement}
-use Rattle.read_feature_texts.proofs.put_qualifiers.Tie as tie
+use Rattle.read_feature_qualifier_rows.proofs.Qualifiers.{Putting, puttings}
+use Rattle.read_feature_qualifier_rows.proofs.put_qualifiers.Statement.{statement}
+use Rattle.read_feature_qualifier_rows.proofs.put_qualifiers.Tie as tie
 
 abbrev Inv-loop : tie.InvT-loop
 Inv-loop s at indent texts₀ place rows₀ row i₀ p₀ q₀ n₀ texts rows i p q n = Putting s at indent texts₀ place rows₀ row i texts p rows q n

@@ -23,7 +23,7 @@ use Rattle.read_feature_qualifiers.specs.declared.ValueAt.{ValueAt}
 use Rattle.read_feature_qualifiers.specs.declared.ValueAt.the-variants as value
 use Rattle.read_feature_qualifiers.specs.declared.QualifierAt.{QualifierAt}
 use Rattle.read_feature_qualifiers.specs.declared.QualifierAt.the-variants as one
-use Rattle.read_feature_texts.specs.Puts.{Standing, PutTwo, QualifiersPut}
+use Rattle.read_feature_qualifier_rows.specs.Puts.{Standing, PutTwo, QualifiersPut}
 
 -- ---- one qualifier
 

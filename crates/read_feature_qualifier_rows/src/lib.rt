@@ -5,7 +5,7 @@ ghost use Prim.Native.Nat.{_≤_};
 ghost use lib.ListN.{length};
 ghost use Rattle.spec_format.specs.Rooms.{piecesText, piecesRow, qualifierPieces};
 ghost use Rattle.read_feature_qualifiers.specs.Reads.{qualifierIn};
-ghost use Rattle.read_feature_texts.specs.Puts.{Standing, PutTwo, QualifiersPut};
+ghost use Rattle.read_feature_qualifier_rows.specs.Puts.{Standing, PutTwo, QualifiersPut};
 
 // The places after a qualifier's texts and after its row.
 pub struct Places {

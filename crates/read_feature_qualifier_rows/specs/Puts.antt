@@ -14,7 +14,7 @@ use Rattle.base_pen.specs.Pen.{Wrote}
 use Rattle.read_feature_qualifiers.specs.Reads.{ValueStands}
 use Rattle.read_feature_qualifiers.specs.Turns.{qualifiersIn}
 use Rattle.read_feature_qualifiers.specs.declared.ValueAt.{ValueAt}
-use Rattle.read_feature_texts.specs.declared.Run.{Run}
+use Rattle.read_feature_qualifier_rows.specs.declared.Run.{Run}
 
 -- ---- qualifiers
 

@@ -1,9 +1,9 @@
 -- `featureputs::put_qualifier` meets its contract: one law for a qualifier with a value, one for a qualifier without.
 use native.Mathlib.Omega.{arith}
 use borrow.Author.Needs.{needs}
-use Rattle.read_feature_texts.proofs.Qualifiers.{value-fits, qualifying}
-use Rattle.read_feature_texts.proofs.put_qualifier.Statement.{statement}
-use Rattle.read_feature_texts.proofs.put_qualifier.Tie as tie
+use Rattle.read_feature_qualifier_rows.proofs.Qualifiers.{value-fits, qualifying}
+use Rattle.read_feature_qualifier_rows.proofs.put_qualifier.Statement.{statement}
+use Rattle.read_feature_qualifier_rows.proofs.put_qualifier.Tie as tie
 
 put-part-requires : tie.Need-put-part-requires
 put-part-requires c κs = search needs
