@@ -51,7 +51,6 @@ use Rattle.api_told.specs.Telling.{Returns}
 use Rattle.base_rows.specs.Rows.{flat}
 use Rattle.spec_contracts.specs.Writes.{WriteAnswered}
 use Rattle.spec_format.specs.Rooms.{roomsIn, Rooms}
-use Rattle.write_record_parts.specs.Split.{rowsRooms}
 use Rattle.api_boundary.proofs.Laws.{write-told}
 use Rattle.base_rows.specs.declared.Feature.{Feature}
 use Rattle.base_rows.proofs.Feature as Feature-is
@@ -154,7 +153,7 @@ module _ {M : Type 1} (𝓤 : URA M) (H : Heap 𝓤) (A : Atoms 𝓤) (W : Given
   Post = walkOf 𝓤 H A f.ended stayed (f.clauses 𝓤 H A mem run) .post bound
 
   abbrev rooms : Rooms
-  rooms = rowsRooms (texts .now) (references .now) (comments .now) (qualifiers .now) (letters .now) (features .now)
+  rooms = roomsIn (texts .now) (references .now) (comments .now) (flat (features .now)) (qualifiers .now) (letters .now)
 
   -- what the slices own, of a `&mut` at a list; and what says its last list
   abbrev out-own : List ℕ → Fml
@@ -308,15 +307,15 @@ module _ {M : Type 1} (𝓤 : URA M) (H : Heap 𝓤) (A : Atoms 𝓤) (W : Given
 
       -- what `write` says of its answer and of the lists that it leaves
       abbrev Said-write : WriteAnswer → List ℕ → Type 0
-      Said-write r-write out-write = WriteAnswered made-How (rowsRooms (texts .now) (references .now) (comments .now) (qualifiers .now) (letters .now) (features .now)) r-head-from (out .now) (out-write) r-write
+      Said-write r-write out-write = WriteAnswered made-How (roomsIn (texts .now) (references .now) (comments .now) (flat (features .now)) (qualifiers .now) (letters .now)) r-head-from (out .now) (out-write) r-write
 
       back-write : {K : Type 0} {Γ : List (Item 𝓤)} {d : S.Place} {rest : S.Body} {q : Ending 𝓤 H} → K →
           ((r-write : WriteAnswer) (r-write-is : Is WriteAnswer-is.the-row r-write ((WriteAnswer-val r-write) ∷ [])) (out-write : List ℕ) (out-write-long : length out-write ≡ length (out .now)) (said-write : Said-write r-write out-write) → Seq K W
           (‵ (flft κ₀ q₀) ∷ ‵ (flft κ₁ q₁) ∷ ‵ (flft κ₂ q₂) ∷ ‵ (flft κ₃ q₃) ∷ ‵ (flft κ₄ q₄) ∷ ‵ (flft κ₅ q₅) ∷ ‵ (flft κ₆ q₆) ∷ ‵ (flft κ₇ q₇) ∷ ‵ (flft κ₈ q₈) ∷ ‵ (out-last out-write) ∷ ‵ (told-own (told .now)) ∷ Γ) (lands C Λ E d (WriteAnswer-val r-write) rest q))
           → (u : Val) → Seq K W (raw (write-contract 𝓤 H A mem run .post to-write u) ∷ ‵ (flft κ₇ q₇) ∷ ‵ (flft κ₈ q₈) ∷ ‵ (told-own (told .now)) ∷ Γ) (lands C Λ E d u rest q)
       back-write t next u =
-          use1 W (later (some (λ (r-write : WriteAnswer). ((‵ (flft κ₀ q₀) ⊛ ‵ (flft κ₁ q₁) ⊛ ‵ (flft κ₂ q₂) ⊛ ‵ (flft κ₃ q₃) ⊛ ‵ (flft κ₄ q₄) ⊛ ‵ (flft κ₅ q₅) ⊛ ‵ (flft κ₆ q₆) ⊛ ‵ ftrue) ⊛ ‵ (WriteAnswer-is.the-row .own r-write (u ∷ []))) ⊛ raw
-          (ensured 𝓤 H A write.ended (write.clauses 𝓤 H A mem run) lfts-write args-write tt r-write)))) (id⊢ 𝓤 _) $
+          use1 W (later (some (λ (r-write : WriteAnswer). ((‵ (flft κ₀ q₀) ⊛ ‵ (flft κ₁ q₁) ⊛ ‵ (flft κ₂ q₂) ⊛ ‵ (flft κ₃ q₃) ⊛ ‵ (flft κ₄ q₄) ⊛ ‵ (flft κ₅ q₅) ⊛ ‵ (flft κ₆ q₆) ⊛ ‵ ftrue) ⊛ ‵ (WriteAnswer-is.the-row .own r-write (u ∷ []))) ⊛ raw (ensured 𝓤 H A write.ended (write.clauses 𝓤 H A mem run) lfts-write args-write tt r-write)))) (id⊢ 𝓤 _)
+          $
           await t tt $ pick t (λ r-write. split t $ move t (1 ∷ []) $
           use1 W (some (λ (ws : (List ℕ) × ((Unit {0}) × ((Unit {0}) × ((Unit {0}) × ((Unit {0}) × ((Unit {0}) × ((Unit {0}) × ((Unit {0}) × ((Unit {0}) × Unit {0}))))))))).
           ((‵ (finally u8 (out .name) (ws .0)) ⊛ ‵ (feq ℕ (length (ws .0)) (length (out .now)))) ⊛ ‵ ftrue ⊛ ‵ ftrue ⊛ ‵ ftrue ⊛ ‵ ftrue ⊛ ‵ ftrue ⊛ ‵ ftrue ⊛ ‵ ftrue ⊛ ‵ ftrue ⊛ ‵ ftrue) ⊛ raw (fact 𝓤 (Said-write r-write (ws .0))))) (id⊢ 𝓤 _) $
@@ -401,8 +400,8 @@ module _ {M : Type 1} (𝓤 : URA M) (H : Heap 𝓤) (A : Atoms 𝓤) (W : Given
           exits : ent 𝓤 (⋆ 𝓤 H A (has-tell-written [])) (Post (vint w64 r-tell-written))
           exits =
               qed W (has-tell-written []) ∵
-              suffices ! _ (ends-at 𝓤 H A f.ended stayed (f.clauses 𝓤 H A mem run) W bound (vint w64 r-tell-written) r-tell-written (out-write, (tt, (tt, (tt, (tt, (tt, (tt, (tt, (tt, (tt, (tt, (tt, (told-tell-written, tt)))))))))))))
-              (out-write-long, (tt, (tt, (tt, (tt, (tt, (tt, (tt, (tt, (tt, (tt, (tt, (told-tell-written-long, tt)))))))))))))) $ says ! ended $
+              suffices ! _ (ends-at 𝓤 H A f.ended stayed (f.clauses 𝓤 H A mem run) W bound (vint w64 r-tell-written) r-tell-written (out-write, (tt, (tt, (tt, (tt, (tt, (tt, (tt, (tt, (tt, (tt, (tt, (told-tell-written, tt))))))))))))) (out-write-long, (tt, (tt, (tt, (tt, (tt, (tt, (tt, (tt, (tt, (tt, (tt, (told-tell-written-long, tt)))))))))))))) $
+              says ! ended $
               owned ! usize (Is usize) (uint-makes 𝓤 H A W w64) r-tell-written ((vint w64 r-tell-written) ∷ []) r-tell-written-is $
               nothing ! $ nothing ! $ nothing ! $ nothing ! $ nothing ! $ nothing ! $ nothing ! $ nothing ! $ nothing ! $ nothing ! $ nothing ! $ nothing ! $ nothing ! $
               move ! (14 ∷ 15 ∷ 16 ∷ 17 ∷ 18 ∷ 19 ∷ 20 ∷ 21 ∷ 22 ∷ 11 ∷ 23 ∷ 0 ∷ 1 ∷ 2 ∷ 3 ∷ 4 ∷ 5 ∷ 6 ∷ 7 ∷ 8 ∷ 9 ∷ 10 ∷ 24 ∷ 12 ∷ 13 ∷ []) $
@@ -420,8 +419,8 @@ module _ {M : Type 1} (𝓤 : URA M) (H : Heap 𝓤) (A : Atoms 𝓤) (W : Given
               (WriteAnswer-val r-write) ∷ holds (p out) ∷ holds (v out) ∷ holds (Head-val r-head-from) ∷ holds (How-val made-How) ∷ holds (p told) ∷ holds (v told) ∷ []) tt exits
 
         abbrev part-3-holds : List Cell
-        part-3-holds = vacant ∷ holds (v out) ∷ holds (v texts) ∷ holds (v references) ∷ holds (v comments) ∷ holds (v features) ∷ holds (v qualifiers) ∷ holds (v letters) ∷ holds (v head) ∷ holds (vint w64 width) ∷ holds (vbool keep) ∷ holds (vbool truncate) ∷ holds (vbool escape) ∷ holds (v told) ∷ holds (WriteAnswer-val r-write) ∷ holds
-            (p out) ∷ holds (v out) ∷ holds (Head-val r-head-from) ∷ holds (How-val made-How) ∷ vacant ∷ vacant ∷ []
+        part-3-holds = vacant ∷ holds (v out) ∷ holds (v texts) ∷ holds (v references) ∷ holds (v comments) ∷ holds (v features) ∷ holds (v qualifiers) ∷ holds (v letters) ∷ holds (v head) ∷ holds (vint w64 width) ∷ holds (vbool keep) ∷ holds (vbool truncate) ∷ holds (vbool escape) ∷ holds (v told) ∷ holds (WriteAnswer-val r-write) ∷ holds (p out)
+            ∷ holds (v out) ∷ holds (Head-val r-head-from) ∷ holds (How-val made-How) ∷ vacant ∷ vacant ∷ []
 
         part-3 : Sq W (has-write (standing part-3-holds)) (runs C Λ E body.t-6 (atRet E Post))
         part-3 =
@@ -475,8 +474,8 @@ module _ {M : Type 1} (𝓤 : URA M) (H : Heap 𝓤) (A : Atoms 𝓤) (W : Given
         (init ! 12 refl (bool-lawful 𝓤 H A W .typed escape ((vbool escape) ∷ []) escape-is .0)) $ pass1 ! (init ! 13 refl (tt, (tt, (record { fits = told-room .0 }, tt)))) $ pass0 ! $
         move ! (22 ∷ 23 ∷ []) $ opened ! part-1
 
-  walk : (C : Calls 𝓤 H) (Λ : Loops 𝓤 H) (fm : FmC 𝓤 H (W .laws) C) (known-head-from : Triple 𝓤 (C #api-head·head-from) (head-from-contract 𝓤 H A mem run)) (known-write : Triple 𝓤 (C #write-record·write) (write-contract 𝓤 H A mem run)) (known-tell-written : Triple 𝓤 (C #api-told·tell-written) (tell-written-contract 𝓤 H A mem run)) →
-      ent 𝓤 (onEntry 𝓤 H A f.signature (κ₀, (κ₁, (κ₂, (κ₃, (κ₄, (κ₅, (κ₆, (κ₇, (κ₈, tt))))))))) (q₀, (q₁, (q₂, (q₃, (q₄, (q₅, (q₆, (q₇, (q₈, tt))))))))) a at-entry)
+  walk : (C : Calls 𝓤 H) (Λ : Loops 𝓤 H) (fm : FmC 𝓤 H (W .laws) C) (known-head-from : Triple 𝓤 (C #api-head·head-from) (head-from-contract 𝓤 H A mem run)) (known-write : Triple 𝓤 (C #write-record·write) (write-contract 𝓤 H A mem run)) (known-tell-written : Triple 𝓤 (C #api-told·tell-written) (tell-written-contract 𝓤 H A mem run)) → ent 𝓤
+      (onEntry 𝓤 H A f.signature (κ₀, (κ₁, (κ₂, (κ₃, (κ₄, (κ₅, (κ₆, (κ₇, (κ₈, tt))))))))) (q₀, (q₁, (q₂, (q₃, (q₄, (q₅, (q₆, (q₇, (q₈, tt))))))))) a at-entry)
       (WpFn 𝓤 H C Λ code.function ((v out) ∷ (v texts) ∷ (v references) ∷ (v comments) ∷ (v features) ∷ (v qualifiers) ∷ (v letters) ∷ (v head) ∷ (vint w64 width) ∷ (vbool keep) ∷ (vbool truncate) ∷ (vbool escape) ∷ (v told) ∷ []) Post)
   walk C Λ fm known-head-from known-write known-tell-written =
       qed W (Had []) ∵ enter ! C Λ code.function ((v out) ∷ (v texts) ∷ (v references) ∷ (v comments) ∷ (v features) ∷ (v qualifiers) ∷ (v letters) ∷ (v head) ∷ (vint w64 width) ∷ (vbool keep) ∷ (vbool truncate) ∷ (vbool escape) ∷ (v told) ∷ []) _ $

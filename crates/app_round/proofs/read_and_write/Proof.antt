@@ -229,8 +229,7 @@ module _ {M : Type 1} (𝓤 : URA M) (H : Heap 𝓤) (A : Atoms 𝓤) (W : Given
       then
 
   module _ (C : Calls 𝓤 H) (Λ : Loops 𝓤 H) (fm : FmC 𝓤 H (W .laws) C) (known-no-rows : Triple 𝓤 (C #app-round·no-rows) (no-rows-contract 𝓤 H A mem run)) (known-read : Triple 𝓤 (C #read-record·read) (read-contract 𝓤 H A mem run)) (known-head-of : Triple 𝓤 (C #app-round·head-of) (head-of-contract 𝓤 H A mem run))
-      (known-how-after : Triple 𝓤 (C #app-round·how-after) (how-after-contract 𝓤 H A mem run)) (known-write : Triple 𝓤 (C #write-record·write) (write-contract 𝓤 H A mem run))
-      (l₀ l₁ l₂ l₃ l₄ l₅ l₆ l₇ l₈ l₉ l₁₀ l₁₁ l₁₂ l₁₃ l₁₄ l₁₅ l₁₆ l₁₇ l₁₈ l₁₉ l₂₀ l₂₁ l₂₂ l₂₃ l₂₄ l₂₅ l₂₆ l₂₇ l₂₈ l₂₉ l₃₀ l₃₁ l₃₂ l₃₃ l₃₄ l₃₅ l₃₆ l₃₇ l₃₈ l₃₉ l₄₀ l₄₁ : ℕ) where
+      (known-how-after : Triple 𝓤 (C #app-round·how-after) (how-after-contract 𝓤 H A mem run)) (known-write : Triple 𝓤 (C #write-record·write) (write-contract 𝓤 H A mem run)) (l₀ l₁ l₂ l₃ l₄ l₅ l₆ l₇ l₈ l₉ l₁₀ l₁₁ l₁₂ l₁₃ l₁₄ l₁₅ l₁₆ l₁₇ l₁₈ l₁₉ l₂₀ l₂₁ l₂₂ l₂₃ l₂₄ l₂₅ l₂₆ l₂₇ l₂₈ l₂₉ l₃₀ l₃₁ l₃₂ l₃₃ l₃₄ l₃₅ l₃₆ l₃₇ l₃₈ l₃₉ l₄₀ l₄₁ : ℕ) where
     -- the locals, and their entries with what is owed of them
     abbrev E : Env 𝓤 H
     E = (Round-has.mir, l₀) ∷ (sliceTy (tyRef (named 0) imm (tyInt w8)), l₁) ∷ (tyInt w64, l₂) ∷ (sliceTy (tyRef (named 1) mut (tyInt w8)), l₃) ∷ (sliceTy (tyRef (named 2) mut (tyInt w64)), l₄) ∷ (sliceTy (tyRef (named 3) mut (tyInt w64)), l₅) ∷ (sliceTy (tyRef (named 4) mut (tyInt w64)), l₆) ∷ (sliceTy (tyRef (named 5) mut (tyInt w8)), l₇) ∷
@@ -370,14 +369,13 @@ module _ {M : Type 1} (𝓤 : URA M) (H : Heap 𝓤) (A : Atoms 𝓤) (W : Given
 
       -- what `read` says of its answer and of the lists that it leaves
       abbrev Said-read : ReadAnswer → List ℕ → List ℕ → List ℕ → List Feature → List ℕ → List ℕ → Type 0
-      Said-read r-read texts-read references-read comments-read array-read qualifiers-read letters-read = Answered (s .now) at′ (roomsIn (texts .now) (references .now) (comments .now) (flat (r-no-rows)) (qualifiers .now) (letters .now))
-          (roomsIn (texts-read) (references-read) (comments-read) (flat (array-read)) (qualifiers-read) (letters-read)) r-read
+      Said-read r-read texts-read references-read comments-read array-read qualifiers-read letters-read = Answered (s .now) at′ (roomsIn (texts .now) (references .now) (comments .now) (flat (r-no-rows)) (qualifiers .now) (letters .now)) (roomsIn (texts-read) (references-read) (comments-read) (flat (array-read)) (qualifiers-read) (letters-read))
+          r-read
 
       back-read : {K : Type 0} {Γ : List (Item 𝓤)} {d : S.Place} {rest : S.Body} {q : Ending 𝓤 H} → K → (k-texts : Loan) (k-references : Loan) (k-comments : Loan) (full-array : length r-no-rows ≡ 8192) (k-array : Loan) (k-qualifiers : Loan) (k-letters : Loan) →
-          ((r-read : ReadAnswer) (r-read-is : Is ReadAnswer-is.the-row r-read ((ReadAnswer-val r-read) ∷ [])) (texts-read : List ℕ) (references-read : List ℕ) (comments-read : List ℕ) (array-read : List Feature) (qualifiers-read : List ℕ) (letters-read : List ℕ)
-          (texts-read-long : length texts-read ≡ length (texts .now)) (references-read-long : length references-read ≡ length (references .now)) (comments-read-long : length comments-read ≡ length (comments .now))
-          (array-read-is : Is (Many 8192) array-read (array-vals (LL.vals Feature-is.the-type Feature-has.the-laws) array-read)) (qualifiers-read-long : length qualifiers-read ≡ length (qualifiers .now)) (letters-read-long : length letters-read ≡ length (letters .now))
-          (said-read : Said-read r-read texts-read references-read comments-read array-read qualifiers-read letters-read) → Seq K W
+          ((r-read : ReadAnswer) (r-read-is : Is ReadAnswer-is.the-row r-read ((ReadAnswer-val r-read) ∷ [])) (texts-read : List ℕ) (references-read : List ℕ) (comments-read : List ℕ) (array-read : List Feature) (qualifiers-read : List ℕ) (letters-read : List ℕ) (texts-read-long : length texts-read ≡ length (texts .now))
+          (references-read-long : length references-read ≡ length (references .now)) (comments-read-long : length comments-read ≡ length (comments .now)) (array-read-is : Is (Many 8192) array-read (array-vals (LL.vals Feature-is.the-type Feature-has.the-laws) array-read))
+          (qualifiers-read-long : length qualifiers-read ≡ length (qualifiers .now)) (letters-read-long : length letters-read ≡ length (letters .now)) (said-read : Said-read r-read texts-read references-read comments-read array-read qualifiers-read letters-read) → Seq K W
           (‵ (fat fullShare (tyArray Feature-has.mir 8192) l₁₀ 0 (many-val array-read)) ∷ ‵ (flft κ₀ q₀) ∷ ‵ (flft κ₁ q₁) ∷ ‵ (flft κ₂ q₂) ∷ ‵ (flft κ₃ q₃) ∷ ‵ (flft κ₄ q₄) ∷ ‵ (flft κ₅ q₅) ∷ ‵ (flft κ₆ q₆) ∷ ‵ (texts-own texts-read) ∷ ‵ (references-own references-read) ∷ ‵ (comments-own comments-read) ∷ ‵
           (qualifiers-own qualifiers-read) ∷ ‵ (letters-own letters-read) ∷ ‵ (out-own (out .now)) ∷ Γ) (lands C Λ E d (ReadAnswer-val r-read) rest q))
           → (u : Val) → Seq K W (raw (read-contract 𝓤 H A mem run .post (to-read k-texts k-references k-comments full-array k-array k-qualifiers k-letters) u) ∷ ‵ (Kept u8 letters κ₅ q₅ (letters .now) k-letters) ∷ ‵ (Kept usize qualifiers κ₄ q₄ (qualifiers .now) k-qualifiers) ∷ ‵ (MineMut Feature-is.the-row l₁₀ 8192 k-array) ∷ ‵
@@ -385,8 +383,7 @@ module _ {M : Type 1} (𝓤 : URA M) (H : Heap 𝓤) (A : Atoms 𝓤) (W : Given
       back-read t k-texts k-references k-comments full-array k-array k-qualifiers k-letters next u =
           use1 W (later (some (λ (r-read : ReadAnswer).
           ((‵ (flft κ₀ q₀) ⊛ ‵ (flft (k-texts .life ∷ []) fullShare) ⊛ ‵ (flft (k-references .life ∷ []) fullShare) ⊛ ‵ (flft (k-comments .life ∷ []) fullShare) ⊛ ‵ (flft (k-array .life ∷ []) fullShare) ⊛ ‵ (flft (k-qualifiers .life ∷ []) fullShare) ⊛ ‵ (flft (k-letters .life ∷ []) fullShare) ⊛ ‵ ftrue) ⊛ ‵
-          (ReadAnswer-is.the-row .own r-read (u ∷ []))) ⊛ raw (ensured 𝓤 H A read.ended (read.clauses 𝓤 H A mem run) (lfts-read k-texts k-references k-comments full-array k-array k-qualifiers k-letters) (args-read k-texts k-references k-comments full-array k-array k-qualifiers k-letters) tt r-read)))) (id⊢ 𝓤 _)
-          $
+          (ReadAnswer-is.the-row .own r-read (u ∷ []))) ⊛ raw (ensured 𝓤 H A read.ended (read.clauses 𝓤 H A mem run) (lfts-read k-texts k-references k-comments full-array k-array k-qualifiers k-letters) (args-read k-texts k-references k-comments full-array k-array k-qualifiers k-letters) tt r-read)))) (id⊢ 𝓤 _) $
           await t tt $ pick t (λ r-read. split t $ move t (1 ∷ []) $
           use1 W (some (λ (ws : (Unit {0}) × ((Unit {0}) × ((List ℕ) × ((List ℕ) × ((List ℕ) × ((List Feature) × ((List ℕ) × ((List ℕ) × Unit {0})))))))).
           (‵ ftrue ⊛ ‵ ftrue ⊛ (‵ (finally u8 (k-texts .name) (ws .1 .1 .0)) ⊛ ‵ (feq ℕ (length (ws .1 .1 .0)) (length (texts .now)))) ⊛ (‵ (finally usize (k-references .name) (ws .1 .1 .1 .0)) ⊛ ‵ (feq ℕ (length (ws .1 .1 .1 .0)) (length (references .now)))) ⊛
@@ -435,13 +432,12 @@ module _ {M : Type 1} (𝓤 : URA M) (H : Heap 𝓤) (A : Atoms 𝓤) (W : Given
           move t (4 ∷ 11 ∷ 10 ∷ 8 ∷ 6 ∷ 3 ∷ 1 ∷ 12 ∷ 9 ∷ 7 ∷ 5 ∷ 2 ∷ 0 ∷ 13 ∷ []) $
           next r-read r-read-is (ws .1 .1 .0) (ws .1 .1 .1 .0) (ws .1 .1 .1 .1 .0) (ws .1 .1 .1 .1 .1 .0) (ws .1 .1 .1 .1 .1 .1 .0) (ws .1 .1 .1 .1 .1 .1 .1 .0) texts-long references-long comments-long array-is qualifiers-long letters-long said-read))))))))))))
 
-      module _ (r-read : ReadAnswer) (r-read-is : Is ReadAnswer-is.the-row r-read ((ReadAnswer-val r-read) ∷ [])) (texts-read : List ℕ) (references-read : List ℕ) (comments-read : List ℕ) (array-read : List Feature) (qualifiers-read : List ℕ) (letters-read : List ℕ)
-          (texts-read-long : length texts-read ≡ length (texts .now)) (references-read-long : length references-read ≡ length (references .now)) (comments-read-long : length comments-read ≡ length (comments .now))
-          (array-read-is : Is (Many 8192) array-read (array-vals (LL.vals Feature-is.the-type Feature-has.the-laws) array-read)) (qualifiers-read-long : length qualifiers-read ≡ length (qualifiers .now)) (letters-read-long : length letters-read ≡ length (letters .now))
-          (said-read : Said-read r-read texts-read references-read comments-read array-read qualifiers-read letters-read) where
+      module _ (r-read : ReadAnswer) (r-read-is : Is ReadAnswer-is.the-row r-read ((ReadAnswer-val r-read) ∷ [])) (texts-read : List ℕ) (references-read : List ℕ) (comments-read : List ℕ) (array-read : List Feature) (qualifiers-read : List ℕ) (letters-read : List ℕ) (texts-read-long : length texts-read ≡ length (texts .now))
+          (references-read-long : length references-read ≡ length (references .now)) (comments-read-long : length comments-read ≡ length (comments .now)) (array-read-is : Is (Many 8192) array-read (array-vals (LL.vals Feature-is.the-type Feature-has.the-laws) array-read)) (qualifiers-read-long : length qualifiers-read ≡ length (qualifiers .now))
+          (letters-read-long : length letters-read ≡ length (letters .now)) (said-read : Said-read r-read texts-read references-read comments-read array-read qualifiers-read letters-read) where
         abbrev has-read : List (Item 𝓤) → List (Item 𝓤)
-        has-read Γ = ‵ (fat fullShare (tyArray Feature-has.mir 8192) l₁₀ 0 (many-val array-read)) ∷ ‵ (flft κ₀ q₀) ∷ ‵ (flft κ₁ q₁) ∷ ‵ (flft κ₂ q₂) ∷ ‵ (flft κ₃ q₃) ∷ ‵ (flft κ₄ q₄) ∷ ‵ (flft κ₅ q₅) ∷ ‵ (flft κ₆ q₆) ∷ ‵ (texts-own texts-read) ∷ ‵ (references-own references-read) ∷ ‵ (comments-own comments-read) ∷ ‵
-            (qualifiers-own qualifiers-read) ∷ ‵ (letters-own letters-read) ∷ ‵ (out-own (out .now)) ∷ Γ
+        has-read Γ = ‵ (fat fullShare (tyArray Feature-has.mir 8192) l₁₀ 0 (many-val array-read)) ∷ ‵ (flft κ₀ q₀) ∷ ‵ (flft κ₁ q₁) ∷ ‵ (flft κ₂ q₂) ∷ ‵ (flft κ₃ q₃) ∷ ‵ (flft κ₄ q₄) ∷ ‵ (flft κ₅ q₅) ∷ ‵ (flft κ₆ q₆) ∷ ‵ (texts-own texts-read) ∷ ‵ (references-own references-read) ∷ ‵ (comments-own comments-read) ∷ ‵ (qualifiers-own qualifiers-read)
+            ∷ ‵ (letters-own letters-read) ∷ ‵ (out-own (out .now)) ∷ Γ
 
         -- the call of `head_of`
         abbrev lfts-head-of : Unit {0}
@@ -461,8 +457,8 @@ module _ {M : Type 1} (𝓤 : URA M) (H : Heap 𝓤) (A : Atoms 𝓤) (W : Given
             done !
 
         lends-head-of : {K : Type 0} {Γ : List (Item 𝓤)} {G : Goal 𝓤 H} → K → Soaks G →
-            (Seq K W (raw (head-of-contract 𝓤 H A mem run .pre to-head-of) ∷ ‵ (fat fullShare (tyArray Feature-has.mir 8192) l₁₀ 0 (many-val array-read)) ∷ ‵ (flft κ₀ q₀) ∷ ‵ (flft κ₁ q₁) ∷ ‵ (flft κ₂ q₂) ∷ ‵ (flft κ₃ q₃) ∷ ‵ (flft κ₄ q₄) ∷ ‵ (flft κ₅ q₅) ∷ ‵ (flft κ₆ q₆) ∷ ‵ (texts-own texts-read) ∷ ‵
-            (references-own references-read) ∷ ‵ (comments-own comments-read) ∷ ‵ (qualifiers-own qualifiers-read) ∷ ‵ (letters-own letters-read) ∷ ‵ (out-own (out .now)) ∷ Γ) G) → Seq K W (has-read Γ) G
+            (Seq K W (raw (head-of-contract 𝓤 H A mem run .pre to-head-of) ∷ ‵ (fat fullShare (tyArray Feature-has.mir 8192) l₁₀ 0 (many-val array-read)) ∷ ‵ (flft κ₀ q₀) ∷ ‵ (flft κ₁ q₁) ∷ ‵ (flft κ₂ q₂) ∷ ‵ (flft κ₃ q₃) ∷ ‵ (flft κ₄ q₄) ∷ ‵ (flft κ₅ q₅) ∷ ‵ (flft κ₆ q₆) ∷ ‵ (texts-own texts-read) ∷ ‵ (references-own references-read) ∷ ‵
+            (comments-own comments-read) ∷ ‵ (qualifiers-own qualifiers-read) ∷ ‵ (letters-own letters-read) ∷ ‵ (out-own (out .now)) ∷ Γ) G) → Seq K W (has-read Γ) G
         lends-head-of t z next =
             use0 W (raw (head-of-contract 𝓤 H A mem run .pre to-head-of)) goes-head-of $
             next
@@ -473,8 +469,8 @@ module _ {M : Type 1} (𝓤 : URA M) (H : Heap 𝓤) (A : Atoms 𝓤) (W : Given
 
         back-head-of : {K : Type 0} {Γ : List (Item 𝓤)} {d : S.Place} {rest : S.Body} {q : Ending 𝓤 H} → K →
             ((r-head-of : Head) (r-head-of-is : Is Head-is.the-row r-head-of ((Head-val r-head-of) ∷ [])) (said-head-of : Said-head-of r-head-of) → Seq K W
-            (‵ (fat fullShare (tyArray Feature-has.mir 8192) l₁₀ 0 (many-val array-read)) ∷ ‵ (flft κ₀ q₀) ∷ ‵ (flft κ₁ q₁) ∷ ‵ (flft κ₂ q₂) ∷ ‵ (flft κ₃ q₃) ∷ ‵ (flft κ₄ q₄) ∷ ‵ (flft κ₅ q₅) ∷ ‵ (flft κ₆ q₆) ∷ ‵ (texts-own texts-read) ∷ ‵ (references-own references-read) ∷ ‵ (comments-own comments-read) ∷ ‵
-            (qualifiers-own qualifiers-read) ∷ ‵ (letters-own letters-read) ∷ ‵ (out-own (out .now)) ∷ Γ) (lands C Λ E d (Head-val r-head-of) rest q))
+            (‵ (fat fullShare (tyArray Feature-has.mir 8192) l₁₀ 0 (many-val array-read)) ∷ ‵ (flft κ₀ q₀) ∷ ‵ (flft κ₁ q₁) ∷ ‵ (flft κ₂ q₂) ∷ ‵ (flft κ₃ q₃) ∷ ‵ (flft κ₄ q₄) ∷ ‵ (flft κ₅ q₅) ∷ ‵ (flft κ₆ q₆) ∷ ‵ (texts-own texts-read) ∷ ‵ (references-own references-read) ∷ ‵ (comments-own comments-read) ∷ ‵ (qualifiers-own qualifiers-read) ∷ ‵
+            (letters-own letters-read) ∷ ‵ (out-own (out .now)) ∷ Γ) (lands C Λ E d (Head-val r-head-of) rest q))
             → (u : Val) → Seq K W (raw (head-of-contract 𝓤 H A mem run .post to-head-of u) ∷ ‵ (fat fullShare (tyArray Feature-has.mir 8192) l₁₀ 0 (many-val array-read)) ∷ ‵ (flft κ₀ q₀) ∷ ‵ (flft κ₁ q₁) ∷ ‵ (flft κ₂ q₂) ∷ ‵ (flft κ₃ q₃) ∷ ‵ (flft κ₄ q₄) ∷ ‵ (flft κ₅ q₅) ∷ ‵ (flft κ₆ q₆) ∷ ‵ (texts-own texts-read) ∷ ‵
             (references-own references-read) ∷ ‵ (comments-own comments-read) ∷ ‵ (qualifiers-own qualifiers-read) ∷ ‵ (letters-own letters-read) ∷ ‵ (out-own (out .now)) ∷ Γ) (lands C Λ E d u rest q)
         back-head-of t next u =
@@ -514,8 +510,8 @@ module _ {M : Type 1} (𝓤 : URA M) (H : Heap 𝓤) (A : Atoms 𝓤) (W : Given
               done !
 
           lends-how-after : {K : Type 0} {Γ : List (Item 𝓤)} {G : Goal 𝓤 H} → K → Soaks G →
-              (Seq K W (raw (how-after-contract 𝓤 H A mem run .pre to-how-after) ∷ ‵ (fat fullShare (tyArray Feature-has.mir 8192) l₁₀ 0 (many-val array-read)) ∷ ‵ (flft κ₀ q₀) ∷ ‵ (flft κ₁ q₁) ∷ ‵ (flft κ₂ q₂) ∷ ‵ (flft κ₃ q₃) ∷ ‵ (flft κ₄ q₄) ∷ ‵ (flft κ₅ q₅) ∷ ‵ (flft κ₆ q₆) ∷ ‵ (texts-own texts-read) ∷ ‵
-              (references-own references-read) ∷ ‵ (comments-own comments-read) ∷ ‵ (qualifiers-own qualifiers-read) ∷ ‵ (letters-own letters-read) ∷ ‵ (out-own (out .now)) ∷ Γ) G) → Seq K W (has-head-of Γ) G
+              (Seq K W (raw (how-after-contract 𝓤 H A mem run .pre to-how-after) ∷ ‵ (fat fullShare (tyArray Feature-has.mir 8192) l₁₀ 0 (many-val array-read)) ∷ ‵ (flft κ₀ q₀) ∷ ‵ (flft κ₁ q₁) ∷ ‵ (flft κ₂ q₂) ∷ ‵ (flft κ₃ q₃) ∷ ‵ (flft κ₄ q₄) ∷ ‵ (flft κ₅ q₅) ∷ ‵ (flft κ₆ q₆) ∷ ‵ (texts-own texts-read) ∷ ‵ (references-own references-read) ∷ ‵
+              (comments-own comments-read) ∷ ‵ (qualifiers-own qualifiers-read) ∷ ‵ (letters-own letters-read) ∷ ‵ (out-own (out .now)) ∷ Γ) G) → Seq K W (has-head-of Γ) G
           lends-how-after t z next =
               use0 W (raw (how-after-contract 𝓤 H A mem run .pre to-how-after)) goes-how-after $
               next
@@ -526,8 +522,8 @@ module _ {M : Type 1} (𝓤 : URA M) (H : Heap 𝓤) (A : Atoms 𝓤) (W : Given
 
           back-how-after : {K : Type 0} {Γ : List (Item 𝓤)} {d : S.Place} {rest : S.Body} {q : Ending 𝓤 H} → K →
               ((r-how-after : How) (r-how-after-is : Is How-is.the-row r-how-after ((How-val r-how-after) ∷ [])) (said-how-after : Said-how-after r-how-after) → Seq K W
-              (‵ (fat fullShare (tyArray Feature-has.mir 8192) l₁₀ 0 (many-val array-read)) ∷ ‵ (flft κ₀ q₀) ∷ ‵ (flft κ₁ q₁) ∷ ‵ (flft κ₂ q₂) ∷ ‵ (flft κ₃ q₃) ∷ ‵ (flft κ₄ q₄) ∷ ‵ (flft κ₅ q₅) ∷ ‵ (flft κ₆ q₆) ∷ ‵ (texts-own texts-read) ∷ ‵ (references-own references-read) ∷ ‵ (comments-own comments-read) ∷ ‵
-              (qualifiers-own qualifiers-read) ∷ ‵ (letters-own letters-read) ∷ ‵ (out-own (out .now)) ∷ Γ) (lands C Λ E d (How-val r-how-after) rest q))
+              (‵ (fat fullShare (tyArray Feature-has.mir 8192) l₁₀ 0 (many-val array-read)) ∷ ‵ (flft κ₀ q₀) ∷ ‵ (flft κ₁ q₁) ∷ ‵ (flft κ₂ q₂) ∷ ‵ (flft κ₃ q₃) ∷ ‵ (flft κ₄ q₄) ∷ ‵ (flft κ₅ q₅) ∷ ‵ (flft κ₆ q₆) ∷ ‵ (texts-own texts-read) ∷ ‵ (references-own references-read) ∷ ‵ (comments-own comments-read) ∷ ‵ (qualifiers-own qualifiers-read) ∷
+              ‵ (letters-own letters-read) ∷ ‵ (out-own (out .now)) ∷ Γ) (lands C Λ E d (How-val r-how-after) rest q))
               → (u : Val) → Seq K W (raw (how-after-contract 𝓤 H A mem run .post to-how-after u) ∷ ‵ (fat fullShare (tyArray Feature-has.mir 8192) l₁₀ 0 (many-val array-read)) ∷ ‵ (flft κ₀ q₀) ∷ ‵ (flft κ₁ q₁) ∷ ‵ (flft κ₂ q₂) ∷ ‵ (flft κ₃ q₃) ∷ ‵ (flft κ₄ q₄) ∷ ‵ (flft κ₅ q₅) ∷ ‵ (flft κ₆ q₆) ∷ ‵ (texts-own texts-read) ∷ ‵
               (references-own references-read) ∷ ‵ (comments-own comments-read) ∷ ‵ (qualifiers-own qualifiers-read) ∷ ‵ (letters-own letters-read) ∷ ‵ (out-own (out .now)) ∷ Γ) (lands C Λ E d u rest q)
           back-how-after t next u =
@@ -558,10 +554,7 @@ module _ {M : Type 1} (𝓤 : URA M) (H : Heap 𝓤) (A : Atoms 𝓤) (W : Given
               slice-at u8 out (out .name) (out .now),
               (
                 slice-at u8 texts γ-texts texts-read,
-                (
-                  slice-at usize references γ-references references-read,
-                  (slice-at usize comments γ-comments comments-read, (placed Feature-is.the-row l₁₀ (k-array .name) array-read, (slice-at usize qualifiers γ-qualifiers qualifiers-read, (slice-at u8 letters γ-letters letters-read, (r-head-of, (r-how-after, tt)))))),
-                ),
+                (slice-at usize references γ-references references-read, (slice-at usize comments γ-comments comments-read, (placed Feature-is.the-row l₁₀ (k-array .name) array-read, (slice-at usize qualifiers γ-qualifiers qualifiers-read, (slice-at u8 letters γ-letters letters-read, (r-head-of, (r-how-after, tt))))))),
               ),
             )
 
@@ -593,8 +586,8 @@ module _ {M : Type 1} (𝓤 : URA M) (H : Heap 𝓤) (A : Atoms 𝓤) (W : Given
 
             lends-write : {K : Type 0} {Γ : List (Item 𝓤)} {G : Goal 𝓤 H} → K → Soaks G →
                 ((γ-texts : GName) (γ-references : GName) (γ-comments : GName) (full-array : length array-read ≡ 8192) (k-array : Loan) (γ-qualifiers : GName) (γ-letters : GName) → Seq K W
-                (raw (write-contract 𝓤 H A mem run .pre (to-write γ-texts γ-references γ-comments full-array k-array γ-qualifiers γ-letters)) ∷ ‵ (letters-last letters-read) ∷ ‵ (qualifiers-last qualifiers-read) ∷ ‵ (MineShr Feature-is.the-row l₁₀ array-read k-array) ∷ ‵ (comments-last comments-read) ∷ ‵
-                (references-last references-read) ∷ ‵ (texts-last texts-read) ∷ ‵ (flft κ₀ q₀) ∷ Γ) G) → Seq K W
+                (raw (write-contract 𝓤 H A mem run .pre (to-write γ-texts γ-references γ-comments full-array k-array γ-qualifiers γ-letters)) ∷ ‵ (letters-last letters-read) ∷ ‵ (qualifiers-last qualifiers-read) ∷ ‵ (MineShr Feature-is.the-row l₁₀ array-read k-array) ∷ ‵ (comments-last comments-read) ∷ ‵ (references-last references-read) ∷ ‵
+                (texts-last texts-read) ∷ ‵ (flft κ₀ q₀) ∷ Γ) G) → Seq K W
                 (‵ (fat fullShare (tyArray Feature-has.mir 8192) l₁₀ 0 (many-val array-read)) ∷ ‵ (flft κ₀ q₀) ∷ ‵ (flft κ₁ q₁) ∷ ‵ (flft κ₂ q₂) ∷ ‵ (flft κ₃ q₃) ∷ ‵ (flft κ₄ q₄) ∷ ‵ (flft κ₅ q₅) ∷ ‵ (flft κ₆ q₆) ∷ ‵ (texts-own texts-read) ∷ ‵ (references-own references-read) ∷ ‵ (comments-own comments-read) ∷ ‵
                 (qualifiers-own qualifiers-read) ∷ ‵ (letters-own letters-read) ∷ ‵ (out-own (out .now)) ∷ Γ) G
             lends-write t z next =
@@ -631,14 +624,14 @@ module _ {M : Type 1} (𝓤 : URA M) (H : Heap 𝓤) (A : Atoms 𝓤) (W : Given
 
             -- what `write` says of its answer and of the lists that it leaves
             abbrev Said-write : WriteAnswer → List ℕ → Type 0
-            Said-write r-write out-write = WriteAnswered r-how-after (rowsRooms (texts-read) (references-read) (comments-read) (qualifiers-read) (letters-read) (array-read)) r-head-of (out .now) (out-write) r-write
+            Said-write r-write out-write = WriteAnswered r-how-after (roomsIn (texts-read) (references-read) (comments-read) (flat (array-read)) (qualifiers-read) (letters-read)) r-head-of (out .now) (out-write) r-write
 
             back-write : {K : Type 0} {Γ : List (Item 𝓤)} {d : S.Place} {rest : S.Body} {q : Ending 𝓤 H} → K → (γ-texts : GName) (γ-references : GName) (γ-comments : GName) (full-array : length array-read ≡ 8192) (k-array : Loan) (γ-qualifiers : GName) (γ-letters : GName) →
                 ((r-write : WriteAnswer) (r-write-is : Is WriteAnswer-is.the-row r-write ((WriteAnswer-val r-write) ∷ [])) (out-write : List ℕ) (out-write-long : length out-write ≡ length (out .now)) (said-write : Said-write r-write out-write) → Seq K W
                 (‵ (fat fullShare (tyArray Feature-has.mir 8192) l₁₀ 0 (many-val array-read)) ∷ ‵ (flft κ₀ q₀) ∷ ‵ (flft κ₁ q₁) ∷ ‵ (flft κ₂ q₂) ∷ ‵ (flft κ₃ q₃) ∷ ‵ (flft κ₄ q₄) ∷ ‵ (flft κ₅ q₅) ∷ ‵ (flft κ₆ q₆) ∷ ‵ (texts-last texts-read) ∷ ‵ (references-last references-read) ∷ ‵ (comments-last comments-read) ∷ ‵
                 (qualifiers-last qualifiers-read) ∷ ‵ (letters-last letters-read) ∷ ‵ (out-last out-write) ∷ Γ) (lands C Λ E d (WriteAnswer-val r-write) rest q))
-                → (u : Val) → Seq K W (raw (write-contract 𝓤 H A mem run .post (to-write γ-texts γ-references γ-comments full-array k-array γ-qualifiers γ-letters) u) ∷ ‵ (letters-last letters-read) ∷ ‵ (qualifiers-last qualifiers-read) ∷ ‵ (MineShr Feature-is.the-row l₁₀ array-read k-array) ∷ ‵
-                (comments-last comments-read) ∷ ‵ (references-last references-read) ∷ ‵ (texts-last texts-read) ∷ ‵ (flft κ₀ q₀) ∷ Γ) (lands C Λ E d u rest q)
+                → (u : Val) → Seq K W (raw (write-contract 𝓤 H A mem run .post (to-write γ-texts γ-references γ-comments full-array k-array γ-qualifiers γ-letters) u) ∷ ‵ (letters-last letters-read) ∷ ‵ (qualifiers-last qualifiers-read) ∷ ‵ (MineShr Feature-is.the-row l₁₀ array-read k-array) ∷ ‵ (comments-last comments-read) ∷ ‵
+                (references-last references-read) ∷ ‵ (texts-last texts-read) ∷ ‵ (flft κ₀ q₀) ∷ Γ) (lands C Λ E d u rest q)
             back-write t γ-texts γ-references γ-comments full-array k-array γ-qualifiers γ-letters next u =
                 use1 W (later (some (λ (r-write : WriteAnswer). ((‵ (flft κ₆ q₆) ⊛ ‵ (flft κ₁ q₁) ⊛ ‵ (flft κ₂ q₂) ⊛ ‵ (flft κ₃ q₃) ⊛ ‵ (flft (k-array .life ∷ []) fullShare) ⊛ ‵ (flft κ₄ q₄) ⊛ ‵ (flft κ₅ q₅) ⊛ ‵ ftrue) ⊛ ‵ (WriteAnswer-is.the-row .own r-write (u ∷ []))) ⊛ raw
                 (ensured 𝓤 H A write.ended (write.clauses 𝓤 H A mem run) (lfts-write γ-texts γ-references γ-comments full-array k-array γ-qualifiers γ-letters) (args-write γ-texts γ-references γ-comments full-array k-array γ-qualifiers γ-letters) tt r-write)))) (id⊢ 𝓤 _) $
@@ -665,8 +658,8 @@ module _ {M : Type 1} (𝓤 : URA M) (H : Heap 𝓤) (A : Atoms 𝓤) (W : Given
 
             module _ (r-write : WriteAnswer) (r-write-is : Is WriteAnswer-is.the-row r-write ((WriteAnswer-val r-write) ∷ [])) (out-write : List ℕ) (out-write-long : length out-write ≡ length (out .now)) (said-write : Said-write r-write out-write) where
               abbrev has-write : List (Item 𝓤) → List (Item 𝓤)
-              has-write Γ = ‵ (fat fullShare (tyArray Feature-has.mir 8192) l₁₀ 0 (many-val array-read)) ∷ ‵ (flft κ₀ q₀) ∷ ‵ (flft κ₁ q₁) ∷ ‵ (flft κ₂ q₂) ∷ ‵ (flft κ₃ q₃) ∷ ‵ (flft κ₄ q₄) ∷ ‵ (flft κ₅ q₅) ∷ ‵ (flft κ₆ q₆) ∷ ‵ (texts-last texts-read) ∷ ‵ (references-last references-read) ∷ ‵ (comments-last comments-read) ∷
-                  ‵ (qualifiers-last qualifiers-read) ∷ ‵ (letters-last letters-read) ∷ ‵ (out-last out-write) ∷ Γ
+              has-write Γ = ‵ (fat fullShare (tyArray Feature-has.mir 8192) l₁₀ 0 (many-val array-read)) ∷ ‵ (flft κ₀ q₀) ∷ ‵ (flft κ₁ q₁) ∷ ‵ (flft κ₂ q₂) ∷ ‵ (flft κ₃ q₃) ∷ ‵ (flft κ₄ q₄) ∷ ‵ (flft κ₅ q₅) ∷ ‵ (flft κ₆ q₆) ∷ ‵ (texts-last texts-read) ∷ ‵ (references-last references-read) ∷ ‵ (comments-last comments-read) ∷ ‵
+                  (qualifiers-last qualifiers-read) ∷ ‵ (letters-last letters-read) ∷ ‵ (out-last out-write) ∷ Γ
 
               abbrev made-Round : Round
               made-Round = record { read = r-read; wrote = r-write }
@@ -675,8 +668,7 @@ module _ {M : Type 1} (𝓤 : URA M) (H : Heap 𝓤) (A : Atoms 𝓤) (W : Given
               made-Round-is = LL.owes Round-is.the-type Round-has.the-laws made-Round (r-read-is, (r-write-is, tt))
 
               abbrev has-at-last : List (Item 𝓤) → List (Item 𝓤)
-              has-at-last Γ = ‵ (flft κ₀ q₀) ∷ ‵ (flft κ₁ q₁) ∷ ‵ (flft κ₂ q₂) ∷ ‵ (flft κ₃ q₃) ∷ ‵ (flft κ₄ q₄) ∷ ‵ (flft κ₅ q₅) ∷ ‵ (flft κ₆ q₆) ∷ ‵ (texts-last texts-read) ∷ ‵ (references-last references-read) ∷ ‵ (comments-last comments-read) ∷ ‵ (qualifiers-last qualifiers-read) ∷ ‵ (letters-last letters-read) ∷ ‵
-                  (out-last out-write) ∷ Γ
+              has-at-last Γ = ‵ (flft κ₀ q₀) ∷ ‵ (flft κ₁ q₁) ∷ ‵ (flft κ₂ q₂) ∷ ‵ (flft κ₃ q₃) ∷ ‵ (flft κ₄ q₄) ∷ ‵ (flft κ₅ q₅) ∷ ‵ (flft κ₆ q₆) ∷ ‵ (texts-last texts-read) ∷ ‵ (references-last references-read) ∷ ‵ (comments-last comments-read) ∷ ‵ (qualifiers-last qualifiers-read) ∷ ‵ (letters-last letters-read) ∷ ‵ (out-last out-write) ∷ Γ
 
               -- the law, and the end
               ended : Rounds (s .now) at′ (roomsIn (texts .now) (references .now) (comments .now) (flat emptyRows) (qualifiers .now) (letters .now)) how (texts-read) (references-read) (comments-read) (qualifiers-read) (letters-read) (out .now) (out-write) (made-Round .read) (made-Round .wrote)
@@ -697,9 +689,9 @@ module _ {M : Type 1} (𝓤 : URA M) (H : Heap 𝓤) (A : Atoms 𝓤) (W : Given
                   done !
 
               abbrev part-8-holds : List Cell
-              part-8-holds = vacant ∷ holds (v s) ∷ holds (vint w64 at′) ∷ holds (v texts) ∷ holds (v references) ∷ holds (v comments) ∷ holds (v qualifiers) ∷ holds (v letters) ∷ holds (v out) ∷ holds (How-val how) ∷ away ∷ holds (ReadAnswer-val r-read) ∷ holds (Head-val r-head-of) ∷ holds (How-val r-how-after) ∷ holds
-                  (WriteAnswer-val r-write) ∷ holds (many-val r-no-rows) ∷ holds (p texts) ∷ holds (v texts) ∷ holds (p references) ∷ holds (v references) ∷ holds (p comments) ∷ holds (v comments) ∷ holds (vptr l₁₀ 0) ∷ holds (sliceVal (l₁₀, 0) 8192) ∷ holds (p qualifiers) ∷ holds (v qualifiers) ∷ holds (p letters) ∷ holds (v letters) ∷ holds
-                  (p out) ∷ holds (v out) ∷ holds (p texts) ∷ holds (v texts) ∷ holds (p references) ∷ holds (v references) ∷ holds (p comments) ∷ holds (v comments) ∷ holds (vptr l₁₀ 0) ∷ holds (sliceVal (l₁₀, 0) 8192) ∷ holds (p qualifiers) ∷ holds (v qualifiers) ∷ holds (p letters) ∷ holds (v letters) ∷ []
+              part-8-holds = vacant ∷ holds (v s) ∷ holds (vint w64 at′) ∷ holds (v texts) ∷ holds (v references) ∷ holds (v comments) ∷ holds (v qualifiers) ∷ holds (v letters) ∷ holds (v out) ∷ holds (How-val how) ∷ away ∷ holds (ReadAnswer-val r-read) ∷ holds (Head-val r-head-of) ∷ holds (How-val r-how-after) ∷ holds (WriteAnswer-val r-write) ∷
+                  holds (many-val r-no-rows) ∷ holds (p texts) ∷ holds (v texts) ∷ holds (p references) ∷ holds (v references) ∷ holds (p comments) ∷ holds (v comments) ∷ holds (vptr l₁₀ 0) ∷ holds (sliceVal (l₁₀, 0) 8192) ∷ holds (p qualifiers) ∷ holds (v qualifiers) ∷ holds (p letters) ∷ holds (v letters) ∷ holds (p out) ∷ holds (v out) ∷ holds
+                  (p texts) ∷ holds (v texts) ∷ holds (p references) ∷ holds (v references) ∷ holds (p comments) ∷ holds (v comments) ∷ holds (vptr l₁₀ 0) ∷ holds (sliceVal (l₁₀, 0) 8192) ∷ holds (p qualifiers) ∷ holds (v qualifiers) ∷ holds (p letters) ∷ holds (v letters) ∷ []
 
               part-8 : Sq W (has-write (standing part-8-holds)) (runs C Λ E body.t-33 (atRet E Post))
               part-8 =
@@ -712,9 +704,9 @@ module _ {M : Type 1} (𝓤 : URA M) (H : Heap 𝓤) (A : Atoms 𝓤) (W : Given
                   (v letters) ∷ []) tt exits
 
             abbrev part-7-holds : List Cell
-            part-7-holds = vacant ∷ holds (v s) ∷ holds (vint w64 at′) ∷ holds (v texts) ∷ holds (v references) ∷ holds (v comments) ∷ holds (v qualifiers) ∷ holds (v letters) ∷ holds (v out) ∷ holds (How-val how) ∷ away ∷ holds (ReadAnswer-val r-read) ∷ holds (Head-val r-head-of) ∷ holds (How-val r-how-after) ∷ vacant ∷ holds
-                (many-val r-no-rows) ∷ holds (p texts) ∷ holds (v texts) ∷ holds (p references) ∷ holds (v references) ∷ holds (p comments) ∷ holds (v comments) ∷ holds (vptr l₁₀ 0) ∷ holds (sliceVal (l₁₀, 0) 8192) ∷ holds (p qualifiers) ∷ holds (v qualifiers) ∷ holds (p letters) ∷ holds (v letters) ∷ holds (p out) ∷ holds (v out) ∷ holds (p texts)
-                ∷ holds (v texts) ∷ holds (p references) ∷ holds (v references) ∷ holds (p comments) ∷ holds (v comments) ∷ vacant ∷ vacant ∷ vacant ∷ vacant ∷ vacant ∷ vacant ∷ []
+            part-7-holds = vacant ∷ holds (v s) ∷ holds (vint w64 at′) ∷ holds (v texts) ∷ holds (v references) ∷ holds (v comments) ∷ holds (v qualifiers) ∷ holds (v letters) ∷ holds (v out) ∷ holds (How-val how) ∷ away ∷ holds (ReadAnswer-val r-read) ∷ holds (Head-val r-head-of) ∷ holds (How-val r-how-after) ∷ vacant ∷ holds (many-val r-no-rows)
+                ∷ holds (p texts) ∷ holds (v texts) ∷ holds (p references) ∷ holds (v references) ∷ holds (p comments) ∷ holds (v comments) ∷ holds (vptr l₁₀ 0) ∷ holds (sliceVal (l₁₀, 0) 8192) ∷ holds (p qualifiers) ∷ holds (v qualifiers) ∷ holds (p letters) ∷ holds (v letters) ∷ holds (p out) ∷ holds (v out) ∷ holds (p texts) ∷ holds (v texts) ∷
+                holds (p references) ∷ holds (v references) ∷ holds (p comments) ∷ holds (v comments) ∷ vacant ∷ vacant ∷ vacant ∷ vacant ∷ vacant ∷ vacant ∷ []
 
             part-7 : Sq W (has-how-after (standing part-7-holds)) (runs C Λ E body.t-26 (atRet E Post))
             part-7 =
@@ -736,9 +728,9 @@ module _ {M : Type 1} (𝓤 : URA M) (H : Heap 𝓤) (A : Atoms 𝓤) (W : Given
                 part-8 r-write r-write-is out-write out-write-long said-write)))
 
             abbrev part-6-holds : List Cell
-            part-6-holds = vacant ∷ holds (v s) ∷ holds (vint w64 at′) ∷ holds (v texts) ∷ holds (v references) ∷ holds (v comments) ∷ holds (v qualifiers) ∷ holds (v letters) ∷ holds (v out) ∷ holds (How-val how) ∷ away ∷ holds (ReadAnswer-val r-read) ∷ holds (Head-val r-head-of) ∷ holds (How-val r-how-after) ∷ vacant ∷ holds
-                (many-val r-no-rows) ∷ holds (p texts) ∷ holds (v texts) ∷ holds (p references) ∷ holds (v references) ∷ holds (p comments) ∷ holds (v comments) ∷ holds (vptr l₁₀ 0) ∷ holds (sliceVal (l₁₀, 0) 8192) ∷ holds (p qualifiers) ∷ holds (v qualifiers) ∷ holds (p letters) ∷ holds (v letters) ∷ vacant ∷ vacant ∷ vacant ∷ vacant ∷ vacant ∷
-                vacant ∷ vacant ∷ vacant ∷ vacant ∷ vacant ∷ vacant ∷ vacant ∷ vacant ∷ vacant ∷ []
+            part-6-holds = vacant ∷ holds (v s) ∷ holds (vint w64 at′) ∷ holds (v texts) ∷ holds (v references) ∷ holds (v comments) ∷ holds (v qualifiers) ∷ holds (v letters) ∷ holds (v out) ∷ holds (How-val how) ∷ away ∷ holds (ReadAnswer-val r-read) ∷ holds (Head-val r-head-of) ∷ holds (How-val r-how-after) ∷ vacant ∷ holds (many-val r-no-rows)
+                ∷ holds (p texts) ∷ holds (v texts) ∷ holds (p references) ∷ holds (v references) ∷ holds (p comments) ∷ holds (v comments) ∷ holds (vptr l₁₀ 0) ∷ holds (sliceVal (l₁₀, 0) 8192) ∷ holds (p qualifiers) ∷ holds (v qualifiers) ∷ holds (p letters) ∷ holds (v letters) ∷ vacant ∷ vacant ∷ vacant ∷ vacant ∷ vacant ∷ vacant ∷ vacant ∷
+                vacant ∷ vacant ∷ vacant ∷ vacant ∷ vacant ∷ vacant ∷ vacant ∷ []
 
             part-6 : Sq W (has-how-after (standing part-6-holds)) (runs C Λ E body.t-18 (atRet E Post))
             part-6 =
@@ -753,9 +745,9 @@ module _ {M : Type 1} (𝓤 : URA M) (H : Heap 𝓤) (A : Atoms 𝓤) (W : Given
                 part-7
 
           abbrev part-5-holds : List Cell
-          part-5-holds = vacant ∷ holds (v s) ∷ holds (vint w64 at′) ∷ holds (v texts) ∷ holds (v references) ∷ holds (v comments) ∷ holds (v qualifiers) ∷ holds (v letters) ∷ holds (v out) ∷ holds (How-val how) ∷ away ∷ holds (ReadAnswer-val r-read) ∷ holds (Head-val r-head-of) ∷ vacant ∷ vacant ∷ holds (many-val r-no-rows) ∷ holds (p texts)
-              ∷ holds (v texts) ∷ holds (p references) ∷ holds (v references) ∷ holds (p comments) ∷ holds (v comments) ∷ holds (vptr l₁₀ 0) ∷ holds (sliceVal (l₁₀, 0) 8192) ∷ holds (p qualifiers) ∷ holds (v qualifiers) ∷ holds (p letters) ∷ holds (v letters) ∷ vacant ∷ vacant ∷ vacant ∷ vacant ∷ vacant ∷ vacant ∷ vacant ∷ vacant ∷ vacant ∷ vacant
-              ∷ vacant ∷ vacant ∷ vacant ∷ vacant ∷ []
+          part-5-holds = vacant ∷ holds (v s) ∷ holds (vint w64 at′) ∷ holds (v texts) ∷ holds (v references) ∷ holds (v comments) ∷ holds (v qualifiers) ∷ holds (v letters) ∷ holds (v out) ∷ holds (How-val how) ∷ away ∷ holds (ReadAnswer-val r-read) ∷ holds (Head-val r-head-of) ∷ vacant ∷ vacant ∷ holds (many-val r-no-rows) ∷ holds (p texts) ∷
+              holds (v texts) ∷ holds (p references) ∷ holds (v references) ∷ holds (p comments) ∷ holds (v comments) ∷ holds (vptr l₁₀ 0) ∷ holds (sliceVal (l₁₀, 0) 8192) ∷ holds (p qualifiers) ∷ holds (v qualifiers) ∷ holds (p letters) ∷ holds (v letters) ∷ vacant ∷ vacant ∷ vacant ∷ vacant ∷ vacant ∷ vacant ∷ vacant ∷ vacant ∷ vacant ∷ vacant ∷
+              vacant ∷ vacant ∷ vacant ∷ vacant ∷ []
 
           part-5 : Sq W (has-head-of (standing part-5-holds)) (runs C Λ E body.t-17 (atRet E Post))
           part-5 =
@@ -766,9 +758,9 @@ module _ {M : Type 1} (𝓤 : URA M) (H : Heap 𝓤) (A : Atoms 𝓤) (W : Given
               part-6 r-how-after r-how-after-is said-how-after)))
 
         abbrev part-4-holds : List Cell
-        part-4-holds = vacant ∷ holds (v s) ∷ holds (vint w64 at′) ∷ holds (v texts) ∷ holds (v references) ∷ holds (v comments) ∷ holds (v qualifiers) ∷ holds (v letters) ∷ holds (v out) ∷ holds (How-val how) ∷ away ∷ holds (ReadAnswer-val r-read) ∷ vacant ∷ vacant ∷ vacant ∷ holds (many-val r-no-rows) ∷ holds (p texts) ∷ holds (v texts) ∷
-            holds (p references) ∷ holds (v references) ∷ holds (p comments) ∷ holds (v comments) ∷ holds (vptr l₁₀ 0) ∷ holds (sliceVal (l₁₀, 0) 8192) ∷ holds (p qualifiers) ∷ holds (v qualifiers) ∷ holds (p letters) ∷ holds (v letters) ∷ vacant ∷ vacant ∷ vacant ∷ vacant ∷ vacant ∷ vacant ∷ vacant ∷ vacant ∷ vacant ∷ vacant ∷ vacant ∷ vacant ∷
-            vacant ∷ vacant ∷ []
+        part-4-holds = vacant ∷ holds (v s) ∷ holds (vint w64 at′) ∷ holds (v texts) ∷ holds (v references) ∷ holds (v comments) ∷ holds (v qualifiers) ∷ holds (v letters) ∷ holds (v out) ∷ holds (How-val how) ∷ away ∷ holds (ReadAnswer-val r-read) ∷ vacant ∷ vacant ∷ vacant ∷ holds (many-val r-no-rows) ∷ holds (p texts) ∷ holds (v texts) ∷ holds
+            (p references) ∷ holds (v references) ∷ holds (p comments) ∷ holds (v comments) ∷ holds (vptr l₁₀ 0) ∷ holds (sliceVal (l₁₀, 0) 8192) ∷ holds (p qualifiers) ∷ holds (v qualifiers) ∷ holds (p letters) ∷ holds (v letters) ∷ vacant ∷ vacant ∷ vacant ∷ vacant ∷ vacant ∷ vacant ∷ vacant ∷ vacant ∷ vacant ∷ vacant ∷ vacant ∷ vacant ∷ vacant ∷
+            vacant ∷ []
 
         part-4 : Sq W (has-read (standing part-4-holds)) (runs C Λ E body.t-16 (atRet E Post))
         part-4 =
@@ -796,8 +788,7 @@ module _ {M : Type 1} (𝓤 : URA M) (H : Heap 𝓤) (A : Atoms 𝓤) (W : Given
           (and-then ! (load ! (from ! (stop !)) (look ! 11 refl))
           (and-then ! (load ! (from ! (stop !)) (look ! 25 refl))
           (and-then ! (load ! (from ! (stop !)) (look ! 27 refl)) (and-then ! (load ! (from ! (stop !)) (look ! 29 refl)) (and-then ! (load ! (from ! (stop !)) (look ! 31 refl)) (and-then ! (load ! (from ! (stop !)) (look ! 33 refl)) (and-then ! (load ! (from ! (stop !)) (look ! 35 refl)) (no-more !)))))))))
-          (back-read ! k-texts k-references k-comments full-array k-array k-qualifiers k-letters
-          (λ r-read r-read-is texts-read references-read comments-read array-read qualifiers-read letters-read texts-read-long references-read-long comments-read-long array-read-is qualifiers-read-long letters-read-long said-read.
+          (back-read ! k-texts k-references k-comments full-array k-array k-qualifiers k-letters (λ r-read r-read-is texts-read references-read comments-read array-read qualifiers-read letters-read texts-read-long references-read-long comments-read-long array-read-is qualifiers-read-long letters-read-long said-read.
           land ! (from ! (stop !)) (init ! 24 refl (EL.lawful ReadAnswer-is.the-type ReadAnswer-has.the-laws 𝓤 H A W tt .typed r-read ((ReadAnswer-val r-read) ∷ []) r-read-is .0)) $
           part-4 r-read r-read-is texts-read references-read comments-read array-read qualifiers-read letters-read texts-read-long references-read-long comments-read-long array-read-is qualifiers-read-long letters-read-long said-read)))
 
@@ -842,8 +833,8 @@ module _ {M : Type 1} (𝓤 : URA M) (H : Heap 𝓤) (A : Atoms 𝓤) (W : Given
       (WpFn 𝓤 H C Λ code.function ((v s) ∷ (vint w64 at′) ∷ (v texts) ∷ (v references) ∷ (v comments) ∷ (v qualifiers) ∷ (v letters) ∷ (v out) ∷ (How-val how) ∷ []) Post)
   walk C Λ fm known-no-rows known-read known-head-of known-how-after known-write =
       qed W (Had []) ∵ enter ! C Λ code.function ((v s) ∷ (vint w64 at′) ∷ (v texts) ∷ (v references) ∷ (v comments) ∷ (v qualifiers) ∷ (v letters) ∷ (v out) ∷ (How-val how) ∷ []) _ $
-      allocs-all ! (λ l₀ l₁ l₂ l₃ l₄ l₅ l₆ l₇ l₈ l₉ l₁₀ l₁₁ l₁₂ l₁₃ l₁₄ l₁₅ l₁₆ l₁₇ l₁₈ l₁₉ l₂₀ l₂₁ l₂₂ l₂₃ l₂₄ l₂₅ l₂₆ l₂₇ l₂₈ l₂₉ l₃₀ l₃₁ l₃₂ l₃₃ l₃₄ l₃₅ l₃₆ l₃₇ l₃₈ l₃₉ l₄₀ l₄₁. begins C Λ fm known-no-rows known-read known-head-of known-how-after known-write l₀ l₁ l₂ l₃ l₄ l₅ l₆ l₇ l₈ l₉ l₁₀ l₁₁ l₁₂ l₁₃ l₁₄ l₁₅ l₁₆ l₁₇ l₁₈ l₁₉ l₂₀ l₂₁
-      l₂₂ l₂₃ l₂₄ l₂₅ l₂₆ l₂₇ l₂₈ l₂₉ l₃₀ l₃₁ l₃₂ l₃₃ l₃₄ l₃₅ l₃₆ l₃₇ l₃₈ l₃₉ l₄₀ l₄₁)
+      allocs-all ! (λ l₀ l₁ l₂ l₃ l₄ l₅ l₆ l₇ l₈ l₉ l₁₀ l₁₁ l₁₂ l₁₃ l₁₄ l₁₅ l₁₆ l₁₇ l₁₈ l₁₉ l₂₀ l₂₁ l₂₂ l₂₃ l₂₄ l₂₅ l₂₆ l₂₇ l₂₈ l₂₉ l₃₀ l₃₁ l₃₂ l₃₃ l₃₄ l₃₅ l₃₆ l₃₇ l₃₈ l₃₉ l₄₀ l₄₁. begins C Λ fm known-no-rows known-read known-head-of known-how-after known-write l₀ l₁ l₂ l₃ l₄ l₅ l₆ l₇ l₈ l₉ l₁₀ l₁₁ l₁₂ l₁₃ l₁₄ l₁₅ l₁₆ l₁₇ l₁₈ l₁₉ l₂₀ l₂₁ l₂₂ l₂₃
+      l₂₄ l₂₅ l₂₆ l₂₇ l₂₈ l₂₉ l₃₀ l₃₁ l₃₂ l₃₃ l₃₄ l₃₅ l₃₆ l₃₇ l₃₈ l₃₉ l₄₀ l₄₁)
 
 module _ {M : Type 1} (𝓤 : URA M) (H : Heap 𝓤) (A : Atoms 𝓤) (W : Given 𝓤 H A) (mem : Memory → SProp 𝓤) (run : Routine → Fun 𝓤) (𝓣 : Tables 𝓤 H) (known-no-rows : Triple 𝓤 (𝓣 .C #app-round·no-rows) (no-rows-contract 𝓤 H A mem run)) (known-read : Triple 𝓤 (𝓣 .C #read-record·read) (read-contract 𝓤 H A mem run))
     (known-head-of : Triple 𝓤 (𝓣 .C #app-round·head-of) (head-of-contract 𝓤 H A mem run)) (known-how-after : Triple 𝓤 (𝓣 .C #app-round·how-after) (how-after-contract 𝓤 H A mem run)) (known-write : Triple 𝓤 (𝓣 .C #write-record·write) (write-contract 𝓤 H A mem run)) where
