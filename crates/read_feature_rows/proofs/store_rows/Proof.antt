@@ -89,26 +89,26 @@ Made-val = LL.val Made-is.the-type Made-has.the-laws
 abbrev Reached-val : Reached → Val
 Reached-val = LL.val Reached-is.the-type Reached-has.the-laws
 
--- the machine values of a slice and of its pointer
+-- the machine value of a slice
 abbrev v : {X : Type 0} → RefT (List X) → Val
 v r = sliceVal (r .ptr) (length (r .now))
-
-abbrev p : {X : Type 0} → RefT (List X) → Val
-p r = vptr (r .ptr .0) (r .ptr .1)
 
 -- the parts of a turn, which the generated MIR has under no name
 abbrev turn-from-11 : S.Body
 turn-from-11 = S.assign (S.place 8 []) (S.rvOpd (S.copy (S.place 9 (S.field 1 ∷ []))))
 
+abbrev turn-from-10 : S.Body
+turn-from-10 = S.seq (S.call #base-rows·store-row (S.copy (S.place 16 []) ∷ S.copy (S.place 8 (S.field 2 ∷ [])) ∷ S.copy (S.place 9 (S.field 0 ∷ [])) ∷ []) (S.place 10 [])) turn-from-11
+
 abbrev turn-from-8 : S.Body
-turn-from-8 = S.seq (S.assign (S.place 15 []) (S.addrOf (S.place 6 (S.field 0 ∷ S.deref Feature-has.mir ∷ []))))
-    (S.seq (S.assign (S.place 16 []) (S.aggregate (S.copy (S.place 15 []) ∷ S.copy (S.place 6 (S.field 1 ∷ [])) ∷ []))) (S.seq (S.call #base-rows·store-row (S.copy (S.place 16 []) ∷ S.copy (S.place 8 (S.field 2 ∷ [])) ∷ S.copy (S.place 9 (S.field 0 ∷ [])) ∷ []) (S.place 10 [])) turn-from-11))
+turn-from-8 = S.seq (S.assign (S.place 15 []) (S.addrOf (S.place 6 (S.field 0 ∷ S.deref Feature-has.mir ∷ [])))) (S.seq (S.assign (S.place 16 []) (S.aggregate (S.copy (S.place 15 []) ∷ S.copy (S.place 6 (S.field 1 ∷ [])) ∷ []))) turn-from-10)
+
+abbrev turn-from-7 : S.Body
+turn-from-7 = S.seq (S.call #read-feature-row·put-row (S.copy (S.place 1 []) ∷ S.copy (S.place 12 []) ∷ S.copy (S.place 14 []) ∷ S.copy (S.place 8 []) ∷ []) (S.place 9 [])) turn-from-8
 
 abbrev turn-from-3 : S.Body
 turn-from-3 = S.seq (S.assign (S.place 11 []) (S.addrOf (S.place 4 (S.field 0 ∷ S.deref (tyInt w8) ∷ []))))
-    (S.seq (S.assign (S.place 12 []) (S.aggregate (S.copy (S.place 11 []) ∷ S.copy (S.place 4 (S.field 1 ∷ [])) ∷ [])))
-    (S.seq (S.assign (S.place 13 []) (S.addrOf (S.place 7 (S.field 0 ∷ S.deref (tyInt w64) ∷ []))))
-    (S.seq (S.assign (S.place 14 []) (S.aggregate (S.copy (S.place 13 []) ∷ S.copy (S.place 7 (S.field 1 ∷ [])) ∷ []))) (S.seq (S.call #read-feature-row·put-row (S.copy (S.place 1 []) ∷ S.copy (S.place 12 []) ∷ S.copy (S.place 14 []) ∷ S.copy (S.place 8 []) ∷ []) (S.place 9 [])) turn-from-8))))
+    (S.seq (S.assign (S.place 12 []) (S.aggregate (S.copy (S.place 11 []) ∷ S.copy (S.place 4 (S.field 1 ∷ [])) ∷ []))) (S.seq (S.assign (S.place 13 []) (S.addrOf (S.place 7 (S.field 0 ∷ S.deref (tyInt w64) ∷ [])))) (S.seq (S.assign (S.place 14 []) (S.aggregate (S.copy (S.place 13 []) ∷ S.copy (S.place 7 (S.field 1 ∷ [])) ∷ []))) turn-from-7)))
 
 abbrev turn-from-2 : S.Body
 turn-from-2 = S.seq (S.cond (S.copy (S.place 10 [])) S.skip (S.exit 1)) turn-from-3
@@ -153,10 +153,7 @@ module _ {M : Type 1} (𝓤 : URA M) (H : Heap 𝓤) (A : Atoms 𝓤) (W : Given
   abbrev Had : List (Item 𝓤) → List (Item 𝓤)
   Had Γ = (‵ (flft κ₀ q₀) ⊛ ‵ (flft κ₁ q₁) ⊛ ‵ (flft κ₂ q₂) ⊛ ‵ (flft κ₃ q₃) ⊛ ‵ ftrue) ∷ ‵ (owns (ShrSlice (named 0) κ₀ u8 ∷ usize ∷ usize ∷ MutSlice (named 1) κ₁ u8 ∷ usize ∷ MutSlice (named 2) κ₂ Feature-is.the-row ∷ MutSlice (named 3) κ₃ usize ∷ []) a at-entry) ∷ Γ
 
-  abbrev has-first : List (Item 𝓤) → List (Item 𝓤)
-  has-first Γ = ‵ (flft κ₀ q₀) ∷ ‵ (flft κ₁ q₁) ∷ ‵ (flft κ₂ q₂) ∷ ‵ (flft κ₃ q₃) ∷ ‵ s-own ∷ ‵ (texts-own (texts .now)) ∷ ‵ (rows-own (rows .now)) ∷ ‵ (qualifiers-own (qualifiers .now)) ∷ Γ
-
-  opened : {K : Type 0} {Γ : List (Item 𝓤)} {G : Goal 𝓤 H} → K → Seq K W (has-first Γ) G → Seq K W (Had Γ) G
+  opened : {K : Type 0} {Γ : List (Item 𝓤)} {G : Goal 𝓤 H} → K → Seq K W (‵ (flft κ₀ q₀) ∷ ‵ (flft κ₁ q₁) ∷ ‵ (flft κ₂ q₂) ∷ ‵ (flft κ₃ q₃) ∷ ‵ s-own ∷ ‵ (texts-own (texts .now)) ∷ ‵ (rows-own (rows .now)) ∷ ‵ (qualifiers-own (qualifiers .now)) ∷ Γ) G → Seq K W (Had Γ) G
   opened t then =
       splits t (‵ (flft κ₀ q₀) ∷ ‵ (flft κ₁ q₁) ∷ ‵ (flft κ₂ q₂) ∷ ‵ (flft κ₃ q₃) ∷ []) (id⊢ 𝓤 _) $
       move t (4 ∷ []) $
@@ -210,12 +207,10 @@ module _ {M : Type 1} (𝓤 : URA M) (H : Heap 𝓤) (A : Atoms 𝓤) (W : Given
     Nearer-wf : WellFounded Nearer
     Nearer-wf = InvImage·wf left-over (Nat·lt-wfRel .wf)
 
-    abbrev has-in-loop : Standing → List (Item 𝓤) → List (Item 𝓤)
-    has-in-loop i Γ = ‵ (flft κ₀ q₀) ∷ ‵ (flft κ₁ q₁) ∷ ‵ (flft κ₂ q₂) ∷ ‵ (flft κ₃ q₃) ∷ ‵ s-own ∷ ‵ (texts-own (i .texts-now)) ∷ ‵ (rows-own (i .rows-now)) ∷ ‵ (qualifiers-own (i .qualifiers-now)) ∷ Γ
-
     -- the invariant: what stands before a turn
     abbrev At : Standing → List (Item 𝓤)
-    At i = has-in-loop i (standing (vacant ∷ holds (v s) ∷ holds (vint w64 at′) ∷ holds (vint w64 n) ∷ holds (v texts) ∷ holds (vint w64 place) ∷ holds (v rows) ∷ holds (v qualifiers) ∷ holds (Reached-val (i .reached)) ∷ vacant ∷ vacant ∷ vacant ∷ vacant ∷ vacant ∷ vacant ∷ vacant ∷ vacant ∷ []))
+    At i = ‵ (flft κ₀ q₀) ∷ ‵ (flft κ₁ q₁) ∷ ‵ (flft κ₂ q₂) ∷ ‵ (flft κ₃ q₃) ∷ ‵ s-own ∷ ‵ (texts-own (i .texts-now)) ∷ ‵ (rows-own (i .rows-now)) ∷ ‵ (qualifiers-own (i .qualifiers-now)) ∷ standing
+        (vacant ∷ holds (v s) ∷ holds (vint w64 at′) ∷ holds (vint w64 n) ∷ holds (v texts) ∷ holds (vint w64 place) ∷ holds (v rows) ∷ holds (v qualifiers) ∷ holds (Reached-val (i .reached)) ∷ vacant ∷ vacant ∷ vacant ∷ vacant ∷ vacant ∷ vacant ∷ vacant ∷ vacant ∷ [])
 
     abbrev Turned : Standing → Out → SProp 𝓤
     Turned i = afterTurn 𝓤 H (Below 𝓤 H A Nearer At i) (afterBlock 𝓤 H (afterSeq 𝓤 H (Wp 𝓤 H C Λ E body.t-3 (atReturn 𝓤 H E Post)) (atReturn 𝓤 H E Post)))
@@ -245,7 +240,8 @@ module _ {M : Type 1} (𝓤 : URA M) (H : Heap 𝓤) (A : Atoms 𝓤) (W : Given
             done !
 
         lends-put-row : {K : Type 0} {Γ : List (Item 𝓤)} {G : Goal 𝓤 H} → K → Soaks G →
-            ((k-texts : Loan) (k-qualifiers : Loan) → Seq K W (raw (put-row-contract 𝓤 H A mem run .pre (to-put-row k-texts k-qualifiers)) ∷ ‵ (Kept usize qualifiers κ₃ q₃ (i .qualifiers-now) k-qualifiers) ∷ ‵ (Kept u8 texts κ₁ q₁ (i .texts-now) k-texts) ∷ ‵ s-own ∷ ‵ (flft κ₂ q₂) ∷ ‵ (rows-own (i .rows-now)) ∷ Γ) G) → Seq K W (has-in-loop i Γ) G
+            ((k-texts : Loan) (k-qualifiers : Loan) → Seq K W (raw (put-row-contract 𝓤 H A mem run .pre (to-put-row k-texts k-qualifiers)) ∷ ‵ (Kept usize qualifiers κ₃ q₃ (i .qualifiers-now) k-qualifiers) ∷ ‵ (Kept u8 texts κ₁ q₁ (i .texts-now) k-texts) ∷ ‵ s-own ∷ ‵ (flft κ₂ q₂) ∷ ‵ (rows-own (i .rows-now)) ∷ Γ) G) → Seq K W
+            (‵ (flft κ₀ q₀) ∷ ‵ (flft κ₁ q₁) ∷ ‵ (flft κ₂ q₂) ∷ ‵ (flft κ₃ q₃) ∷ ‵ s-own ∷ ‵ (texts-own (i .texts-now)) ∷ ‵ (rows-own (i .rows-now)) ∷ ‵ (qualifiers-own (i .qualifiers-now)) ∷ Γ) G
         lends-put-row t z next =
             move t (4 ∷ []) $
             use1 W (‵ s-own ⊛ ‵ s-own) (shr-slice-copy 𝓤 H A W (named 0) κ₀ u8 .twice s (v s ∷ [])) $ split t $
@@ -297,9 +293,6 @@ module _ {M : Type 1} (𝓤 : URA M) (H : Heap 𝓤) (A : Atoms 𝓤) (W : Given
 
         module _ (r-put-row : Made) (r-put-row-is : Is Made-is.the-row r-put-row ((Made-val r-put-row) ∷ [])) (texts-put-row : List ℕ) (qualifiers-put-row : List ℕ) (texts-put-row-long : length texts-put-row ≡ length (texts .now)) (qualifiers-put-row-long : length qualifiers-put-row ≡ length (qualifiers .now))
             (said-put-row : Said-put-row r-put-row texts-put-row qualifiers-put-row) where
-          abbrev has-put-row : List (Item 𝓤) → List (Item 𝓤)
-          has-put-row Γ = ‵ (flft κ₀ q₀) ∷ ‵ (flft κ₁ q₁) ∷ ‵ (flft κ₂ q₂) ∷ ‵ (flft κ₃ q₃) ∷ ‵ s-own ∷ ‵ (texts-own texts-put-row) ∷ ‵ (rows-own (i .rows-now)) ∷ ‵ (qualifiers-own qualifiers-put-row) ∷ Γ
-
           -- the call of `store_row`
           abbrev lfts-store-row : (k-rows : Loan) → Lft × Unit {0}
           lfts-store-row k-rows = (k-rows .life ∷ [], tt)
@@ -320,7 +313,8 @@ module _ {M : Type 1} (𝓤 : URA M) (H : Heap 𝓤) (A : Atoms 𝓤) (W : Given
               done !
 
           lends-store-row : {K : Type 0} {Γ : List (Item 𝓤)} {G : Goal 𝓤 H} → K → Soaks G →
-              ((k-rows : Loan) → Seq K W (raw (store-row-contract 𝓤 H A mem run .pre (to-store-row k-rows)) ∷ ‵ (Kept Feature-is.the-row rows κ₂ q₂ (i .rows-now) k-rows) ∷ ‵ (flft κ₀ q₀) ∷ ‵ (flft κ₁ q₁) ∷ ‵ (flft κ₃ q₃) ∷ ‵ s-own ∷ ‵ (texts-own texts-put-row) ∷ ‵ (qualifiers-own qualifiers-put-row) ∷ Γ) G) → Seq K W (has-put-row Γ) G
+              ((k-rows : Loan) → Seq K W (raw (store-row-contract 𝓤 H A mem run .pre (to-store-row k-rows)) ∷ ‵ (Kept Feature-is.the-row rows κ₂ q₂ (i .rows-now) k-rows) ∷ ‵ (flft κ₀ q₀) ∷ ‵ (flft κ₁ q₁) ∷ ‵ (flft κ₃ q₃) ∷ ‵ s-own ∷ ‵ (texts-own texts-put-row) ∷ ‵ (qualifiers-own qualifiers-put-row) ∷ Γ) G) → Seq K W
+              (‵ (flft κ₀ q₀) ∷ ‵ (flft κ₁ q₁) ∷ ‵ (flft κ₂ q₂) ∷ ‵ (flft κ₃ q₃) ∷ ‵ s-own ∷ ‵ (texts-own texts-put-row) ∷ ‵ (rows-own (i .rows-now)) ∷ ‵ (qualifiers-own qualifiers-put-row) ∷ Γ) G
           lends-store-row t z next =
               move t (6 ∷ 2 ∷ []) $
               use2 W (later (some (λ (k-rows : Loan). ‵ (flft (k-rows .life ∷ []) fullShare) ⊛ ‵ (Lent Feature-is.the-row rows (named 0) (i .rows-now) k-rows) ⊛ ‵ (Kept Feature-is.the-row rows κ₂ q₂ (i .rows-now) k-rows)))) (lends Feature-is.the-row rows 𝓤 H A W (named 2) (named 0) κ₂ q₂ (i .rows-now) (i .rows-now-long)) $
@@ -358,16 +352,13 @@ module _ {M : Type 1} (𝓤 : URA M) (H : Heap 𝓤) (A : Atoms 𝓤) (W : Given
               next r-store-row r-store-row-is (ws .0) (rows-long ∙ (i .rows-now-long)) said-store-row)))))
 
           module _ (r-store-row : Bool) (r-store-row-is : Is bool r-store-row ((vbool r-store-row) ∷ [])) (rows-store-row : List Feature) (rows-store-row-long : length rows-store-row ≡ length (rows .now)) (said-store-row : Said-store-row r-store-row rows-store-row) where
-            abbrev has-store-row : List (Item 𝓤) → List (Item 𝓤)
-            has-store-row Γ = ‵ (flft κ₀ q₀) ∷ ‵ (flft κ₁ q₁) ∷ ‵ (flft κ₂ q₂) ∷ ‵ (flft κ₃ q₃) ∷ ‵ s-own ∷ ‵ (texts-own texts-put-row) ∷ ‵ (rows-own rows-store-row) ∷ ‵ (qualifiers-own qualifiers-put-row) ∷ Γ
+            abbrev part-8-holds : List Cell
+            part-8-holds = vacant ∷ holds (v s) ∷ holds (vint w64 at′) ∷ holds (vint w64 n) ∷ holds (v texts) ∷ holds (vint w64 place) ∷ holds (v rows) ∷ holds (v qualifiers) ∷ holds (Reached-val (i .reached)) ∷ holds (Made-val r-put-row) ∷ holds (vbool r-store-row) ∷ holds (vptr (texts .ptr .0) (texts .ptr .1)) ∷ holds (v texts) ∷ holds
+                (vptr (qualifiers .ptr .0) (qualifiers .ptr .1)) ∷ holds (v qualifiers) ∷ holds (vptr (rows .ptr .0) (rows .ptr .1)) ∷ holds (v rows) ∷ []
 
-            abbrev part-6-holds : List Cell
-            part-6-holds = vacant ∷ holds (v s) ∷ holds (vint w64 at′) ∷ holds (vint w64 n) ∷ holds (v texts) ∷ holds (vint w64 place) ∷ holds (v rows) ∷ holds (v qualifiers) ∷ holds (Reached-val (i .reached)) ∷ holds (Made-val r-put-row) ∷ holds (vbool r-store-row) ∷ holds (p texts) ∷ holds (v texts) ∷ holds (p qualifiers) ∷ holds (v qualifiers) ∷
-                holds (p rows) ∷ holds (v rows) ∷ []
-
-            part-6 : Sq W (has-store-row (standing part-6-holds)) (runs C Λ E turn-from-11 (anyQ (Turned i)))
+            part-8 : Sq W (‵ (flft κ₀ q₀) ∷ ‵ (flft κ₁ q₁) ∷ ‵ (flft κ₂ q₂) ∷ ‵ (flft κ₃ q₃) ∷ ‵ s-own ∷ ‵ (texts-own texts-put-row) ∷ ‵ (rows-own rows-store-row) ∷ ‵ (qualifiers-own qualifiers-put-row) ∷ standing part-8-holds) (runs C Λ E turn-from-11 (anyQ (Turned i)))
             unfolding afterTurn
-            part-6 =
+            part-8 =
                 assigns-last ! (of-opd ! (load ! (from ! (fld ! refl (stop !))) (look-in ! 17 (sub ! 1 refl (whole !))))) (from ! (stop !))
                 (store ! 16 refl (LL.lawful Reached-is.the-type Reached-has.the-laws 𝓤 H A W .typed (r-put-row .reached) ((Reached-val (r-put-row .reached)) ∷ []) (LL.owed Made-is.the-type Made-has.the-laws r-put-row _ r-put-row-is .1 .0) .0)) $
                 forget ! 17 refl $
@@ -391,46 +382,67 @@ module _ {M : Type 1} (𝓤 : URA M) (H : Heap 𝓤) (A : Atoms 𝓤) (W : Given
                       (storing-on (s .now) at′ n place (texts .now) (rows .now) (qualifiers .now) required (i .texts-now) (i .rows-now) (i .qualifiers-now) (i .reached) (i .holds-on) texts-put-row qualifiers-put-row r-put-row test said-put-row (texts-put-row-long ∙ sym (i .texts-now-long)) (qualifiers-put-row-long ∙ sym (i .qualifiers-now-long)));
                 }) (nearer n (i .reached .row) (r-put-row .reached .row) (said-put-row .next) test)
 
-          abbrev part-5-holds : List Cell
-          part-5-holds = vacant ∷ holds (v s) ∷ holds (vint w64 at′) ∷ holds (vint w64 n) ∷ holds (v texts) ∷ holds (vint w64 place) ∷ holds (v rows) ∷ holds (v qualifiers) ∷ holds (Reached-val (i .reached)) ∷ holds (Made-val r-put-row) ∷ holds (vbool (ltb ((i .reached) .row) n)) ∷ holds (p texts) ∷ holds (v texts) ∷ holds (p qualifiers) ∷ holds
-              (v qualifiers) ∷ vacant ∷ vacant ∷ []
+          abbrev part-7-holds : List Cell
+          part-7-holds = vacant ∷ holds (v s) ∷ holds (vint w64 at′) ∷ holds (vint w64 n) ∷ holds (v texts) ∷ holds (vint w64 place) ∷ holds (v rows) ∷ holds (v qualifiers) ∷ holds (Reached-val (i .reached)) ∷ holds (Made-val r-put-row) ∷ holds (vbool (ltb ((i .reached) .row) n)) ∷ holds (vptr (texts .ptr .0) (texts .ptr .1)) ∷ holds (v texts) ∷
+              holds (vptr (qualifiers .ptr .0) (qualifiers .ptr .1)) ∷ holds (v qualifiers) ∷ holds (vptr (rows .ptr .0) (rows .ptr .1)) ∷ holds (v rows) ∷ []
 
-          part-5 : Sq W (has-put-row (standing part-5-holds)) (runs C Λ E turn-from-8 (anyQ (Turned i)))
+          part-7 : Sq W (‵ (flft κ₀ q₀) ∷ ‵ (flft κ₁ q₁) ∷ ‵ (flft κ₂ q₂) ∷ ‵ (flft κ₃ q₃) ∷ ‵ s-own ∷ ‵ (texts-own texts-put-row) ∷ ‵ (rows-own (i .rows-now)) ∷ ‵ (qualifiers-own qualifiers-put-row) ∷ standing part-7-holds) (runs C Λ E turn-from-10 (anyQ (Turned i)))
           unfolding afterTurn
-          part-5 =
-              assigns ! (addr ! (from ! (fld ! refl (hop ! (look-in ! 14 (sub ! 0 refl (whole !))) (stop !))))) (from ! (stop !)) (init ! 23 refl (tt, tt)) $
-              assigns ! (agg ! (and-then ! (load ! (from ! (stop !)) (look ! 23 refl)) (and-then ! (load ! (from ! (fld ! refl (stop !))) (look-in ! 14 (sub ! 1 refl (whole !)))) (no-more !)))) (from ! (stop !)) (init ! 24 refl (tt, (tt, (record { fits = rows-room .0 }, tt)))) $
+          part-7 =
               lends-store-row ! tt (λ k-rows.
               calls-at ! fm (store-row-contract 𝓤 H A mem run) known-store-row (to-store-row k-rows)
               (and-then ! (load ! (from ! (stop !)) (look ! 24 refl)) (and-then ! (load ! (from ! (fld ! refl (stop !))) (look-in ! 16 (sub ! 2 refl (whole !)))) (and-then ! (load ! (from ! (fld ! refl (stop !))) (look-in ! 17 (sub ! 0 refl (whole !)))) (no-more !))))
               (back-store-row ! k-rows (λ r-store-row r-store-row-is rows-store-row rows-store-row-long said-store-row.
               land ! (from ! (stop !)) (store ! 18 refl (bool-lawful 𝓤 H A W .typed r-store-row ((vbool r-store-row) ∷ []) r-store-row-is .0)) $
-              part-6 r-store-row r-store-row-is rows-store-row rows-store-row-long said-store-row)))
+              part-8 r-store-row r-store-row-is rows-store-row rows-store-row-long said-store-row)))
+
+          abbrev part-6-holds : List Cell
+          part-6-holds = vacant ∷ holds (v s) ∷ holds (vint w64 at′) ∷ holds (vint w64 n) ∷ holds (v texts) ∷ holds (vint w64 place) ∷ holds (v rows) ∷ holds (v qualifiers) ∷ holds (Reached-val (i .reached)) ∷ holds (Made-val r-put-row) ∷ holds (vbool (ltb ((i .reached) .row) n)) ∷ holds (vptr (texts .ptr .0) (texts .ptr .1)) ∷ holds (v texts) ∷
+              holds (vptr (qualifiers .ptr .0) (qualifiers .ptr .1)) ∷ holds (v qualifiers) ∷ vacant ∷ vacant ∷ []
+
+          part-6 : Sq W (‵ (flft κ₀ q₀) ∷ ‵ (flft κ₁ q₁) ∷ ‵ (flft κ₂ q₂) ∷ ‵ (flft κ₃ q₃) ∷ ‵ s-own ∷ ‵ (texts-own texts-put-row) ∷ ‵ (rows-own (i .rows-now)) ∷ ‵ (qualifiers-own qualifiers-put-row) ∷ standing part-6-holds) (runs C Λ E turn-from-8 (anyQ (Turned i)))
+          unfolding afterTurn
+          part-6 =
+              assigns ! (addr ! (from ! (fld ! refl (hop ! (look-in ! 14 (sub ! 0 refl (whole !))) (stop !))))) (from ! (stop !)) (init ! 23 refl (tt, tt)) $
+              assigns ! (agg ! (and-then ! (load ! (from ! (stop !)) (look ! 23 refl)) (and-then ! (load ! (from ! (fld ! refl (stop !))) (look-in ! 14 (sub ! 1 refl (whole !)))) (no-more !)))) (from ! (stop !)) (init ! 24 refl (tt, (tt, (record { fits = rows-room .0 }, tt)))) $
+              part-7
+
+        abbrev part-5-holds : List Cell
+        part-5-holds = vacant ∷ holds (v s) ∷ holds (vint w64 at′) ∷ holds (vint w64 n) ∷ holds (v texts) ∷ holds (vint w64 place) ∷ holds (v rows) ∷ holds (v qualifiers) ∷ holds (Reached-val (i .reached)) ∷ vacant ∷ holds (vbool (ltb ((i .reached) .row) n)) ∷ holds (vptr (texts .ptr .0) (texts .ptr .1)) ∷ holds (v texts) ∷ holds
+            (vptr (qualifiers .ptr .0) (qualifiers .ptr .1)) ∷ holds (v qualifiers) ∷ vacant ∷ vacant ∷ []
+
+        part-5 : Sq W (‵ (flft κ₀ q₀) ∷ ‵ (flft κ₁ q₁) ∷ ‵ (flft κ₂ q₂) ∷ ‵ (flft κ₃ q₃) ∷ ‵ s-own ∷ ‵ (texts-own (i .texts-now)) ∷ ‵ (rows-own (i .rows-now)) ∷ ‵ (qualifiers-own (i .qualifiers-now)) ∷ standing part-5-holds) (runs C Λ E turn-from-7 (anyQ (Turned i)))
+        unfolding afterTurn
+        part-5 =
+            lends-put-row ! tt (λ k-texts k-qualifiers.
+            calls-at ! fm (put-row-contract 𝓤 H A mem run) known-put-row (to-put-row k-texts k-qualifiers) (and-then ! (load ! (from ! (stop !)) (look ! 7 refl)) (and-then ! (load ! (from ! (stop !)) (look ! 18 refl)) (and-then ! (load ! (from ! (stop !)) (look ! 20 refl)) (and-then ! (load ! (from ! (stop !)) (look ! 14 refl)) (no-more !)))))
+            (back-put-row ! k-texts k-qualifiers (λ r-put-row r-put-row-is texts-put-row qualifiers-put-row texts-put-row-long qualifiers-put-row-long said-put-row.
+            land ! (from ! (stop !)) (init ! 17 refl (LL.lawful Made-is.the-type Made-has.the-laws 𝓤 H A W .typed r-put-row ((Made-val r-put-row) ∷ []) r-put-row-is .0)) $
+            part-6 r-put-row r-put-row-is texts-put-row qualifiers-put-row texts-put-row-long qualifiers-put-row-long said-put-row)))
 
         abbrev part-4-holds : List Cell
         part-4-holds = vacant ∷ holds (v s) ∷ holds (vint w64 at′) ∷ holds (vint w64 n) ∷ holds (v texts) ∷ holds (vint w64 place) ∷ holds (v rows) ∷ holds (v qualifiers) ∷ holds (Reached-val (i .reached)) ∷ vacant ∷ holds (vbool (ltb ((i .reached) .row) n)) ∷ vacant ∷ vacant ∷ vacant ∷ vacant ∷ vacant ∷ vacant ∷ []
 
-        part-4 : Sq W (has-in-loop i (standing part-4-holds)) (runs C Λ E turn-from-3 (anyQ (Turned i)))
+        part-4 : Sq W (‵ (flft κ₀ q₀) ∷ ‵ (flft κ₁ q₁) ∷ ‵ (flft κ₂ q₂) ∷ ‵ (flft κ₃ q₃) ∷ ‵ s-own ∷ ‵ (texts-own (i .texts-now)) ∷ ‵ (rows-own (i .rows-now)) ∷ ‵ (qualifiers-own (i .qualifiers-now)) ∷ standing part-4-holds) (runs C Λ E turn-from-3 (anyQ (Turned i)))
         unfolding afterTurn
         part-4 =
             assigns ! (addr ! (from ! (fld ! refl (hop ! (look-in ! 12 (sub ! 0 refl (whole !))) (stop !))))) (from ! (stop !)) (init ! 19 refl (tt, tt)) $
             assigns ! (agg ! (and-then ! (load ! (from ! (stop !)) (look ! 19 refl)) (and-then ! (load ! (from ! (fld ! refl (stop !))) (look-in ! 12 (sub ! 1 refl (whole !)))) (no-more !)))) (from ! (stop !)) (init ! 20 refl (tt, (tt, (record { fits = texts-room .0 }, tt)))) $
             assigns ! (addr ! (from ! (fld ! refl (hop ! (look-in ! 15 (sub ! 0 refl (whole !))) (stop !))))) (from ! (stop !)) (init ! 21 refl (tt, tt)) $
             assigns ! (agg ! (and-then ! (load ! (from ! (stop !)) (look ! 21 refl)) (and-then ! (load ! (from ! (fld ! refl (stop !))) (look-in ! 15 (sub ! 1 refl (whole !)))) (no-more !)))) (from ! (stop !)) (init ! 22 refl (tt, (tt, (record { fits = qualifiers-room .0 }, tt)))) $
-            lends-put-row ! tt (λ k-texts k-qualifiers.
-            calls-at ! fm (put-row-contract 𝓤 H A mem run) known-put-row (to-put-row k-texts k-qualifiers) (and-then ! (load ! (from ! (stop !)) (look ! 7 refl)) (and-then ! (load ! (from ! (stop !)) (look ! 18 refl)) (and-then ! (load ! (from ! (stop !)) (look ! 20 refl)) (and-then ! (load ! (from ! (stop !)) (look ! 14 refl)) (no-more !)))))
-            (back-put-row ! k-texts k-qualifiers (λ r-put-row r-put-row-is texts-put-row qualifiers-put-row texts-put-row-long qualifiers-put-row-long said-put-row.
-            land ! (from ! (stop !)) (init ! 17 refl (LL.lawful Made-is.the-type Made-has.the-laws 𝓤 H A W .typed r-put-row ((Made-val r-put-row) ∷ []) r-put-row-is .0)) $
-            part-5 r-put-row r-put-row-is texts-put-row qualifiers-put-row texts-put-row-long qualifiers-put-row-long said-put-row)))
+            part-5
 
       module _ (test : n ≤ ((i .reached) .row)) where
         -- the law, and the end
         ended : FeaturesPut place (featuresIn (drop′ at′ (s .now))) (texts .now) (i .texts-now) (flat (rows .now)) (flat (i .rows-now)) (qualifiers .now) (i .qualifiers-now) ((i .reached) .text)
         ended = storing-all (s .now) at′ n place (texts .now) (rows .now) (qualifiers .now) required (i .texts-now) (i .rows-now) (i .qualifiers-now) (i .reached) (i .holds-on) test
 
-        exits : ent 𝓤 (⋆ 𝓤 H A (has-in-loop i [])) (Post (vint w64 ((i .reached) .text)))
+        abbrev at-last : List (Item 𝓤)
+        at-last = ‵ (flft κ₀ q₀) ∷ ‵ (flft κ₁ q₁) ∷ ‵ (flft κ₂ q₂) ∷ ‵ (flft κ₃ q₃) ∷ ‵ s-own ∷ ‵ (texts-own (i .texts-now)) ∷ ‵ (rows-own (i .rows-now)) ∷ ‵ (qualifiers-own (i .qualifiers-now)) ∷ []
+
+        exits : ent 𝓤 (⋆ 𝓤 H A at-last) (Post (vint w64 ((i .reached) .text)))
         exits =
-            qed W (has-in-loop i []) ∵
+            qed W at-last ∵
             move ! (4 ∷ []) $
             drop ! $
             suffices ! _ (ends-at 𝓤 H A f.ended stayed (f.clauses 𝓤 H A mem run) W bound (vint w64 ((i .reached) .text)) ((i .reached) .text) (tt, (tt, (tt, ((i .texts-now), (tt, ((i .rows-now), ((i .qualifiers-now), tt))))))) (tt, (tt, (tt, ((i .texts-now-long), (tt, ((i .rows-now-long), ((i .qualifiers-now-long), tt)))))))) $ says ! ended $
@@ -440,30 +452,30 @@ module _ {M : Type 1} (𝓤 : URA M) (H : Heap 𝓤) (A : Atoms 𝓤) (W : Given
             group ! 5 $ frame ! $ group ! 8 $
             done !
 
-        abbrev part-7-holds : List Cell
-        part-7-holds = vacant ∷ holds (v s) ∷ holds (vint w64 at′) ∷ holds (vint w64 n) ∷ holds (v texts) ∷ holds (vint w64 place) ∷ holds (v rows) ∷ holds (v qualifiers) ∷ holds (Reached-val (i .reached)) ∷ vacant ∷ holds (vbool (ltb ((i .reached) .row) n)) ∷ vacant ∷ vacant ∷ vacant ∷ vacant ∷ vacant ∷ vacant ∷ []
+        abbrev part-9-holds : List Cell
+        part-9-holds = vacant ∷ holds (v s) ∷ holds (vint w64 at′) ∷ holds (vint w64 n) ∷ holds (v texts) ∷ holds (vint w64 place) ∷ holds (v rows) ∷ holds (v qualifiers) ∷ holds (Reached-val (i .reached)) ∷ vacant ∷ holds (vbool (ltb ((i .reached) .row) n)) ∷ vacant ∷ vacant ∷ vacant ∷ vacant ∷ vacant ∷ vacant ∷ []
 
-        part-7 : Sq W (has-in-loop i (standing part-7-holds)) (runs C Λ E body.t-3 (atRet E Post))
-        part-7 =
+        part-9 : Sq W (‵ (flft κ₀ q₀) ∷ ‵ (flft κ₁ q₁) ∷ ‵ (flft κ₂ q₂) ∷ ‵ (flft κ₃ q₃) ∷ ‵ s-own ∷ ‵ (texts-own (i .texts-now)) ∷ ‵ (rows-own (i .rows-now)) ∷ ‵ (qualifiers-own (i .qualifiers-now)) ∷ standing part-9-holds) (runs C Λ E body.t-3 (atRet E Post))
+        part-9 =
             assigns ! (of-opd ! (load ! (from ! (fld ! refl (stop !))) (look-in ! 16 (sub ! 1 refl (whole !))))) (from ! (stop !)) (init ! 8 refl (uint-lawful 𝓤 H A W w64 .typed ((i .reached) .text) ((vint w64 ((i .reached) .text)) ∷ []) (LL.owed Reached-is.the-type Reached-has.the-laws (i .reached) _ (i .reached-is) .1 .0) .0)) $
-            returns ! (look ! 8 refl) $ frees-all ! (has-in-loop i [])
+            returns ! (look ! 8 refl) $ frees-all ! at-last
             (holds (vint w64 ((i .reached) .text)) ∷ holds (v s) ∷ holds (vint w64 at′) ∷ holds (vint w64 n) ∷ holds (v texts) ∷ holds (vint w64 place) ∷ holds (v rows) ∷ holds (v qualifiers) ∷ holds (Reached-val (i .reached)) ∷ vacant ∷ holds (vbool (ltb ((i .reached) .row) n)) ∷ vacant ∷ vacant ∷ vacant ∷ vacant ∷ vacant ∷ vacant ∷ []) tt
             exits
 
       abbrev part-3-holds : List Cell
       part-3-holds = vacant ∷ holds (v s) ∷ holds (vint w64 at′) ∷ holds (vint w64 n) ∷ holds (v texts) ∷ holds (vint w64 place) ∷ holds (v rows) ∷ holds (v qualifiers) ∷ holds (Reached-val (i .reached)) ∷ vacant ∷ holds (vbool (ltb ((i .reached) .row) n)) ∷ vacant ∷ vacant ∷ vacant ∷ vacant ∷ vacant ∷ vacant ∷ []
 
-      part-3 : Sq W (has-in-loop i (standing part-3-holds)) (runs C Λ E turn-from-2 (anyQ (Turned i)))
+      part-3 : Sq W (‵ (flft κ₀ q₀) ∷ ‵ (flft κ₁ q₁) ∷ ‵ (flft κ₂ q₂) ∷ ‵ (flft κ₃ q₃) ∷ ‵ s-own ∷ ‵ (texts-own (i .texts-now)) ∷ ‵ (rows-own (i .rows-now)) ∷ ‵ (qualifiers-own (i .qualifiers-now)) ∷ standing part-3-holds) (runs C Λ E turn-from-2 (anyQ (Turned i)))
       unfolding afterTurn
       part-3 =
           first ! $ branches ! (load ! (from ! (stop !)) (look ! 18 refl))
           (λ y. skips ! $ exec ! C Λ E turn-from-3 (anyQ (Turned i)) $ part-4 (ltb→lt ((i .reached) .row) n y))
-          (λ y. jumps ! $ exec ! C Λ E body.t-3 (atRet E Post) $ part-7 (nltb→le ((i .reached) .row) n y))
+          (λ y. jumps ! $ exec ! C Λ E body.t-3 (atRet E Post) $ part-9 (nltb→le ((i .reached) .row) n y))
 
       abbrev part-2-holds : List Cell
       part-2-holds = vacant ∷ holds (v s) ∷ holds (vint w64 at′) ∷ holds (vint w64 n) ∷ holds (v texts) ∷ holds (vint w64 place) ∷ holds (v rows) ∷ holds (v qualifiers) ∷ holds (Reached-val (i .reached)) ∷ vacant ∷ vacant ∷ vacant ∷ vacant ∷ vacant ∷ vacant ∷ vacant ∷ vacant ∷ []
 
-      part-2 : Sq W (has-in-loop i (standing part-2-holds)) (runs C Λ E body.turn-1 (anyQ (Turned i)))
+      part-2 : Sq W (‵ (flft κ₀ q₀) ∷ ‵ (flft κ₁ q₁) ∷ ‵ (flft κ₂ q₂) ∷ ‵ (flft κ₃ q₃) ∷ ‵ s-own ∷ ‵ (texts-own (i .texts-now)) ∷ ‵ (rows-own (i .rows-now)) ∷ ‵ (qualifiers-own (i .qualifiers-now)) ∷ standing part-2-holds) (runs C Λ E body.turn-1 (anyQ (Turned i)))
       unfolding afterTurn
       part-2 =
           assigns ! (bin ! (load ! (from ! (fld ! refl (stop !))) (look-in ! 16 (sub ! 2 refl (whole !)))) (load ! (from ! (stop !)) (look ! 11 refl)) tt) (from ! (stop !)) (init ! 18 refl (tt, tt)) $
@@ -472,7 +484,7 @@ module _ {M : Type 1} (𝓤 : URA M) (H : Heap 𝓤) (A : Atoms 𝓤) (W : Given
     abbrev part-1-holds : List Cell
     part-1-holds = vacant ∷ holds (v s) ∷ holds (vint w64 at′) ∷ holds (vint w64 n) ∷ holds (v texts) ∷ holds (vint w64 place) ∷ holds (v rows) ∷ holds (v qualifiers) ∷ vacant ∷ vacant ∷ vacant ∷ vacant ∷ vacant ∷ vacant ∷ vacant ∷ vacant ∷ vacant ∷ []
 
-    part-1 : Sq W (has-first (standing part-1-holds)) (runs C Λ E body.t-1 (atRet E Post))
+    part-1 : Sq W (‵ (flft κ₀ q₀) ∷ ‵ (flft κ₁ q₁) ∷ ‵ (flft κ₂ q₂) ∷ ‵ (flft κ₃ q₃) ∷ ‵ s-own ∷ ‵ (texts-own (texts .now)) ∷ ‵ (rows-own (rows .now)) ∷ ‵ (qualifiers-own (qualifiers .now)) ∷ standing part-1-holds) (runs C Λ E body.t-1 (atRet E Post))
     part-1 =
         assigns ! (agg ! (and-then ! (load ! (from ! (stop !)) (look ! 10 refl)) (and-then ! (load ! (from ! (stop !)) (look ! 13 refl)) (and-then ! (lit ! tt) (and-then ! (lit ! tt) (and-then ! (lit ! tt) (no-more !))))))) (from ! (stop !))
         (init ! 16 refl (LL.lawful Reached-is.the-type Reached-has.the-laws 𝓤 H A W .typed made-Reached ((Reached-val made-Reached) ∷ []) made-Reached-is .0)) $
