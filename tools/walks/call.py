@@ -91,7 +91,7 @@ class Call:
         sp.say(f'use{min(n, 1)} W (raw ({self.contract("pre")})) {par(self.at("goes-" + self.tag))} $')
         sp.become(n, ['pre'])
         self.kept = sp.ctx[1:]
-        start = lists([self.entry(k) for k in self.before], 'Γ') if self.head else f'{self.st.has} Γ'
+        start = lists([self.entry(k) for k in self.before], 'Γ')
         after = lists([f'raw ({self.contract("pre")})'] + [self.entry(k) for k in self.kept], 'Γ')
         name, arrow = f'lends-{self.tag}', binders(self.binders) + ' → ' if self.binders else ''
         body = [over(l) for l in sp.text(self.at('next'))]
@@ -172,11 +172,10 @@ class Call:
             w.back(sp, f'(ws{proj(i)})')
         tele, given = self.told(st)
         st.away |= {i for _, i in self.head}
-        st.has = f'has-{self.tag}'
         st.resources = self.f.canonical(sp.ctx, st.away)
         sp.move(st.resources)
         R = self.g.result
-        after = lists(self.f.owned(st), 'Γ')
+        after = self.f.owned(st, 'Γ')
         name, arrow = f'back-{self.tag}', binders(self.binders) + ' → ' if self.binders else ''
         lands = 'lands C Λ E d {} rest q'
         body = [over(l) for l in sp.text('next ' + ' '.join(given))]

@@ -10,8 +10,8 @@ from .plain import list_of
 from .values import Plain, Steps
 
 
-# so many statements have a lemma, at most: each makes the context of the next one slower to look into
-LONGEST = 8
+# so many assignments have a lemma, and few stand before a call: each makes the context of the next one slower to look into
+LONGEST = 4
 
 
 class Code:
@@ -48,7 +48,7 @@ class Parts:
 
     def lemma(self, name, st, code, j, lines):
         """the lemma `name`: the code from statement j on runs from st"""
-        goal = f'Sq W ({st.has} (standing {name}-holds)) (runs C Λ E {code.term(j)} {code.post})'
+        goal = f'Sq W ({self.f.owned(st, f"standing {name}-holds")}) (runs C Λ E {code.term(j)} {code.post})'
         return ([f'abbrev {name}-holds : List Cell', f'{name}-holds = {self.f.cells(st)}', '', f'{name} : {goal}'] + ([] if code.top else ['unfolding afterTurn'])
                 + [f'{name} ='] + ['    ' + l for l in lines] + [''])
 
@@ -60,7 +60,7 @@ class Parts:
         while True:
             s = code.stmts[j]
             last = not code.top and j == len(code.stmts) - 1
-            if j - first >= LONGEST and not last:
+            if j - first >= (LONGEST if s != 'return' and s[0] == 'assign' else 2) and not last:
                 then, inner = self.part(code, j, st)
                 defs += inner
                 lines = sp.text(then)
@@ -76,7 +76,7 @@ class Parts:
             elif called(s) and not last:
                 tele, after = call(self.f, next(g for g in self.f.calls if g.stmt is s), st, sp, defs)
                 then, inner = self.part(code, j + 1, after)
-                defs += module(tele, self.f.has(after) + inner)
+                defs += module(tele, inner)
                 lines = sp.text(' '.join([then] + [n for n, _ in tele]))
                 break
             elif s[0] == 'block' and code.top:
@@ -135,10 +135,8 @@ class Parts:
             self.at.values[i] = Plain(st.values[i].row, f'(i .{n})', f'(i .{n}-is)')
         for p in self.lent:
             self.at.now[p.name], self.at.long[p.name] = f'(i .{p.name}-now)', f'(i .{p.name}-now-long)'
-        self.at.has = 'has-in-loop i'
         rest = f'(afterBlock 𝓤 H (afterSeq 𝓤 H (Wp 𝓤 H C Λ E {code.term(j + 1)} (atReturn 𝓤 H E Post)) (atReturn 𝓤 H E Post)))'
-        defs += self.f.has(self.at, 'Standing → ')
-        defs += ['-- the invariant: what stands before a turn', 'abbrev At : Standing → List (Item 𝓤)', f'At i = {self.at.has} (standing ({self.f.cells(self.at)}))', '',
+        defs += ['-- the invariant: what stands before a turn', 'abbrev At : Standing → List (Item 𝓤)', f'At i = {self.f.owned(self.at, f"standing ({self.f.cells(self.at)})")}', '',
                  'abbrev Turned : Standing → Out → SProp 𝓤', f'Turned i = afterTurn 𝓤 H (Below 𝓤 H A Nearer At i) {rest}', '']
         name, inner = self.part(self.turn, 0, self.at)
         defs += module([('i', 'Standing')], inner)

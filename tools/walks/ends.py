@@ -16,12 +16,11 @@ def finish(f, st, sp, defs):
     if away:
         # the cell of a local that was lent goes back to its place
         upto = max(k[1] for k in away)
-        st.has, st.resources, st.away = 'has-at-last', [k for k in st.resources if k[0] != 'at'], set()
+        st.resources, st.away = [k for k in st.resources if k[0] != 'at'], set()
         sp.move(st.resources + [('at', i) for i in range(upto + 1)])
-        defs += f.has(st)
     defs += ['-- the law, and the end', f'ended : {f.aim(st)}', f'ended = {f.d.law}', '']
-    defs += [f'exits : ent 𝓤 (⋆ 𝓤 H A ({st.has} [])) (Post {r.machine()})', 'exits =', f'    qed W ({st.has} []) ∵'] + ['    ' + l for l in exit_steps(f, st, r)] + ['']
-    return sp.text(f'returns ! (look ! {sp.pos(("at", 0))} refl) $ frees-all ! ({st.has} []) ({f.cells(st)}) tt exits')
+    defs += ['abbrev at-last : List (Item 𝓤)', f'at-last = {f.owned(st, "[]")}', '', f'exits : ent 𝓤 (⋆ 𝓤 H A at-last) (Post {r.machine()})', 'exits =', '    qed W at-last ∵'] + ['    ' + l for l in exit_steps(f, st, r)] + ['']
+    return sp.text(f'returns ! (look ! {sp.pos(("at", 0))} refl) $ frees-all ! at-last ({f.cells(st)}) tt exits')
 
 
 def exit_steps(f, st, r):
@@ -63,7 +62,7 @@ def stays(f):
 # ---- the entry
 def at_entry(f):
     """what stands before the first statement"""
-    st = State('has-first', [], {p.i + 1: p.value() for p in f.params}, {p.name: f'({p.name} .now)' for p in f.params if p.mut}, {p.name: 'refl' for p in f.params if p.mut})
+    st = State([], {p.i + 1: p.value() for p in f.params}, {p.name: f'({p.name} .now)' for p in f.params if p.mut}, {p.name: 'refl' for p in f.params if p.mut})
     st.resources = f.canonical([('tok', i) for i in range(f.fn.lifetimes)] + [('own', p.name) for p in f.params if p.slice])
     return st
 
@@ -82,7 +81,7 @@ def opened(f, st):
     sp.move(plain + st.resources)
     sp.say(' '.join(['drop ! $'] * len(plain)))
     body = [over(l) for l in sp.text('then')]
-    return f.has(st) + [f'opened : {OPEN} {{G : Goal 𝓤 H}} → K → Seq K W ({st.has} Γ) G → Seq K W (Had Γ) G', 'opened t then ='] + ['    ' + l for l in body] + ['']
+    return [f'opened : {OPEN} {{G : Goal 𝓤 H}} → K → Seq K W ({f.owned(st, "Γ")}) G → Seq K W (Had Γ) G', 'opened t then ='] + ['    ' + l for l in body] + ['']
 
 
 def had(f):

@@ -152,12 +152,9 @@ class Function:
         p = self.by_name[name]
         return p.last(par(st.now[name])) if kind == 'last' else p.own(par(st.now[name]) if p.mut else None)
 
-    def owned(self, st):
-        return [self.entry_text(k, st) for k in st.resources]
-
-    def has(self, st, of=''):
-        """the definition of the name for what is owned"""
-        return [f'abbrev {st.has.split()[0]} : {of}List (Item 𝓤) → List (Item 𝓤)', f'{st.has} Γ = {lists(self.owned(st), "Γ")}', '']
+    def owned(self, st, end):
+        """what is owned, and then the rest of a context; it is written out where it stands, since a name for it makes each step slower"""
+        return lists([self.entry_text(k, st) for k in st.resources], end)
 
     def cells(self, st):
         """what the locals hold"""

@@ -56,7 +56,7 @@ Rattle.base_walk.proofs.Loans.{Loan, again as slice-at, Own, Lent, Kept, Shared
 Rattle.base_walk.proofs.Arrays.{Many, many-val, apart, together, big-lit}'''.split('\n')
 
 # names that the text binds itself: a parameter or a call of such a name gets a prime
-OWN = set('''a v p f u l z r at ws is spelled code body stated stayed bound begins opened exits ended required mem run next then ns state as open let in where use module record elim absurd
+OWN = set('''a v f u l z r at ws is spelled code body stated stayed bound begins opened exits ended required mem run next then ns state as open let in where use module record elim absurd
     H A W C E M Λ tt fm i test walk frame array full Post At Turned Standing Nearer left-over'''.split())
 
 

@@ -31,8 +31,7 @@ def declarations(f, parts):
     out = ['abbrev stayed : Stays (f.ended .signature .params) (f.ended .kept)', f'stayed = {tup(stays(f)[0])}', '']
     for row in f.declared():
         out += [f'abbrev {row.one} : {row.denot} → Val', f'{row.one} = {row.laws}.val {row.the}', '']
-    out += ['-- the machine values of a slice and of its pointer', 'abbrev v : {X : Type 0} → RefT (List X) → Val', 'v r = sliceVal (r .ptr) (length (r .now))', '',
-            'abbrev p : {X : Type 0} → RefT (List X) → Val', 'p r = vptr (r .ptr .0) (r .ptr .1)', '']
+    out += ['-- the machine value of a slice', 'abbrev v : {X : Type 0} → RefT (List X) → Val', 'v r = sliceVal (r .ptr) (length (r .now))', '']
     return out + parts.turn_terms()
 
 

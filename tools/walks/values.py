@@ -63,7 +63,7 @@ class Param:
         return f'(v {self.name})'
 
     def pointer_value(self):
-        return f'(p {self.name})'
+        return f'(vptr ({self.name} .ptr .0) ({self.name} .ptr .1))'
 
     def length(self):
         return f'(length ({self.name} .now))'
@@ -90,14 +90,14 @@ class LocalArray:
 
 
 class State:
-    """what stands between two statements: what is owned, in order, and the text's name for that; what each local holds; the list of each `&mut`, and that it is as long as at entry;
+    """what stands between two statements: what is owned, in order; what each local holds; the list of each `&mut`, and that it is as long as at entry;
     which local is lent or has its cell among what is owned"""
 
-    def __init__(self, has, resources, values, now, long, away=()):
-        self.has, self.resources, self.values, self.now, self.long, self.away = has, list(resources), dict(values), dict(now), dict(long), set(away)
+    def __init__(self, resources, values, now, long, away=()):
+        self.resources, self.values, self.now, self.long, self.away = list(resources), dict(values), dict(now), dict(long), set(away)
 
     def copy(self):
-        return State(self.has, self.resources, self.values, self.now, self.long, self.away)
+        return State(self.resources, self.values, self.now, self.long, self.away)
 
 
 class Steps:

@@ -1,2 +1,0 @@
--- What walks over a lent slice cite: it is lent again, and comes back.
-pub mod Again
