@@ -88,12 +88,9 @@ Feature-val = LL.val Feature-is.the-type Feature-has.the-laws
 abbrev ReadAnswer-val : ReadAnswer → Val
 ReadAnswer-val = EL.val ReadAnswer-is.the-type ReadAnswer-has.the-laws
 
--- the machine values of a slice and of its pointer
+-- the machine value of a slice
 abbrev v : {X : Type 0} → RefT (List X) → Val
 v r = sliceVal (r .ptr) (length (r .now))
-
-abbrev p : {X : Type 0} → RefT (List X) → Val
-p r = vptr (r .ptr .0) (r .ptr .1)
 
 module _ {M : Type 1} (𝓤 : URA M) (H : Heap 𝓤) (A : Atoms 𝓤) (mem : Memory → SProp 𝓤) (run : Routine → Fun 𝓤) where
   -- the contracts that the proof cites
@@ -172,11 +169,9 @@ module _ {M : Type 1} (𝓤 : URA M) (H : Heap 𝓤) (A : Atoms 𝓤) (W : Given
   Had Γ = (‵ (flft κ₀ q₀) ⊛ ‵ (flft κ₁ q₁) ⊛ ‵ (flft κ₂ q₂) ⊛ ‵ (flft κ₃ q₃) ⊛ ‵ (flft κ₄ q₄) ⊛ ‵ (flft κ₅ q₅) ⊛ ‵ (flft κ₆ q₆) ⊛ ‵ (flft κ₇ q₇) ⊛ ‵ ftrue) ∷ ‵
       (owns (ShrSlice (named 0) κ₀ u8 ∷ usize ∷ MutSlice (named 1) κ₁ u8 ∷ MutSlice (named 2) κ₂ usize ∷ MutSlice (named 3) κ₃ usize ∷ MutSlice (named 4) κ₄ Feature-is.the-row ∷ MutSlice (named 5) κ₅ usize ∷ MutSlice (named 6) κ₆ u8 ∷ MutSlice (named 7) κ₇ usize ∷ []) a at-entry) ∷ Γ
 
-  abbrev has-first : List (Item 𝓤) → List (Item 𝓤)
-  has-first Γ = ‵ (flft κ₀ q₀) ∷ ‵ (flft κ₁ q₁) ∷ ‵ (flft κ₂ q₂) ∷ ‵ (flft κ₃ q₃) ∷ ‵ (flft κ₄ q₄) ∷ ‵ (flft κ₅ q₅) ∷ ‵ (flft κ₆ q₆) ∷ ‵ (flft κ₇ q₇) ∷ ‵ s-own ∷ ‵ (texts-own (texts .now)) ∷ ‵ (references-own (references .now)) ∷ ‵ (comments-own (comments .now)) ∷ ‵ (features-own (features .now)) ∷ ‵ (qualifiers-own (qualifiers .now)) ∷ ‵
-      (letters-own (letters .now)) ∷ ‵ (told-own (told .now)) ∷ Γ
-
-  opened : {K : Type 0} {Γ : List (Item 𝓤)} {G : Goal 𝓤 H} → K → Seq K W (has-first Γ) G → Seq K W (Had Γ) G
+  opened : {K : Type 0} {Γ : List (Item 𝓤)} {G : Goal 𝓤 H} → K → Seq K W
+      (‵ (flft κ₀ q₀) ∷ ‵ (flft κ₁ q₁) ∷ ‵ (flft κ₂ q₂) ∷ ‵ (flft κ₃ q₃) ∷ ‵ (flft κ₄ q₄) ∷ ‵ (flft κ₅ q₅) ∷ ‵ (flft κ₆ q₆) ∷ ‵ (flft κ₇ q₇) ∷ ‵ s-own ∷ ‵ (texts-own (texts .now)) ∷ ‵ (references-own (references .now)) ∷ ‵ (comments-own (comments .now)) ∷ ‵ (features-own (features .now)) ∷ ‵ (qualifiers-own (qualifiers .now)) ∷ ‵
+      (letters-own (letters .now)) ∷ ‵ (told-own (told .now)) ∷ Γ) G → Seq K W (Had Γ) G
   opened t then =
       splits t (‵ (flft κ₀ q₀) ∷ ‵ (flft κ₁ q₁) ∷ ‵ (flft κ₂ q₂) ∷ ‵ (flft κ₃ q₃) ∷ ‵ (flft κ₄ q₄) ∷ ‵ (flft κ₅ q₅) ∷ ‵ (flft κ₆ q₆) ∷ ‵ (flft κ₇ q₇) ∷ []) (id⊢ 𝓤 _) $
       move t (8 ∷ []) $
@@ -225,7 +220,9 @@ module _ {M : Type 1} (𝓤 : URA M) (H : Heap 𝓤) (A : Atoms 𝓤) (W : Given
         group ! 8 $
         done !
 
-    lends-read : {K : Type 0} {Γ : List (Item 𝓤)} {G : Goal 𝓤 H} → K → Soaks G → (Seq K W (raw (read-contract 𝓤 H A mem run .pre to-read) ∷ ‵ (flft κ₇ q₇) ∷ ‵ (told-own (told .now)) ∷ Γ) G) → Seq K W (has-first Γ) G
+    lends-read : {K : Type 0} {Γ : List (Item 𝓤)} {G : Goal 𝓤 H} → K → Soaks G → (Seq K W (raw (read-contract 𝓤 H A mem run .pre to-read) ∷ ‵ (flft κ₇ q₇) ∷ ‵ (told-own (told .now)) ∷ Γ) G) → Seq K W
+        (‵ (flft κ₀ q₀) ∷ ‵ (flft κ₁ q₁) ∷ ‵ (flft κ₂ q₂) ∷ ‵ (flft κ₃ q₃) ∷ ‵ (flft κ₄ q₄) ∷ ‵ (flft κ₅ q₅) ∷ ‵ (flft κ₆ q₆) ∷ ‵ (flft κ₇ q₇) ∷ ‵ s-own ∷ ‵ (texts-own (texts .now)) ∷ ‵ (references-own (references .now)) ∷ ‵ (comments-own (comments .now)) ∷ ‵ (features-own (features .now)) ∷ ‵ (qualifiers-own (qualifiers .now)) ∷ ‵
+        (letters-own (letters .now)) ∷ ‵ (told-own (told .now)) ∷ Γ) G
     lends-read t z next =
         move t (0 ∷ 1 ∷ 2 ∷ 3 ∷ 4 ∷ 5 ∷ 6 ∷ 8 ∷ 9 ∷ 10 ∷ 11 ∷ 12 ∷ 13 ∷ 14 ∷ []) $
         group t 14 $
@@ -282,10 +279,6 @@ module _ {M : Type 1} (𝓤 : URA M) (H : Heap 𝓤) (A : Atoms 𝓤) (W : Given
     module _ (r-read : ReadAnswer) (r-read-is : Is ReadAnswer-is.the-row r-read ((ReadAnswer-val r-read) ∷ [])) (texts-read : List ℕ) (references-read : List ℕ) (comments-read : List ℕ) (features-read : List Feature) (qualifiers-read : List ℕ) (letters-read : List ℕ) (texts-read-long : length texts-read ≡ length (texts .now))
         (references-read-long : length references-read ≡ length (references .now)) (comments-read-long : length comments-read ≡ length (comments .now)) (features-read-long : length features-read ≡ length (features .now)) (qualifiers-read-long : length qualifiers-read ≡ length (qualifiers .now))
         (letters-read-long : length letters-read ≡ length (letters .now)) (said-read : Said-read r-read texts-read references-read comments-read features-read qualifiers-read letters-read) where
-      abbrev has-read : List (Item 𝓤) → List (Item 𝓤)
-      has-read Γ = ‵ (flft κ₀ q₀) ∷ ‵ (flft κ₁ q₁) ∷ ‵ (flft κ₂ q₂) ∷ ‵ (flft κ₃ q₃) ∷ ‵ (flft κ₄ q₄) ∷ ‵ (flft κ₅ q₅) ∷ ‵ (flft κ₆ q₆) ∷ ‵ (flft κ₇ q₇) ∷ ‵ (texts-last texts-read) ∷ ‵ (references-last references-read) ∷ ‵ (comments-last comments-read) ∷ ‵ (features-last features-read) ∷ ‵ (qualifiers-last qualifiers-read) ∷ ‵
-          (letters-last letters-read) ∷ ‵ (told-own (told .now)) ∷ Γ
-
       -- the call of `tell_read`
       abbrev lfts-tell-read : Lft × Unit {0}
       lfts-tell-read = (κ₇, tt)
@@ -307,7 +300,9 @@ module _ {M : Type 1} (𝓤 : URA M) (H : Heap 𝓤) (A : Atoms 𝓤) (W : Given
 
       lends-tell-read : {K : Type 0} {Γ : List (Item 𝓤)} {G : Goal 𝓤 H} → K → Soaks G →
           (Seq K W (raw (tell-read-contract 𝓤 H A mem run .pre to-tell-read) ∷ ‵ (flft κ₀ q₀) ∷ ‵ (flft κ₁ q₁) ∷ ‵ (flft κ₂ q₂) ∷ ‵ (flft κ₃ q₃) ∷ ‵ (flft κ₄ q₄) ∷ ‵ (flft κ₅ q₅) ∷ ‵ (flft κ₆ q₆) ∷ ‵ (texts-last texts-read) ∷ ‵ (references-last references-read) ∷ ‵ (comments-last comments-read) ∷ ‵ (features-last features-read) ∷ ‵
-          (qualifiers-last qualifiers-read) ∷ ‵ (letters-last letters-read) ∷ Γ) G) → Seq K W (has-read Γ) G
+          (qualifiers-last qualifiers-read) ∷ ‵ (letters-last letters-read) ∷ Γ) G) → Seq K W
+          (‵ (flft κ₀ q₀) ∷ ‵ (flft κ₁ q₁) ∷ ‵ (flft κ₂ q₂) ∷ ‵ (flft κ₃ q₃) ∷ ‵ (flft κ₄ q₄) ∷ ‵ (flft κ₅ q₅) ∷ ‵ (flft κ₆ q₆) ∷ ‵ (flft κ₇ q₇) ∷ ‵ (texts-last texts-read) ∷ ‵ (references-last references-read) ∷ ‵ (comments-last comments-read) ∷ ‵ (features-last features-read) ∷ ‵ (qualifiers-last qualifiers-read) ∷ ‵
+          (letters-last letters-read) ∷ ‵ (told-own (told .now)) ∷ Γ) G
       lends-tell-read t z next =
           move t (7 ∷ 14 ∷ []) $
           group t 2 $
@@ -343,17 +338,17 @@ module _ {M : Type 1} (𝓤 : URA M) (H : Heap 𝓤) (A : Atoms 𝓤) (W : Given
           next r-tell-read r-tell-read-is (ws .0) told-long said-tell-read)))))
 
       module _ (r-tell-read : ℕ) (r-tell-read-is : Is usize r-tell-read ((vint w64 r-tell-read) ∷ [])) (told-tell-read : List ℕ) (told-tell-read-long : length told-tell-read ≡ length (told .now)) (said-tell-read : Said-tell-read r-tell-read told-tell-read) where
-        abbrev has-tell-read : List (Item 𝓤) → List (Item 𝓤)
-        has-tell-read Γ = ‵ (flft κ₀ q₀) ∷ ‵ (flft κ₁ q₁) ∷ ‵ (flft κ₂ q₂) ∷ ‵ (flft κ₃ q₃) ∷ ‵ (flft κ₄ q₄) ∷ ‵ (flft κ₅ q₅) ∷ ‵ (flft κ₆ q₆) ∷ ‵ (flft κ₇ q₇) ∷ ‵ (texts-last texts-read) ∷ ‵ (references-last references-read) ∷ ‵ (comments-last comments-read) ∷ ‵ (features-last features-read) ∷ ‵ (qualifiers-last qualifiers-read) ∷ ‵
-            (letters-last letters-read) ∷ ‵ (told-last told-tell-read) ∷ Γ
-
         -- the law, and the end
         ended : ReadTold (s .now) at′ (roomsIn (texts .now) (references .now) (comments .now) (flat (features .now)) (qualifiers .now) (letters .now)) (roomsIn (texts-read) (references-read) (comments-read) (flat (features-read)) (qualifiers-read) (letters-read)) (told .now) (told-tell-read) r-tell-read
         ended = read-told (s .now) at′ old (roomsIn texts-read references-read comments-read (flat features-read) qualifiers-read letters-read) (told .now) told-tell-read r-tell-read r-read said-read said-tell-read
 
-        exits : ent 𝓤 (⋆ 𝓤 H A (has-tell-read [])) (Post (vint w64 r-tell-read))
+        abbrev at-last : List (Item 𝓤)
+        at-last = ‵ (flft κ₀ q₀) ∷ ‵ (flft κ₁ q₁) ∷ ‵ (flft κ₂ q₂) ∷ ‵ (flft κ₃ q₃) ∷ ‵ (flft κ₄ q₄) ∷ ‵ (flft κ₅ q₅) ∷ ‵ (flft κ₆ q₆) ∷ ‵ (flft κ₇ q₇) ∷ ‵ (texts-last texts-read) ∷ ‵ (references-last references-read) ∷ ‵ (comments-last comments-read) ∷ ‵ (features-last features-read) ∷ ‵ (qualifiers-last qualifiers-read) ∷ ‵
+            (letters-last letters-read) ∷ ‵ (told-last told-tell-read) ∷ []
+
+        exits : ent 𝓤 (⋆ 𝓤 H A at-last) (Post (vint w64 r-tell-read))
         exits =
-            qed W (has-tell-read []) ∵
+            qed W at-last ∵
             suffices ! _ (ends-at 𝓤 H A f.ended stayed (f.clauses 𝓤 H A mem run) W bound (vint w64 r-tell-read) r-tell-read (tt, (tt, (texts-read, (references-read, (comments-read, (features-read, (qualifiers-read, (letters-read, (told-tell-read, tt)))))))))
             (tt, (tt, (texts-read-long, (references-read-long, (comments-read-long, (features-read-long, (qualifiers-read-long, (letters-read-long, (told-tell-read-long, tt)))))))))) $ says ! ended $
             owned ! usize (Is usize) (uint-makes 𝓤 H A W w64) r-tell-read ((vint w64 r-tell-read) ∷ []) r-tell-read-is $
@@ -362,40 +357,52 @@ module _ {M : Type 1} (𝓤 : URA M) (H : Heap 𝓤) (A : Atoms 𝓤) (W : Given
             group ! 9 $ frame ! $ group ! 10 $
             done !
 
-        abbrev part-4-holds : List Cell
-        part-4-holds = holds (vint w64 r-tell-read) ∷ holds (v s) ∷ holds (vint w64 at′) ∷ holds (v texts) ∷ holds (v references) ∷ holds (v comments) ∷ holds (v features) ∷ holds (v qualifiers) ∷ holds (v letters) ∷ holds (v told) ∷ holds (ReadAnswer-val r-read) ∷ holds (p texts) ∷ holds (v texts) ∷ holds (p references) ∷ holds (v references) ∷
-            holds (p comments) ∷ holds (v comments) ∷ holds (p features) ∷ holds (v features) ∷ holds (p qualifiers) ∷ holds (v qualifiers) ∷ holds (p letters) ∷ holds (v letters) ∷ holds (p told) ∷ holds (v told) ∷ []
+        abbrev part-7-holds : List Cell
+        part-7-holds = holds (vint w64 r-tell-read) ∷ holds (v s) ∷ holds (vint w64 at′) ∷ holds (v texts) ∷ holds (v references) ∷ holds (v comments) ∷ holds (v features) ∷ holds (v qualifiers) ∷ holds (v letters) ∷ holds (v told) ∷ holds (ReadAnswer-val r-read) ∷ holds (vptr (texts .ptr .0) (texts .ptr .1)) ∷ holds (v texts) ∷ holds
+            (vptr (references .ptr .0) (references .ptr .1)) ∷ holds (v references) ∷ holds (vptr (comments .ptr .0) (comments .ptr .1)) ∷ holds (v comments) ∷ holds (vptr (features .ptr .0) (features .ptr .1)) ∷ holds (v features) ∷ holds (vptr (qualifiers .ptr .0) (qualifiers .ptr .1)) ∷ holds (v qualifiers) ∷ holds
+            (vptr (letters .ptr .0) (letters .ptr .1)) ∷ holds (v letters) ∷ holds (vptr (told .ptr .0) (told .ptr .1)) ∷ holds (v told) ∷ []
 
-        part-4 : Sq W (has-tell-read (standing part-4-holds)) (runs C Λ E body.t-17 (atRet E Post))
-        part-4 =
-            returns ! (look ! 15 refl) $ frees-all ! (has-tell-read [])
-            (holds (vint w64 r-tell-read) ∷ holds (v s) ∷ holds (vint w64 at′) ∷ holds (v texts) ∷ holds (v references) ∷ holds (v comments) ∷ holds (v features) ∷ holds (v qualifiers) ∷ holds (v letters) ∷ holds (v told) ∷ holds (ReadAnswer-val r-read) ∷ holds (p texts) ∷ holds (v texts) ∷ holds (p references) ∷ holds (v references) ∷ holds
-            (p comments) ∷ holds (v comments) ∷ holds (p features) ∷ holds (v features) ∷ holds (p qualifiers) ∷ holds (v qualifiers) ∷ holds (p letters) ∷ holds (v letters) ∷ holds (p told) ∷ holds (v told) ∷ []) tt exits
+        part-7 : Sq W (‵ (flft κ₀ q₀) ∷ ‵ (flft κ₁ q₁) ∷ ‵ (flft κ₂ q₂) ∷ ‵ (flft κ₃ q₃) ∷ ‵ (flft κ₄ q₄) ∷ ‵ (flft κ₅ q₅) ∷ ‵ (flft κ₆ q₆) ∷ ‵ (flft κ₇ q₇) ∷ ‵ (texts-last texts-read) ∷ ‵ (references-last references-read) ∷ ‵ (comments-last comments-read) ∷ ‵ (features-last features-read) ∷ ‵ (qualifiers-last qualifiers-read) ∷ ‵
+            (letters-last letters-read) ∷ ‵ (told-last told-tell-read) ∷ standing part-7-holds) (runs C Λ E body.t-17 (atRet E Post))
+        part-7 =
+            returns ! (look ! 15 refl) $ frees-all ! at-last
+            (holds (vint w64 r-tell-read) ∷ holds (v s) ∷ holds (vint w64 at′) ∷ holds (v texts) ∷ holds (v references) ∷ holds (v comments) ∷ holds (v features) ∷ holds (v qualifiers) ∷ holds (v letters) ∷ holds (v told) ∷ holds (ReadAnswer-val r-read) ∷ holds (vptr (texts .ptr .0) (texts .ptr .1)) ∷ holds (v texts) ∷ holds
+            (vptr (references .ptr .0) (references .ptr .1)) ∷ holds (v references) ∷ holds (vptr (comments .ptr .0) (comments .ptr .1)) ∷ holds (v comments) ∷ holds (vptr (features .ptr .0) (features .ptr .1)) ∷ holds (v features) ∷ holds (vptr (qualifiers .ptr .0) (qualifiers .ptr .1)) ∷ holds (v qualifiers) ∷ holds
+            (vptr (letters .ptr .0) (letters .ptr .1)) ∷ holds (v letters) ∷ holds (vptr (told .ptr .0) (told .ptr .1)) ∷ holds (v told) ∷ []) tt exits
 
-      abbrev part-3-holds : List Cell
-      part-3-holds = vacant ∷ holds (v s) ∷ holds (vint w64 at′) ∷ holds (v texts) ∷ holds (v references) ∷ holds (v comments) ∷ holds (v features) ∷ holds (v qualifiers) ∷ holds (v letters) ∷ holds (v told) ∷ holds (ReadAnswer-val r-read) ∷ holds (p texts) ∷ holds (v texts) ∷ holds (p references) ∷ holds (v references) ∷ holds (p comments) ∷ holds
-          (v comments) ∷ holds (p features) ∷ holds (v features) ∷ holds (p qualifiers) ∷ holds (v qualifiers) ∷ holds (p letters) ∷ holds (v letters) ∷ vacant ∷ vacant ∷ []
+      abbrev part-6-holds : List Cell
+      part-6-holds = vacant ∷ holds (v s) ∷ holds (vint w64 at′) ∷ holds (v texts) ∷ holds (v references) ∷ holds (v comments) ∷ holds (v features) ∷ holds (v qualifiers) ∷ holds (v letters) ∷ holds (v told) ∷ holds (ReadAnswer-val r-read) ∷ holds (vptr (texts .ptr .0) (texts .ptr .1)) ∷ holds (v texts) ∷ holds
+          (vptr (references .ptr .0) (references .ptr .1)) ∷ holds (v references) ∷ holds (vptr (comments .ptr .0) (comments .ptr .1)) ∷ holds (v comments) ∷ holds (vptr (features .ptr .0) (features .ptr .1)) ∷ holds (v features) ∷ holds (vptr (qualifiers .ptr .0) (qualifiers .ptr .1)) ∷ holds (v qualifiers) ∷ holds
+          (vptr (letters .ptr .0) (letters .ptr .1)) ∷ holds (v letters) ∷ holds (vptr (told .ptr .0) (told .ptr .1)) ∷ holds (v told) ∷ []
 
-      part-3 : Sq W (has-read (standing part-3-holds)) (runs C Λ E body.t-14 (atRet E Post))
-      part-3 =
-          assigns ! (addr ! (from ! (fld ! refl (hop ! (look-in ! 24 (sub ! 0 refl (whole !))) (stop !))))) (from ! (stop !)) (init ! 38 refl (tt, tt)) $
-          assigns ! (agg ! (and-then ! (load ! (from ! (stop !)) (look ! 38 refl)) (and-then ! (load ! (from ! (fld ! refl (stop !))) (look-in ! 24 (sub ! 1 refl (whole !)))) (no-more !)))) (from ! (stop !)) (init ! 39 refl (tt, (tt, (record { fits = told-room .0 }, tt)))) $
+      part-6 : Sq W (‵ (flft κ₀ q₀) ∷ ‵ (flft κ₁ q₁) ∷ ‵ (flft κ₂ q₂) ∷ ‵ (flft κ₃ q₃) ∷ ‵ (flft κ₄ q₄) ∷ ‵ (flft κ₅ q₅) ∷ ‵ (flft κ₆ q₆) ∷ ‵ (flft κ₇ q₇) ∷ ‵ (texts-last texts-read) ∷ ‵ (references-last references-read) ∷ ‵ (comments-last comments-read) ∷ ‵ (features-last features-read) ∷ ‵ (qualifiers-last qualifiers-read) ∷ ‵
+          (letters-last letters-read) ∷ ‵ (told-own (told .now)) ∷ standing part-6-holds) (runs C Λ E body.t-16 (atRet E Post))
+      part-6 =
           lends-tell-read ! tt (
           calls-at ! fm (tell-read-contract 𝓤 H A mem run) known-tell-read to-tell-read (and-then ! (load ! (from ! (stop !)) (look ! 38 refl)) (and-then ! (load ! (from ! (stop !)) (look ! 16 refl)) (and-then ! (load ! (from ! (stop !)) (look ! 24 refl)) (no-more !))))
           (back-tell-read ! (λ r-tell-read r-tell-read-is told-tell-read told-tell-read-long said-tell-read.
           land ! (from ! (stop !)) (init ! 15 refl (uint-lawful 𝓤 H A W w64 .typed r-tell-read ((vint w64 r-tell-read) ∷ []) r-tell-read-is .0)) $
-          part-4 r-tell-read r-tell-read-is told-tell-read told-tell-read-long said-tell-read)))
+          part-7 r-tell-read r-tell-read-is told-tell-read told-tell-read-long said-tell-read)))
 
-    abbrev part-2-holds : List Cell
-    part-2-holds = vacant ∷ holds (v s) ∷ holds (vint w64 at′) ∷ holds (v texts) ∷ holds (v references) ∷ holds (v comments) ∷ holds (v features) ∷ holds (v qualifiers) ∷ holds (v letters) ∷ holds (v told) ∷ vacant ∷ holds (p texts) ∷ holds (v texts) ∷ holds (p references) ∷ holds (v references) ∷ holds (p comments) ∷ holds (v comments) ∷ holds
-        (p features) ∷ holds (v features) ∷ vacant ∷ vacant ∷ vacant ∷ vacant ∷ vacant ∷ vacant ∷ []
+      abbrev part-5-holds : List Cell
+      part-5-holds = vacant ∷ holds (v s) ∷ holds (vint w64 at′) ∷ holds (v texts) ∷ holds (v references) ∷ holds (v comments) ∷ holds (v features) ∷ holds (v qualifiers) ∷ holds (v letters) ∷ holds (v told) ∷ holds (ReadAnswer-val r-read) ∷ holds (vptr (texts .ptr .0) (texts .ptr .1)) ∷ holds (v texts) ∷ holds
+          (vptr (references .ptr .0) (references .ptr .1)) ∷ holds (v references) ∷ holds (vptr (comments .ptr .0) (comments .ptr .1)) ∷ holds (v comments) ∷ holds (vptr (features .ptr .0) (features .ptr .1)) ∷ holds (v features) ∷ holds (vptr (qualifiers .ptr .0) (qualifiers .ptr .1)) ∷ holds (v qualifiers) ∷ holds
+          (vptr (letters .ptr .0) (letters .ptr .1)) ∷ holds (v letters) ∷ vacant ∷ vacant ∷ []
 
-    part-2 : Sq W (has-first (standing part-2-holds)) (runs C Λ E body.t-9 (atRet E Post))
-    part-2 =
-        assigns ! (addr ! (from ! (fld ! refl (hop ! (look-in ! 23 (sub ! 0 refl (whole !))) (stop !))))) (from ! (stop !)) (init ! 35 refl (tt, tt)) $
-        assigns ! (agg ! (and-then ! (load ! (from ! (stop !)) (look ! 35 refl)) (and-then ! (load ! (from ! (fld ! refl (stop !))) (look-in ! 23 (sub ! 1 refl (whole !)))) (no-more !)))) (from ! (stop !)) (init ! 36 refl (tt, (tt, (record { fits = qualifiers-room .0 }, tt)))) $
-        assigns ! (addr ! (from ! (fld ! refl (hop ! (look-in ! 24 (sub ! 0 refl (whole !))) (stop !))))) (from ! (stop !)) (init ! 37 refl (tt, tt)) $
-        assigns ! (agg ! (and-then ! (load ! (from ! (stop !)) (look ! 37 refl)) (and-then ! (load ! (from ! (fld ! refl (stop !))) (look-in ! 24 (sub ! 1 refl (whole !)))) (no-more !)))) (from ! (stop !)) (init ! 38 refl (tt, (tt, (record { fits = letters-room .0 }, tt)))) $
+      part-5 : Sq W (‵ (flft κ₀ q₀) ∷ ‵ (flft κ₁ q₁) ∷ ‵ (flft κ₂ q₂) ∷ ‵ (flft κ₃ q₃) ∷ ‵ (flft κ₄ q₄) ∷ ‵ (flft κ₅ q₅) ∷ ‵ (flft κ₆ q₆) ∷ ‵ (flft κ₇ q₇) ∷ ‵ (texts-last texts-read) ∷ ‵ (references-last references-read) ∷ ‵ (comments-last comments-read) ∷ ‵ (features-last features-read) ∷ ‵ (qualifiers-last qualifiers-read) ∷ ‵
+          (letters-last letters-read) ∷ ‵ (told-own (told .now)) ∷ standing part-5-holds) (runs C Λ E body.t-14 (atRet E Post))
+      part-5 =
+          assigns ! (addr ! (from ! (fld ! refl (hop ! (look-in ! 24 (sub ! 0 refl (whole !))) (stop !))))) (from ! (stop !)) (init ! 38 refl (tt, tt)) $
+          assigns ! (agg ! (and-then ! (load ! (from ! (stop !)) (look ! 38 refl)) (and-then ! (load ! (from ! (fld ! refl (stop !))) (look-in ! 24 (sub ! 1 refl (whole !)))) (no-more !)))) (from ! (stop !)) (init ! 39 refl (tt, (tt, (record { fits = told-room .0 }, tt)))) $
+          part-6
+
+    abbrev part-4-holds : List Cell
+    part-4-holds = vacant ∷ holds (v s) ∷ holds (vint w64 at′) ∷ holds (v texts) ∷ holds (v references) ∷ holds (v comments) ∷ holds (v features) ∷ holds (v qualifiers) ∷ holds (v letters) ∷ holds (v told) ∷ vacant ∷ holds (vptr (texts .ptr .0) (texts .ptr .1)) ∷ holds (v texts) ∷ holds (vptr (references .ptr .0) (references .ptr .1)) ∷ holds
+        (v references) ∷ holds (vptr (comments .ptr .0) (comments .ptr .1)) ∷ holds (v comments) ∷ holds (vptr (features .ptr .0) (features .ptr .1)) ∷ holds (v features) ∷ holds (vptr (qualifiers .ptr .0) (qualifiers .ptr .1)) ∷ holds (v qualifiers) ∷ holds (vptr (letters .ptr .0) (letters .ptr .1)) ∷ holds (v letters) ∷ vacant ∷ vacant ∷ []
+
+    part-4 : Sq W (‵ (flft κ₀ q₀) ∷ ‵ (flft κ₁ q₁) ∷ ‵ (flft κ₂ q₂) ∷ ‵ (flft κ₃ q₃) ∷ ‵ (flft κ₄ q₄) ∷ ‵ (flft κ₅ q₅) ∷ ‵ (flft κ₆ q₆) ∷ ‵ (flft κ₇ q₇) ∷ ‵ s-own ∷ ‵ (texts-own (texts .now)) ∷ ‵ (references-own (references .now)) ∷ ‵ (comments-own (comments .now)) ∷ ‵ (features-own (features .now)) ∷ ‵ (qualifiers-own (qualifiers .now)) ∷ ‵
+        (letters-own (letters .now)) ∷ ‵ (told-own (told .now)) ∷ standing part-4-holds) (runs C Λ E body.t-13 (atRet E Post))
+    part-4 =
         lends-read ! tt (
         calls-at ! fm (read-contract 𝓤 H A mem run) known-read to-read
         (and-then ! (load ! (from ! (stop !)) (look ! 4 refl))
@@ -404,21 +411,44 @@ module _ {M : Type 1} (𝓤 : URA M) (H : Heap 𝓤) (A : Atoms 𝓤) (W : Given
         (and-then ! (load ! (from ! (stop !)) (look ! 17 refl)) (and-then ! (load ! (from ! (stop !)) (look ! 19 refl)) (and-then ! (load ! (from ! (stop !)) (look ! 21 refl)) (and-then ! (load ! (from ! (stop !)) (look ! 23 refl)) (and-then ! (load ! (from ! (stop !)) (look ! 25 refl)) (no-more !)))))))))
         (back-read ! (λ r-read r-read-is texts-read references-read comments-read features-read qualifiers-read letters-read texts-read-long references-read-long comments-read-long features-read-long qualifiers-read-long letters-read-long said-read.
         land ! (from ! (stop !)) (init ! 25 refl (EL.lawful ReadAnswer-is.the-type ReadAnswer-has.the-laws 𝓤 H A W tt .typed r-read ((ReadAnswer-val r-read) ∷ []) r-read-is .0)) $
-        part-3 r-read r-read-is texts-read references-read comments-read features-read qualifiers-read letters-read texts-read-long references-read-long comments-read-long features-read-long qualifiers-read-long letters-read-long said-read)))
+        part-5 r-read r-read-is texts-read references-read comments-read features-read qualifiers-read letters-read texts-read-long references-read-long comments-read-long features-read-long qualifiers-read-long letters-read-long said-read)))
+
+    abbrev part-3-holds : List Cell
+    part-3-holds = vacant ∷ holds (v s) ∷ holds (vint w64 at′) ∷ holds (v texts) ∷ holds (v references) ∷ holds (v comments) ∷ holds (v features) ∷ holds (v qualifiers) ∷ holds (v letters) ∷ holds (v told) ∷ vacant ∷ holds (vptr (texts .ptr .0) (texts .ptr .1)) ∷ holds (v texts) ∷ holds (vptr (references .ptr .0) (references .ptr .1)) ∷ holds
+        (v references) ∷ holds (vptr (comments .ptr .0) (comments .ptr .1)) ∷ holds (v comments) ∷ holds (vptr (features .ptr .0) (features .ptr .1)) ∷ holds (v features) ∷ vacant ∷ vacant ∷ vacant ∷ vacant ∷ vacant ∷ vacant ∷ []
+
+    part-3 : Sq W (‵ (flft κ₀ q₀) ∷ ‵ (flft κ₁ q₁) ∷ ‵ (flft κ₂ q₂) ∷ ‵ (flft κ₃ q₃) ∷ ‵ (flft κ₄ q₄) ∷ ‵ (flft κ₅ q₅) ∷ ‵ (flft κ₆ q₆) ∷ ‵ (flft κ₇ q₇) ∷ ‵ s-own ∷ ‵ (texts-own (texts .now)) ∷ ‵ (references-own (references .now)) ∷ ‵ (comments-own (comments .now)) ∷ ‵ (features-own (features .now)) ∷ ‵ (qualifiers-own (qualifiers .now)) ∷ ‵
+        (letters-own (letters .now)) ∷ ‵ (told-own (told .now)) ∷ standing part-3-holds) (runs C Λ E body.t-9 (atRet E Post))
+    part-3 =
+        assigns ! (addr ! (from ! (fld ! refl (hop ! (look-in ! 23 (sub ! 0 refl (whole !))) (stop !))))) (from ! (stop !)) (init ! 35 refl (tt, tt)) $
+        assigns ! (agg ! (and-then ! (load ! (from ! (stop !)) (look ! 35 refl)) (and-then ! (load ! (from ! (fld ! refl (stop !))) (look-in ! 23 (sub ! 1 refl (whole !)))) (no-more !)))) (from ! (stop !)) (init ! 36 refl (tt, (tt, (record { fits = qualifiers-room .0 }, tt)))) $
+        assigns ! (addr ! (from ! (fld ! refl (hop ! (look-in ! 24 (sub ! 0 refl (whole !))) (stop !))))) (from ! (stop !)) (init ! 37 refl (tt, tt)) $
+        assigns ! (agg ! (and-then ! (load ! (from ! (stop !)) (look ! 37 refl)) (and-then ! (load ! (from ! (fld ! refl (stop !))) (look-in ! 24 (sub ! 1 refl (whole !)))) (no-more !)))) (from ! (stop !)) (init ! 38 refl (tt, (tt, (record { fits = letters-room .0 }, tt)))) $
+        part-4
+
+    abbrev part-2-holds : List Cell
+    part-2-holds = vacant ∷ holds (v s) ∷ holds (vint w64 at′) ∷ holds (v texts) ∷ holds (v references) ∷ holds (v comments) ∷ holds (v features) ∷ holds (v qualifiers) ∷ holds (v letters) ∷ holds (v told) ∷ vacant ∷ holds (vptr (texts .ptr .0) (texts .ptr .1)) ∷ holds (v texts) ∷ holds (vptr (references .ptr .0) (references .ptr .1)) ∷ holds
+        (v references) ∷ vacant ∷ vacant ∷ vacant ∷ vacant ∷ vacant ∷ vacant ∷ vacant ∷ vacant ∷ vacant ∷ vacant ∷ []
+
+    part-2 : Sq W (‵ (flft κ₀ q₀) ∷ ‵ (flft κ₁ q₁) ∷ ‵ (flft κ₂ q₂) ∷ ‵ (flft κ₃ q₃) ∷ ‵ (flft κ₄ q₄) ∷ ‵ (flft κ₅ q₅) ∷ ‵ (flft κ₆ q₆) ∷ ‵ (flft κ₇ q₇) ∷ ‵ s-own ∷ ‵ (texts-own (texts .now)) ∷ ‵ (references-own (references .now)) ∷ ‵ (comments-own (comments .now)) ∷ ‵ (features-own (features .now)) ∷ ‵ (qualifiers-own (qualifiers .now)) ∷ ‵
+        (letters-own (letters .now)) ∷ ‵ (told-own (told .now)) ∷ standing part-2-holds) (runs C Λ E body.t-5 (atRet E Post))
+    part-2 =
+        assigns ! (addr ! (from ! (fld ! refl (hop ! (look-in ! 21 (sub ! 0 refl (whole !))) (stop !))))) (from ! (stop !)) (init ! 31 refl (tt, tt)) $
+        assigns ! (agg ! (and-then ! (load ! (from ! (stop !)) (look ! 31 refl)) (and-then ! (load ! (from ! (fld ! refl (stop !))) (look-in ! 21 (sub ! 1 refl (whole !)))) (no-more !)))) (from ! (stop !)) (init ! 32 refl (tt, (tt, (record { fits = comments-room .0 }, tt)))) $
+        assigns ! (addr ! (from ! (fld ! refl (hop ! (look-in ! 22 (sub ! 0 refl (whole !))) (stop !))))) (from ! (stop !)) (init ! 33 refl (tt, tt)) $
+        assigns ! (agg ! (and-then ! (load ! (from ! (stop !)) (look ! 33 refl)) (and-then ! (load ! (from ! (fld ! refl (stop !))) (look-in ! 22 (sub ! 1 refl (whole !)))) (no-more !)))) (from ! (stop !)) (init ! 34 refl (tt, (tt, (record { fits = features-room .0 }, tt)))) $
+        part-3
 
     abbrev part-1-holds : List Cell
     part-1-holds = vacant ∷ holds (v s) ∷ holds (vint w64 at′) ∷ holds (v texts) ∷ holds (v references) ∷ holds (v comments) ∷ holds (v features) ∷ holds (v qualifiers) ∷ holds (v letters) ∷ holds (v told) ∷ vacant ∷ vacant ∷ vacant ∷ vacant ∷ vacant ∷ vacant ∷ vacant ∷ vacant ∷ vacant ∷ vacant ∷ vacant ∷ vacant ∷ vacant ∷ vacant ∷ vacant ∷ []
 
-    part-1 : Sq W (has-first (standing part-1-holds)) (runs C Λ E body.t-1 (atRet E Post))
+    part-1 : Sq W (‵ (flft κ₀ q₀) ∷ ‵ (flft κ₁ q₁) ∷ ‵ (flft κ₂ q₂) ∷ ‵ (flft κ₃ q₃) ∷ ‵ (flft κ₄ q₄) ∷ ‵ (flft κ₅ q₅) ∷ ‵ (flft κ₆ q₆) ∷ ‵ (flft κ₇ q₇) ∷ ‵ s-own ∷ ‵ (texts-own (texts .now)) ∷ ‵ (references-own (references .now)) ∷ ‵ (comments-own (comments .now)) ∷ ‵ (features-own (features .now)) ∷ ‵ (qualifiers-own (qualifiers .now)) ∷ ‵
+        (letters-own (letters .now)) ∷ ‵ (told-own (told .now)) ∷ standing part-1-holds) (runs C Λ E body.t-1 (atRet E Post))
     part-1 =
         assigns ! (addr ! (from ! (fld ! refl (hop ! (look-in ! 19 (sub ! 0 refl (whole !))) (stop !))))) (from ! (stop !)) (init ! 27 refl (tt, tt)) $
         assigns ! (agg ! (and-then ! (load ! (from ! (stop !)) (look ! 27 refl)) (and-then ! (load ! (from ! (fld ! refl (stop !))) (look-in ! 19 (sub ! 1 refl (whole !)))) (no-more !)))) (from ! (stop !)) (init ! 28 refl (tt, (tt, (record { fits = texts-room .0 }, tt)))) $
         assigns ! (addr ! (from ! (fld ! refl (hop ! (look-in ! 20 (sub ! 0 refl (whole !))) (stop !))))) (from ! (stop !)) (init ! 29 refl (tt, tt)) $
         assigns ! (agg ! (and-then ! (load ! (from ! (stop !)) (look ! 29 refl)) (and-then ! (load ! (from ! (fld ! refl (stop !))) (look-in ! 20 (sub ! 1 refl (whole !)))) (no-more !)))) (from ! (stop !)) (init ! 30 refl (tt, (tt, (record { fits = references-room .0 }, tt)))) $
-        assigns ! (addr ! (from ! (fld ! refl (hop ! (look-in ! 21 (sub ! 0 refl (whole !))) (stop !))))) (from ! (stop !)) (init ! 31 refl (tt, tt)) $
-        assigns ! (agg ! (and-then ! (load ! (from ! (stop !)) (look ! 31 refl)) (and-then ! (load ! (from ! (fld ! refl (stop !))) (look-in ! 21 (sub ! 1 refl (whole !)))) (no-more !)))) (from ! (stop !)) (init ! 32 refl (tt, (tt, (record { fits = comments-room .0 }, tt)))) $
-        assigns ! (addr ! (from ! (fld ! refl (hop ! (look-in ! 22 (sub ! 0 refl (whole !))) (stop !))))) (from ! (stop !)) (init ! 33 refl (tt, tt)) $
-        assigns ! (agg ! (and-then ! (load ! (from ! (stop !)) (look ! 33 refl)) (and-then ! (load ! (from ! (fld ! refl (stop !))) (look-in ! 22 (sub ! 1 refl (whole !)))) (no-more !)))) (from ! (stop !)) (init ! 34 refl (tt, (tt, (record { fits = features-room .0 }, tt)))) $
         part-2
 
     begins : Sq W (locals 𝓤 H A E (vacant ∷ vacant ∷ vacant ∷ vacant ∷ vacant ∷ vacant ∷ vacant ∷ vacant ∷ vacant ∷ vacant ∷ vacant ∷ vacant ∷ vacant ∷ vacant ∷ vacant ∷ vacant ∷ vacant ∷ vacant ∷ vacant ∷ vacant ∷ vacant ∷ vacant ∷ vacant ∷ vacant ∷ vacant ∷ []) (raw (Dies 𝓤 H A E) ∷ Had []))

@@ -118,12 +118,9 @@ How-val = LL.val How-is.the-type How-has.the-laws
 abbrev WriteAnswer-val : WriteAnswer → Val
 WriteAnswer-val = EL.val WriteAnswer-is.the-type WriteAnswer-has.the-laws
 
--- the machine values of a slice and of its pointer
+-- the machine value of a slice
 abbrev v : {X : Type 0} → RefT (List X) → Val
 v r = sliceVal (r .ptr) (length (r .now))
-
-abbrev p : {X : Type 0} → RefT (List X) → Val
-p r = vptr (r .ptr .0) (r .ptr .1)
 
 module _ {M : Type 1} (𝓤 : URA M) (H : Heap 𝓤) (A : Atoms 𝓤) (mem : Memory → SProp 𝓤) (run : Routine → Fun 𝓤) where
   -- the contracts that the proof cites
@@ -194,10 +191,9 @@ module _ {M : Type 1} (𝓤 : URA M) (H : Heap 𝓤) (A : Atoms 𝓤) (W : Given
   Had Γ = (‵ (flft κ₀ q₀) ⊛ ‵ (flft κ₁ q₁) ⊛ ‵ (flft κ₂ q₂) ⊛ ‵ (flft κ₃ q₃) ⊛ ‵ (flft κ₄ q₄) ⊛ ‵ (flft κ₅ q₅) ⊛ ‵ (flft κ₆ q₆) ⊛ ‵ (flft κ₇ q₇) ⊛ ‵ (flft κ₈ q₈) ⊛ ‵ ftrue) ∷ ‵
       (owns (MutSlice (named 0) κ₀ u8 ∷ ShrSlice (named 1) κ₁ u8 ∷ ShrSlice (named 2) κ₂ usize ∷ ShrSlice (named 3) κ₃ usize ∷ ShrSlice (named 4) κ₄ Feature-is.the-row ∷ ShrSlice (named 5) κ₅ usize ∷ ShrSlice (named 6) κ₆ u8 ∷ ShrSlice (named 7) κ₇ usize ∷ usize ∷ bool ∷ bool ∷ bool ∷ MutSlice (named 8) κ₈ usize ∷ []) a at-entry) ∷ Γ
 
-  abbrev has-first : List (Item 𝓤) → List (Item 𝓤)
-  has-first Γ = ‵ (flft κ₀ q₀) ∷ ‵ (flft κ₁ q₁) ∷ ‵ (flft κ₂ q₂) ∷ ‵ (flft κ₃ q₃) ∷ ‵ (flft κ₄ q₄) ∷ ‵ (flft κ₅ q₅) ∷ ‵ (flft κ₆ q₆) ∷ ‵ (flft κ₇ q₇) ∷ ‵ (flft κ₈ q₈) ∷ ‵ (out-own (out .now)) ∷ ‵ texts-own ∷ ‵ references-own ∷ ‵ comments-own ∷ ‵ features-own ∷ ‵ qualifiers-own ∷ ‵ letters-own ∷ ‵ head-own ∷ ‵ (told-own (told .now)) ∷ Γ
-
-  opened : {K : Type 0} {Γ : List (Item 𝓤)} {G : Goal 𝓤 H} → K → Seq K W (has-first Γ) G → Seq K W (Had Γ) G
+  opened : {K : Type 0} {Γ : List (Item 𝓤)} {G : Goal 𝓤 H} → K → Seq K W
+      (‵ (flft κ₀ q₀) ∷ ‵ (flft κ₁ q₁) ∷ ‵ (flft κ₂ q₂) ∷ ‵ (flft κ₃ q₃) ∷ ‵ (flft κ₄ q₄) ∷ ‵ (flft κ₅ q₅) ∷ ‵ (flft κ₆ q₆) ∷ ‵ (flft κ₇ q₇) ∷ ‵ (flft κ₈ q₈) ∷ ‵ (out-own (out .now)) ∷ ‵ texts-own ∷ ‵ references-own ∷ ‵ comments-own ∷ ‵ features-own ∷ ‵ qualifiers-own ∷ ‵ letters-own ∷ ‵ head-own ∷ ‵ (told-own (told .now)) ∷ Γ) G → Seq K W (Had Γ)
+      G
   opened t then =
       splits t (‵ (flft κ₀ q₀) ∷ ‵ (flft κ₁ q₁) ∷ ‵ (flft κ₂ q₂) ∷ ‵ (flft κ₃ q₃) ∷ ‵ (flft κ₄ q₄) ∷ ‵ (flft κ₅ q₅) ∷ ‵ (flft κ₆ q₆) ∷ ‵ (flft κ₇ q₇) ∷ ‵ (flft κ₈ q₈) ∷ []) (id⊢ 𝓤 _) $
       move t (9 ∷ []) $
@@ -237,7 +233,8 @@ module _ {M : Type 1} (𝓤 : URA M) (H : Heap 𝓤) (A : Atoms 𝓤) (W : Given
 
     lends-head-from : {K : Type 0} {Γ : List (Item 𝓤)} {G : Goal 𝓤 H} → K → Soaks G →
         (Seq K W (raw (head-from-contract 𝓤 H A mem run .pre to-head-from) ∷ ‵ (flft κ₀ q₀) ∷ ‵ (flft κ₁ q₁) ∷ ‵ (flft κ₂ q₂) ∷ ‵ (flft κ₃ q₃) ∷ ‵ (flft κ₄ q₄) ∷ ‵ (flft κ₅ q₅) ∷ ‵ (flft κ₆ q₆) ∷ ‵ (flft κ₈ q₈) ∷ ‵ (out-own (out .now)) ∷ ‵ texts-own ∷ ‵ references-own ∷ ‵ comments-own ∷ ‵ features-own ∷ ‵ qualifiers-own ∷ ‵ letters-own ∷ ‵
-        (told-own (told .now)) ∷ Γ) G) → Seq K W (has-first Γ) G
+        (told-own (told .now)) ∷ Γ) G) → Seq K W (‵ (flft κ₀ q₀) ∷ ‵ (flft κ₁ q₁) ∷ ‵ (flft κ₂ q₂) ∷ ‵ (flft κ₃ q₃) ∷ ‵ (flft κ₄ q₄) ∷ ‵ (flft κ₅ q₅) ∷ ‵ (flft κ₆ q₆) ∷ ‵ (flft κ₇ q₇) ∷ ‵ (flft κ₈ q₈) ∷ ‵ (out-own (out .now)) ∷ ‵ texts-own ∷ ‵ references-own ∷ ‵ comments-own ∷ ‵ features-own ∷ ‵ qualifiers-own ∷ ‵ letters-own ∷ ‵ head-own ∷ ‵
+        (told-own (told .now)) ∷ Γ) G
     lends-head-from t z next =
         move t (7 ∷ 16 ∷ []) $
         group t 2 $
@@ -270,9 +267,6 @@ module _ {M : Type 1} (𝓤 : URA M) (H : Heap 𝓤) (A : Atoms 𝓤) (W : Given
         next r-head-from r-head-from-is said-head-from))))
 
     module _ (r-head-from : Head) (r-head-from-is : Is Head-is.the-row r-head-from ((Head-val r-head-from) ∷ [])) (said-head-from : Said-head-from r-head-from) where
-      abbrev has-head-from : List (Item 𝓤) → List (Item 𝓤)
-      has-head-from Γ = ‵ (flft κ₀ q₀) ∷ ‵ (flft κ₁ q₁) ∷ ‵ (flft κ₂ q₂) ∷ ‵ (flft κ₃ q₃) ∷ ‵ (flft κ₄ q₄) ∷ ‵ (flft κ₅ q₅) ∷ ‵ (flft κ₆ q₆) ∷ ‵ (flft κ₇ q₇) ∷ ‵ (flft κ₈ q₈) ∷ ‵ (out-own (out .now)) ∷ ‵ texts-own ∷ ‵ references-own ∷ ‵ comments-own ∷ ‵ features-own ∷ ‵ qualifiers-own ∷ ‵ letters-own ∷ ‵ (told-own (told .now)) ∷ Γ
-
       abbrev made-How : How
       made-How = record { keeping = keep; width = width; truncate = truncate; escape = escape }
 
@@ -298,7 +292,8 @@ module _ {M : Type 1} (𝓤 : URA M) (H : Heap 𝓤) (A : Atoms 𝓤) (W : Given
           group ! 8 $
           done !
 
-      lends-write : {K : Type 0} {Γ : List (Item 𝓤)} {G : Goal 𝓤 H} → K → Soaks G → (Seq K W (raw (write-contract 𝓤 H A mem run .pre to-write) ∷ ‵ (flft κ₇ q₇) ∷ ‵ (flft κ₈ q₈) ∷ ‵ (told-own (told .now)) ∷ Γ) G) → Seq K W (has-head-from Γ) G
+      lends-write : {K : Type 0} {Γ : List (Item 𝓤)} {G : Goal 𝓤 H} → K → Soaks G → (Seq K W (raw (write-contract 𝓤 H A mem run .pre to-write) ∷ ‵ (flft κ₇ q₇) ∷ ‵ (flft κ₈ q₈) ∷ ‵ (told-own (told .now)) ∷ Γ) G) → Seq K W
+          (‵ (flft κ₀ q₀) ∷ ‵ (flft κ₁ q₁) ∷ ‵ (flft κ₂ q₂) ∷ ‵ (flft κ₃ q₃) ∷ ‵ (flft κ₄ q₄) ∷ ‵ (flft κ₅ q₅) ∷ ‵ (flft κ₆ q₆) ∷ ‵ (flft κ₇ q₇) ∷ ‵ (flft κ₈ q₈) ∷ ‵ (out-own (out .now)) ∷ ‵ texts-own ∷ ‵ references-own ∷ ‵ comments-own ∷ ‵ features-own ∷ ‵ qualifiers-own ∷ ‵ letters-own ∷ ‵ (told-own (told .now)) ∷ Γ) G
       lends-write t z next =
           move t (0 ∷ 1 ∷ 2 ∷ 3 ∷ 4 ∷ 5 ∷ 6 ∷ 9 ∷ 10 ∷ 11 ∷ 12 ∷ 13 ∷ 14 ∷ 15 ∷ []) $
           group t 14 $
@@ -334,9 +329,6 @@ module _ {M : Type 1} (𝓤 : URA M) (H : Heap 𝓤) (A : Atoms 𝓤) (W : Given
           next r-write r-write-is (ws .0) out-long said-write)))))
 
       module _ (r-write : WriteAnswer) (r-write-is : Is WriteAnswer-is.the-row r-write ((WriteAnswer-val r-write) ∷ [])) (out-write : List ℕ) (out-write-long : length out-write ≡ length (out .now)) (said-write : Said-write r-write out-write) where
-        abbrev has-write : List (Item 𝓤) → List (Item 𝓤)
-        has-write Γ = ‵ (flft κ₀ q₀) ∷ ‵ (flft κ₁ q₁) ∷ ‵ (flft κ₂ q₂) ∷ ‵ (flft κ₃ q₃) ∷ ‵ (flft κ₄ q₄) ∷ ‵ (flft κ₅ q₅) ∷ ‵ (flft κ₆ q₆) ∷ ‵ (flft κ₇ q₇) ∷ ‵ (flft κ₈ q₈) ∷ ‵ (out-last out-write) ∷ ‵ (told-own (told .now)) ∷ Γ
-
         -- the call of `tell_written`
         abbrev lfts-tell-written : Lft × Unit {0}
         lfts-tell-written = (κ₈, tt)
@@ -356,7 +348,7 @@ module _ {M : Type 1} (𝓤 : URA M) (H : Heap 𝓤) (A : Atoms 𝓤) (W : Given
             done !
 
         lends-tell-written : {K : Type 0} {Γ : List (Item 𝓤)} {G : Goal 𝓤 H} → K → Soaks G → (Seq K W (raw (tell-written-contract 𝓤 H A mem run .pre to-tell-written) ∷ ‵ (flft κ₀ q₀) ∷ ‵ (flft κ₁ q₁) ∷ ‵ (flft κ₂ q₂) ∷ ‵ (flft κ₃ q₃) ∷ ‵ (flft κ₄ q₄) ∷ ‵ (flft κ₅ q₅) ∷ ‵ (flft κ₆ q₆) ∷ ‵ (flft κ₇ q₇) ∷ ‵ (out-last out-write) ∷ Γ) G) → Seq K W
-            (has-write Γ) G
+            (‵ (flft κ₀ q₀) ∷ ‵ (flft κ₁ q₁) ∷ ‵ (flft κ₂ q₂) ∷ ‵ (flft κ₃ q₃) ∷ ‵ (flft κ₄ q₄) ∷ ‵ (flft κ₅ q₅) ∷ ‵ (flft κ₆ q₆) ∷ ‵ (flft κ₇ q₇) ∷ ‵ (flft κ₈ q₈) ∷ ‵ (out-last out-write) ∷ ‵ (told-own (told .now)) ∷ Γ) G
         lends-tell-written t z next =
             move t (8 ∷ 10 ∷ []) $
             group t 2 $
@@ -390,16 +382,16 @@ module _ {M : Type 1} (𝓤 : URA M) (H : Heap 𝓤) (A : Atoms 𝓤) (W : Given
             next r-tell-written r-tell-written-is (ws .0) told-long said-tell-written)))))
 
         module _ (r-tell-written : ℕ) (r-tell-written-is : Is usize r-tell-written ((vint w64 r-tell-written) ∷ [])) (told-tell-written : List ℕ) (told-tell-written-long : length told-tell-written ≡ length (told .now)) (said-tell-written : Said-tell-written r-tell-written told-tell-written) where
-          abbrev has-tell-written : List (Item 𝓤) → List (Item 𝓤)
-          has-tell-written Γ = ‵ (flft κ₀ q₀) ∷ ‵ (flft κ₁ q₁) ∷ ‵ (flft κ₂ q₂) ∷ ‵ (flft κ₃ q₃) ∷ ‵ (flft κ₄ q₄) ∷ ‵ (flft κ₅ q₅) ∷ ‵ (flft κ₆ q₆) ∷ ‵ (flft κ₇ q₇) ∷ ‵ (flft κ₈ q₈) ∷ ‵ (out-last out-write) ∷ ‵ (told-last told-tell-written) ∷ Γ
-
           -- the law, and the end
           ended : WriteTold keep width truncate escape (roomsIn (texts .now) (references .now) (comments .now) (flat (features .now)) (qualifiers .now) (letters .now)) (head .now) (out .now) (out-write) (told .now) (told-tell-written) r-tell-written
           ended = write-told width truncate escape rooms (head .now) r-head-from (out .now) out-write (told .now) told-tell-written r-tell-written r-write said-head-from said-tell-written keep said-write
 
-          exits : ent 𝓤 (⋆ 𝓤 H A (has-tell-written [])) (Post (vint w64 r-tell-written))
+          abbrev at-last : List (Item 𝓤)
+          at-last = ‵ (flft κ₀ q₀) ∷ ‵ (flft κ₁ q₁) ∷ ‵ (flft κ₂ q₂) ∷ ‵ (flft κ₃ q₃) ∷ ‵ (flft κ₄ q₄) ∷ ‵ (flft κ₅ q₅) ∷ ‵ (flft κ₆ q₆) ∷ ‵ (flft κ₇ q₇) ∷ ‵ (flft κ₈ q₈) ∷ ‵ (out-last out-write) ∷ ‵ (told-last told-tell-written) ∷ []
+
+          exits : ent 𝓤 (⋆ 𝓤 H A at-last) (Post (vint w64 r-tell-written))
           exits =
-              qed W (has-tell-written []) ∵
+              qed W at-last ∵
               suffices ! _ (ends-at 𝓤 H A f.ended stayed (f.clauses 𝓤 H A mem run) W bound (vint w64 r-tell-written) r-tell-written (out-write, (tt, (tt, (tt, (tt, (tt, (tt, (tt, (tt, (tt, (tt, (tt, (told-tell-written, tt))))))))))))) (out-write-long, (tt, (tt, (tt, (tt, (tt, (tt, (tt, (tt, (tt, (tt, (tt, (told-tell-written-long, tt)))))))))))))) $
               says ! ended $
               owned ! usize (Is usize) (uint-makes 𝓤 H A W w64) r-tell-written ((vint w64 r-tell-written) ∷ []) r-tell-written-is $
@@ -408,36 +400,45 @@ module _ {M : Type 1} (𝓤 : URA M) (H : Heap 𝓤) (A : Atoms 𝓤) (W : Given
               group ! 10 $ frame ! $ group ! 14 $
               done !
 
-          abbrev part-4-holds : List Cell
-          part-4-holds = holds (vint w64 r-tell-written) ∷ holds (v out) ∷ holds (v texts) ∷ holds (v references) ∷ holds (v comments) ∷ holds (v features) ∷ holds (v qualifiers) ∷ holds (v letters) ∷ holds (v head) ∷ holds (vint w64 width) ∷ holds (vbool keep) ∷ holds (vbool truncate) ∷ holds (vbool escape) ∷ holds (v told) ∷ holds
-              (WriteAnswer-val r-write) ∷ holds (p out) ∷ holds (v out) ∷ holds (Head-val r-head-from) ∷ holds (How-val made-How) ∷ holds (p told) ∷ holds (v told) ∷ []
+          abbrev part-6-holds : List Cell
+          part-6-holds = holds (vint w64 r-tell-written) ∷ holds (v out) ∷ holds (v texts) ∷ holds (v references) ∷ holds (v comments) ∷ holds (v features) ∷ holds (v qualifiers) ∷ holds (v letters) ∷ holds (v head) ∷ holds (vint w64 width) ∷ holds (vbool keep) ∷ holds (vbool truncate) ∷ holds (vbool escape) ∷ holds (v told) ∷ holds
+              (WriteAnswer-val r-write) ∷ holds (vptr (out .ptr .0) (out .ptr .1)) ∷ holds (v out) ∷ holds (Head-val r-head-from) ∷ holds (How-val made-How) ∷ holds (vptr (told .ptr .0) (told .ptr .1)) ∷ holds (v told) ∷ []
 
-          part-4 : Sq W (has-tell-written (standing part-4-holds)) (runs C Λ E body.t-9 (atRet E Post))
-          part-4 =
-              returns ! (look ! 11 refl) $ frees-all ! (has-tell-written [])
+          part-6 : Sq W (‵ (flft κ₀ q₀) ∷ ‵ (flft κ₁ q₁) ∷ ‵ (flft κ₂ q₂) ∷ ‵ (flft κ₃ q₃) ∷ ‵ (flft κ₄ q₄) ∷ ‵ (flft κ₅ q₅) ∷ ‵ (flft κ₆ q₆) ∷ ‵ (flft κ₇ q₇) ∷ ‵ (flft κ₈ q₈) ∷ ‵ (out-last out-write) ∷ ‵ (told-last told-tell-written) ∷ standing part-6-holds) (runs C Λ E body.t-9 (atRet E Post))
+          part-6 =
+              returns ! (look ! 11 refl) $ frees-all ! at-last
               (holds (vint w64 r-tell-written) ∷ holds (v out) ∷ holds (v texts) ∷ holds (v references) ∷ holds (v comments) ∷ holds (v features) ∷ holds (v qualifiers) ∷ holds (v letters) ∷ holds (v head) ∷ holds (vint w64 width) ∷ holds (vbool keep) ∷ holds (vbool truncate) ∷ holds (vbool escape) ∷ holds (v told) ∷ holds
-              (WriteAnswer-val r-write) ∷ holds (p out) ∷ holds (v out) ∷ holds (Head-val r-head-from) ∷ holds (How-val made-How) ∷ holds (p told) ∷ holds (v told) ∷ []) tt exits
+              (WriteAnswer-val r-write) ∷ holds (vptr (out .ptr .0) (out .ptr .1)) ∷ holds (v out) ∷ holds (Head-val r-head-from) ∷ holds (How-val made-How) ∷ holds (vptr (told .ptr .0) (told .ptr .1)) ∷ holds (v told) ∷ []) tt exits
 
-        abbrev part-3-holds : List Cell
-        part-3-holds = vacant ∷ holds (v out) ∷ holds (v texts) ∷ holds (v references) ∷ holds (v comments) ∷ holds (v features) ∷ holds (v qualifiers) ∷ holds (v letters) ∷ holds (v head) ∷ holds (vint w64 width) ∷ holds (vbool keep) ∷ holds (vbool truncate) ∷ holds (vbool escape) ∷ holds (v told) ∷ holds (WriteAnswer-val r-write) ∷ holds (p out)
-            ∷ holds (v out) ∷ holds (Head-val r-head-from) ∷ holds (How-val made-How) ∷ vacant ∷ vacant ∷ []
+        abbrev part-5-holds : List Cell
+        part-5-holds = vacant ∷ holds (v out) ∷ holds (v texts) ∷ holds (v references) ∷ holds (v comments) ∷ holds (v features) ∷ holds (v qualifiers) ∷ holds (v letters) ∷ holds (v head) ∷ holds (vint w64 width) ∷ holds (vbool keep) ∷ holds (vbool truncate) ∷ holds (vbool escape) ∷ holds (v told) ∷ holds (WriteAnswer-val r-write) ∷ holds
+            (vptr (out .ptr .0) (out .ptr .1)) ∷ holds (v out) ∷ holds (Head-val r-head-from) ∷ holds (How-val made-How) ∷ holds (vptr (told .ptr .0) (told .ptr .1)) ∷ holds (v told) ∷ []
 
-        part-3 : Sq W (has-write (standing part-3-holds)) (runs C Λ E body.t-6 (atRet E Post))
-        part-3 =
-            assigns ! (addr ! (from ! (fld ! refl (hop ! (look-in ! 24 (sub ! 0 refl (whole !))) (stop !))))) (from ! (stop !)) (init ! 30 refl (tt, tt)) $
-            assigns ! (agg ! (and-then ! (load ! (from ! (stop !)) (look ! 30 refl)) (and-then ! (load ! (from ! (fld ! refl (stop !))) (look-in ! 24 (sub ! 1 refl (whole !)))) (no-more !)))) (from ! (stop !)) (init ! 31 refl (tt, (tt, (record { fits = told-room .0 }, tt)))) $
+        part-5 : Sq W (‵ (flft κ₀ q₀) ∷ ‵ (flft κ₁ q₁) ∷ ‵ (flft κ₂ q₂) ∷ ‵ (flft κ₃ q₃) ∷ ‵ (flft κ₄ q₄) ∷ ‵ (flft κ₅ q₅) ∷ ‵ (flft κ₆ q₆) ∷ ‵ (flft κ₇ q₇) ∷ ‵ (flft κ₈ q₈) ∷ ‵ (out-last out-write) ∷ ‵ (told-own (told .now)) ∷ standing part-5-holds) (runs C Λ E body.t-8 (atRet E Post))
+        part-5 =
             lends-tell-written ! tt (
             calls-at ! fm (tell-written-contract 𝓤 H A mem run) known-tell-written to-tell-written (and-then ! (load ! (from ! (stop !)) (look ! 30 refl)) (and-then ! (load ! (from ! (stop !)) (look ! 24 refl)) (no-more !)))
             (back-tell-written ! (λ r-tell-written r-tell-written-is told-tell-written told-tell-written-long said-tell-written.
             land ! (from ! (stop !)) (init ! 11 refl (uint-lawful 𝓤 H A W w64 .typed r-tell-written ((vint w64 r-tell-written) ∷ []) r-tell-written-is .0)) $
-            part-4 r-tell-written r-tell-written-is told-tell-written told-tell-written-long said-tell-written)))
+            part-6 r-tell-written r-tell-written-is told-tell-written told-tell-written-long said-tell-written)))
 
-      abbrev part-2-holds : List Cell
-      part-2-holds = vacant ∷ holds (v out) ∷ holds (v texts) ∷ holds (v references) ∷ holds (v comments) ∷ holds (v features) ∷ holds (v qualifiers) ∷ holds (v letters) ∷ holds (v head) ∷ holds (vint w64 width) ∷ holds (vbool keep) ∷ holds (vbool truncate) ∷ holds (vbool escape) ∷ holds (v told) ∷ vacant ∷ holds (p out) ∷ holds (v out) ∷ holds
-          (Head-val r-head-from) ∷ vacant ∷ vacant ∷ vacant ∷ []
+        abbrev part-4-holds : List Cell
+        part-4-holds = vacant ∷ holds (v out) ∷ holds (v texts) ∷ holds (v references) ∷ holds (v comments) ∷ holds (v features) ∷ holds (v qualifiers) ∷ holds (v letters) ∷ holds (v head) ∷ holds (vint w64 width) ∷ holds (vbool keep) ∷ holds (vbool truncate) ∷ holds (vbool escape) ∷ holds (v told) ∷ holds (WriteAnswer-val r-write) ∷ holds
+            (vptr (out .ptr .0) (out .ptr .1)) ∷ holds (v out) ∷ holds (Head-val r-head-from) ∷ holds (How-val made-How) ∷ vacant ∷ vacant ∷ []
 
-      part-2 : Sq W (has-head-from (standing part-2-holds)) (runs C Λ E body.t-4 (atRet E Post))
-      part-2 =
+        part-4 : Sq W (‵ (flft κ₀ q₀) ∷ ‵ (flft κ₁ q₁) ∷ ‵ (flft κ₂ q₂) ∷ ‵ (flft κ₃ q₃) ∷ ‵ (flft κ₄ q₄) ∷ ‵ (flft κ₅ q₅) ∷ ‵ (flft κ₆ q₆) ∷ ‵ (flft κ₇ q₇) ∷ ‵ (flft κ₈ q₈) ∷ ‵ (out-last out-write) ∷ ‵ (told-own (told .now)) ∷ standing part-4-holds) (runs C Λ E body.t-6 (atRet E Post))
+        part-4 =
+            assigns ! (addr ! (from ! (fld ! refl (hop ! (look-in ! 24 (sub ! 0 refl (whole !))) (stop !))))) (from ! (stop !)) (init ! 30 refl (tt, tt)) $
+            assigns ! (agg ! (and-then ! (load ! (from ! (stop !)) (look ! 30 refl)) (and-then ! (load ! (from ! (fld ! refl (stop !))) (look-in ! 24 (sub ! 1 refl (whole !)))) (no-more !)))) (from ! (stop !)) (init ! 31 refl (tt, (tt, (record { fits = told-room .0 }, tt)))) $
+            part-5
+
+      abbrev part-3-holds : List Cell
+      part-3-holds = vacant ∷ holds (v out) ∷ holds (v texts) ∷ holds (v references) ∷ holds (v comments) ∷ holds (v features) ∷ holds (v qualifiers) ∷ holds (v letters) ∷ holds (v head) ∷ holds (vint w64 width) ∷ holds (vbool keep) ∷ holds (vbool truncate) ∷ holds (vbool escape) ∷ holds (v told) ∷ vacant ∷ holds (vptr (out .ptr .0) (out .ptr .1))
+          ∷ holds (v out) ∷ holds (Head-val r-head-from) ∷ vacant ∷ vacant ∷ vacant ∷ []
+
+      part-3 : Sq W (‵ (flft κ₀ q₀) ∷ ‵ (flft κ₁ q₁) ∷ ‵ (flft κ₂ q₂) ∷ ‵ (flft κ₃ q₃) ∷ ‵ (flft κ₄ q₄) ∷ ‵ (flft κ₅ q₅) ∷ ‵ (flft κ₆ q₆) ∷ ‵ (flft κ₇ q₇) ∷ ‵ (flft κ₈ q₈) ∷ ‵ (out-own (out .now)) ∷ ‵ texts-own ∷ ‵ references-own ∷ ‵ comments-own ∷ ‵ features-own ∷ ‵ qualifiers-own ∷ ‵ letters-own ∷ ‵ (told-own (told .now)) ∷ standing part-3-holds)
+          (runs C Λ E body.t-4 (atRet E Post))
+      part-3 =
           assigns ! (agg ! (and-then ! (load ! (from ! (stop !)) (look ! 27 refl)) (and-then ! (load ! (from ! (stop !)) (look ! 26 refl)) (and-then ! (load ! (from ! (stop !)) (look ! 28 refl)) (and-then ! (load ! (from ! (stop !)) (look ! 29 refl)) (no-more !)))))) (from ! (stop !))
           (init ! 35 refl (LL.lawful How-is.the-type How-has.the-laws 𝓤 H A W .typed made-How ((How-val made-How) ∷ []) made-How-is .0)) $
           lends-write ! tt (
@@ -449,21 +450,31 @@ module _ {M : Type 1} (𝓤 : URA M) (H : Heap 𝓤) (A : Atoms 𝓤) (W : Given
           (and-then ! (load ! (from ! (stop !)) (look ! 9 refl)) (and-then ! (load ! (from ! (stop !)) (look ! 10 refl)) (and-then ! (load ! (from ! (stop !)) (look ! 11 refl)) (and-then ! (load ! (from ! (stop !)) (look ! 21 refl)) (and-then ! (load ! (from ! (stop !)) (look ! 22 refl)) (no-more !))))))))))
           (back-write ! (λ r-write r-write-is out-write out-write-long said-write.
           land ! (from ! (stop !)) (init ! 25 refl (EL.lawful WriteAnswer-is.the-type WriteAnswer-has.the-laws 𝓤 H A W tt .typed r-write ((WriteAnswer-val r-write) ∷ []) r-write-is .0)) $
-          part-3 r-write r-write-is out-write out-write-long said-write)))
+          part-4 r-write r-write-is out-write out-write-long said-write)))
+
+    abbrev part-2-holds : List Cell
+    part-2-holds = vacant ∷ holds (v out) ∷ holds (v texts) ∷ holds (v references) ∷ holds (v comments) ∷ holds (v features) ∷ holds (v qualifiers) ∷ holds (v letters) ∷ holds (v head) ∷ holds (vint w64 width) ∷ holds (vbool keep) ∷ holds (vbool truncate) ∷ holds (vbool escape) ∷ holds (v told) ∷ vacant ∷ holds (vptr (out .ptr .0) (out .ptr .1)) ∷
+        holds (v out) ∷ vacant ∷ vacant ∷ vacant ∷ vacant ∷ []
+
+    part-2 : Sq W (‵ (flft κ₀ q₀) ∷ ‵ (flft κ₁ q₁) ∷ ‵ (flft κ₂ q₂) ∷ ‵ (flft κ₃ q₃) ∷ ‵ (flft κ₄ q₄) ∷ ‵ (flft κ₅ q₅) ∷ ‵ (flft κ₆ q₆) ∷ ‵ (flft κ₇ q₇) ∷ ‵ (flft κ₈ q₈) ∷ ‵ (out-own (out .now)) ∷ ‵ texts-own ∷ ‵ references-own ∷ ‵ comments-own ∷ ‵ features-own ∷ ‵ qualifiers-own ∷ ‵ letters-own ∷ ‵ head-own ∷ ‵ (told-own (told .now)) ∷ standing
+        part-2-holds) (runs C Λ E body.t-3 (atRet E Post))
+    part-2 =
+        lends-head-from ! tt (
+        calls-at ! fm (head-from-contract 𝓤 H A mem run) known-head-from to-head-from (and-then ! (load ! (from ! (stop !)) (look ! 25 refl)) (no-more !))
+        (back-head-from ! (λ r-head-from r-head-from-is said-head-from.
+        land ! (from ! (stop !)) (init ! 34 refl (LL.lawful Head-is.the-type Head-has.the-laws 𝓤 H A W .typed r-head-from ((Head-val r-head-from) ∷ []) r-head-from-is .0)) $
+        part-3 r-head-from r-head-from-is said-head-from)))
 
     abbrev part-1-holds : List Cell
     part-1-holds = vacant ∷ holds (v out) ∷ holds (v texts) ∷ holds (v references) ∷ holds (v comments) ∷ holds (v features) ∷ holds (v qualifiers) ∷ holds (v letters) ∷ holds (v head) ∷ holds (vint w64 width) ∷ holds (vbool keep) ∷ holds (vbool truncate) ∷ holds (vbool escape) ∷ holds (v told) ∷ vacant ∷ vacant ∷ vacant ∷ vacant ∷ vacant ∷ vacant
         ∷ vacant ∷ []
 
-    part-1 : Sq W (has-first (standing part-1-holds)) (runs C Λ E body.t-1 (atRet E Post))
+    part-1 : Sq W (‵ (flft κ₀ q₀) ∷ ‵ (flft κ₁ q₁) ∷ ‵ (flft κ₂ q₂) ∷ ‵ (flft κ₃ q₃) ∷ ‵ (flft κ₄ q₄) ∷ ‵ (flft κ₅ q₅) ∷ ‵ (flft κ₆ q₆) ∷ ‵ (flft κ₇ q₇) ∷ ‵ (flft κ₈ q₈) ∷ ‵ (out-own (out .now)) ∷ ‵ texts-own ∷ ‵ references-own ∷ ‵ comments-own ∷ ‵ features-own ∷ ‵ qualifiers-own ∷ ‵ letters-own ∷ ‵ head-own ∷ ‵ (told-own (told .now)) ∷ standing
+        part-1-holds) (runs C Λ E body.t-1 (atRet E Post))
     part-1 =
         assigns ! (addr ! (from ! (fld ! refl (hop ! (look-in ! 19 (sub ! 0 refl (whole !))) (stop !))))) (from ! (stop !)) (init ! 33 refl (tt, tt)) $
         assigns ! (agg ! (and-then ! (load ! (from ! (stop !)) (look ! 33 refl)) (and-then ! (load ! (from ! (fld ! refl (stop !))) (look-in ! 19 (sub ! 1 refl (whole !)))) (no-more !)))) (from ! (stop !)) (init ! 34 refl (tt, (tt, (record { fits = out-room .0 }, tt)))) $
-        lends-head-from ! tt (
-        calls-at ! fm (head-from-contract 𝓤 H A mem run) known-head-from to-head-from (and-then ! (load ! (from ! (stop !)) (look ! 25 refl)) (no-more !))
-        (back-head-from ! (λ r-head-from r-head-from-is said-head-from.
-        land ! (from ! (stop !)) (init ! 34 refl (LL.lawful Head-is.the-type Head-has.the-laws 𝓤 H A W .typed r-head-from ((Head-val r-head-from) ∷ []) r-head-from-is .0)) $
-        part-2 r-head-from r-head-from-is said-head-from)))
+        part-2
 
     begins : Sq W (locals 𝓤 H A E (vacant ∷ vacant ∷ vacant ∷ vacant ∷ vacant ∷ vacant ∷ vacant ∷ vacant ∷ vacant ∷ vacant ∷ vacant ∷ vacant ∷ vacant ∷ vacant ∷ vacant ∷ vacant ∷ vacant ∷ vacant ∷ vacant ∷ vacant ∷ vacant ∷ []) (raw (Dies 𝓤 H A E) ∷ Had []))
         (params′ E ((v out) ∷ (v texts) ∷ (v references) ∷ (v comments) ∷ (v features) ∷ (v qualifiers) ∷ (v letters) ∷ (v head) ∷ (vint w64 width) ∷ (vbool keep) ∷ (vbool truncate) ∷ (vbool escape) ∷ (v told) ∷ []) (runs C Λ E body.t-1 (atRet E Post)))

@@ -129,12 +129,9 @@ Round-val = LL.val Round-is.the-type Round-has.the-laws
 abbrev WriteAnswer-val : WriteAnswer → Val
 WriteAnswer-val = EL.val WriteAnswer-is.the-type WriteAnswer-has.the-laws
 
--- the machine values of a slice and of its pointer
+-- the machine value of a slice
 abbrev v : {X : Type 0} → RefT (List X) → Val
 v r = sliceVal (r .ptr) (length (r .now))
-
-abbrev p : {X : Type 0} → RefT (List X) → Val
-p r = vptr (r .ptr .0) (r .ptr .1)
 
 module _ {M : Type 1} (𝓤 : URA M) (H : Heap 𝓤) (A : Atoms 𝓤) (mem : Memory → SProp 𝓤) (run : Routine → Fun 𝓤) where
   -- the contracts that the proof cites
@@ -216,10 +213,9 @@ module _ {M : Type 1} (𝓤 : URA M) (H : Heap 𝓤) (A : Atoms 𝓤) (W : Given
   Had Γ = (‵ (flft κ₀ q₀) ⊛ ‵ (flft κ₁ q₁) ⊛ ‵ (flft κ₂ q₂) ⊛ ‵ (flft κ₃ q₃) ⊛ ‵ (flft κ₄ q₄) ⊛ ‵ (flft κ₅ q₅) ⊛ ‵ (flft κ₆ q₆) ⊛ ‵ ftrue) ∷ ‵
       (owns (ShrSlice (named 0) κ₀ u8 ∷ usize ∷ MutSlice (named 1) κ₁ u8 ∷ MutSlice (named 2) κ₂ usize ∷ MutSlice (named 3) κ₃ usize ∷ MutSlice (named 4) κ₄ usize ∷ MutSlice (named 5) κ₅ u8 ∷ MutSlice (named 6) κ₆ u8 ∷ How-is.the-row ∷ []) a at-entry) ∷ Γ
 
-  abbrev has-first : List (Item 𝓤) → List (Item 𝓤)
-  has-first Γ = ‵ (flft κ₀ q₀) ∷ ‵ (flft κ₁ q₁) ∷ ‵ (flft κ₂ q₂) ∷ ‵ (flft κ₃ q₃) ∷ ‵ (flft κ₄ q₄) ∷ ‵ (flft κ₅ q₅) ∷ ‵ (flft κ₆ q₆) ∷ ‵ s-own ∷ ‵ (texts-own (texts .now)) ∷ ‵ (references-own (references .now)) ∷ ‵ (comments-own (comments .now)) ∷ ‵ (qualifiers-own (qualifiers .now)) ∷ ‵ (letters-own (letters .now)) ∷ ‵ (out-own (out .now)) ∷ Γ
-
-  opened : {K : Type 0} {Γ : List (Item 𝓤)} {G : Goal 𝓤 H} → K → Seq K W (has-first Γ) G → Seq K W (Had Γ) G
+  opened : {K : Type 0} {Γ : List (Item 𝓤)} {G : Goal 𝓤 H} → K → Seq K W
+      (‵ (flft κ₀ q₀) ∷ ‵ (flft κ₁ q₁) ∷ ‵ (flft κ₂ q₂) ∷ ‵ (flft κ₃ q₃) ∷ ‵ (flft κ₄ q₄) ∷ ‵ (flft κ₅ q₅) ∷ ‵ (flft κ₆ q₆) ∷ ‵ s-own ∷ ‵ (texts-own (texts .now)) ∷ ‵ (references-own (references .now)) ∷ ‵ (comments-own (comments .now)) ∷ ‵ (qualifiers-own (qualifiers .now)) ∷ ‵ (letters-own (letters .now)) ∷ ‵ (out-own (out .now)) ∷ Γ) G → Seq K W
+      (Had Γ) G
   opened t then =
       splits t (‵ (flft κ₀ q₀) ∷ ‵ (flft κ₁ q₁) ∷ ‵ (flft κ₂ q₂) ∷ ‵ (flft κ₃ q₃) ∷ ‵ (flft κ₄ q₄) ∷ ‵ (flft κ₅ q₅) ∷ ‵ (flft κ₆ q₆) ∷ []) (id⊢ 𝓤 _) $
       move t (7 ∷ []) $
@@ -260,7 +256,8 @@ module _ {M : Type 1} (𝓤 : URA M) (H : Heap 𝓤) (A : Atoms 𝓤) (W : Given
 
     lends-no-rows : {K : Type 0} {Γ : List (Item 𝓤)} {G : Goal 𝓤 H} → K → Soaks G →
         (Seq K W (raw (no-rows-contract 𝓤 H A mem run .pre to-no-rows) ∷ ‵ (flft κ₀ q₀) ∷ ‵ (flft κ₁ q₁) ∷ ‵ (flft κ₂ q₂) ∷ ‵ (flft κ₃ q₃) ∷ ‵ (flft κ₄ q₄) ∷ ‵ (flft κ₅ q₅) ∷ ‵ (flft κ₆ q₆) ∷ ‵ s-own ∷ ‵ (texts-own (texts .now)) ∷ ‵ (references-own (references .now)) ∷ ‵ (comments-own (comments .now)) ∷ ‵ (qualifiers-own (qualifiers .now)) ∷ ‵
-        (letters-own (letters .now)) ∷ ‵ (out-own (out .now)) ∷ Γ) G) → Seq K W (has-first Γ) G
+        (letters-own (letters .now)) ∷ ‵ (out-own (out .now)) ∷ Γ) G) → Seq K W
+        (‵ (flft κ₀ q₀) ∷ ‵ (flft κ₁ q₁) ∷ ‵ (flft κ₂ q₂) ∷ ‵ (flft κ₃ q₃) ∷ ‵ (flft κ₄ q₄) ∷ ‵ (flft κ₅ q₅) ∷ ‵ (flft κ₆ q₆) ∷ ‵ s-own ∷ ‵ (texts-own (texts .now)) ∷ ‵ (references-own (references .now)) ∷ ‵ (comments-own (comments .now)) ∷ ‵ (qualifiers-own (qualifiers .now)) ∷ ‵ (letters-own (letters .now)) ∷ ‵ (out-own (out .now)) ∷ Γ) G
     lends-no-rows t z next =
         use0 W (raw (no-rows-contract 𝓤 H A mem run .pre to-no-rows)) goes-no-rows $
         next
@@ -288,10 +285,6 @@ module _ {M : Type 1} (𝓤 : URA M) (H : Heap 𝓤) (A : Atoms 𝓤) (W : Given
         next r-no-rows r-no-rows-is said-no-rows))))
 
     module _ (r-no-rows : List Feature) (r-no-rows-is : Is (Many 8192) r-no-rows (array-vals (LL.vals Feature-is.the-type Feature-has.the-laws) r-no-rows)) (said-no-rows : Said-no-rows r-no-rows) where
-      abbrev has-no-rows : List (Item 𝓤) → List (Item 𝓤)
-      has-no-rows Γ = ‵ (flft κ₀ q₀) ∷ ‵ (flft κ₁ q₁) ∷ ‵ (flft κ₂ q₂) ∷ ‵ (flft κ₃ q₃) ∷ ‵ (flft κ₄ q₄) ∷ ‵ (flft κ₅ q₅) ∷ ‵ (flft κ₆ q₆) ∷ ‵ s-own ∷ ‵ (texts-own (texts .now)) ∷ ‵ (references-own (references .now)) ∷ ‵ (comments-own (comments .now)) ∷ ‵ (qualifiers-own (qualifiers .now)) ∷ ‵ (letters-own (letters .now)) ∷ ‵ (out-own (out .now)) ∷
-          Γ
-
       -- the call of `read`
       abbrev lfts-read : (k-texts : Loan) (k-references : Loan) (k-comments : Loan) (full-array : length r-no-rows ≡ 8192) (k-array : Loan) (k-qualifiers : Loan) (k-letters : Loan) → Lft × (Lft × (Lft × (Lft × (Lft × (Lft × (Lft × Unit {0}))))))
       lfts-read k-texts k-references k-comments full-array k-array k-qualifiers k-letters = (κ₀, (k-texts .life ∷ [], (k-references .life ∷ [], (k-comments .life ∷ [], (k-array .life ∷ [], (k-qualifiers .life ∷ [], (k-letters .life ∷ [], tt)))))))
@@ -435,10 +428,6 @@ module _ {M : Type 1} (𝓤 : URA M) (H : Heap 𝓤) (A : Atoms 𝓤) (W : Given
       module _ (r-read : ReadAnswer) (r-read-is : Is ReadAnswer-is.the-row r-read ((ReadAnswer-val r-read) ∷ [])) (texts-read : List ℕ) (references-read : List ℕ) (comments-read : List ℕ) (array-read : List Feature) (qualifiers-read : List ℕ) (letters-read : List ℕ) (texts-read-long : length texts-read ≡ length (texts .now))
           (references-read-long : length references-read ≡ length (references .now)) (comments-read-long : length comments-read ≡ length (comments .now)) (array-read-is : Is (Many 8192) array-read (array-vals (LL.vals Feature-is.the-type Feature-has.the-laws) array-read)) (qualifiers-read-long : length qualifiers-read ≡ length (qualifiers .now))
           (letters-read-long : length letters-read ≡ length (letters .now)) (said-read : Said-read r-read texts-read references-read comments-read array-read qualifiers-read letters-read) where
-        abbrev has-read : List (Item 𝓤) → List (Item 𝓤)
-        has-read Γ = ‵ (fat fullShare (tyArray Feature-has.mir 8192) l₁₀ 0 (many-val array-read)) ∷ ‵ (flft κ₀ q₀) ∷ ‵ (flft κ₁ q₁) ∷ ‵ (flft κ₂ q₂) ∷ ‵ (flft κ₃ q₃) ∷ ‵ (flft κ₄ q₄) ∷ ‵ (flft κ₅ q₅) ∷ ‵ (flft κ₆ q₆) ∷ ‵ (texts-own texts-read) ∷ ‵ (references-own references-read) ∷ ‵ (comments-own comments-read) ∷ ‵ (qualifiers-own qualifiers-read)
-            ∷ ‵ (letters-own letters-read) ∷ ‵ (out-own (out .now)) ∷ Γ
-
         -- the call of `head_of`
         abbrev lfts-head-of : Unit {0}
         lfts-head-of = tt
@@ -458,7 +447,9 @@ module _ {M : Type 1} (𝓤 : URA M) (H : Heap 𝓤) (A : Atoms 𝓤) (W : Given
 
         lends-head-of : {K : Type 0} {Γ : List (Item 𝓤)} {G : Goal 𝓤 H} → K → Soaks G →
             (Seq K W (raw (head-of-contract 𝓤 H A mem run .pre to-head-of) ∷ ‵ (fat fullShare (tyArray Feature-has.mir 8192) l₁₀ 0 (many-val array-read)) ∷ ‵ (flft κ₀ q₀) ∷ ‵ (flft κ₁ q₁) ∷ ‵ (flft κ₂ q₂) ∷ ‵ (flft κ₃ q₃) ∷ ‵ (flft κ₄ q₄) ∷ ‵ (flft κ₅ q₅) ∷ ‵ (flft κ₆ q₆) ∷ ‵ (texts-own texts-read) ∷ ‵ (references-own references-read) ∷ ‵
-            (comments-own comments-read) ∷ ‵ (qualifiers-own qualifiers-read) ∷ ‵ (letters-own letters-read) ∷ ‵ (out-own (out .now)) ∷ Γ) G) → Seq K W (has-read Γ) G
+            (comments-own comments-read) ∷ ‵ (qualifiers-own qualifiers-read) ∷ ‵ (letters-own letters-read) ∷ ‵ (out-own (out .now)) ∷ Γ) G) → Seq K W
+            (‵ (fat fullShare (tyArray Feature-has.mir 8192) l₁₀ 0 (many-val array-read)) ∷ ‵ (flft κ₀ q₀) ∷ ‵ (flft κ₁ q₁) ∷ ‵ (flft κ₂ q₂) ∷ ‵ (flft κ₃ q₃) ∷ ‵ (flft κ₄ q₄) ∷ ‵ (flft κ₅ q₅) ∷ ‵ (flft κ₆ q₆) ∷ ‵ (texts-own texts-read) ∷ ‵ (references-own references-read) ∷ ‵ (comments-own comments-read) ∷ ‵ (qualifiers-own qualifiers-read)
+            ∷ ‵ (letters-own letters-read) ∷ ‵ (out-own (out .now)) ∷ Γ) G
         lends-head-of t z next =
             use0 W (raw (head-of-contract 𝓤 H A mem run .pre to-head-of)) goes-head-of $
             next
@@ -487,10 +478,6 @@ module _ {M : Type 1} (𝓤 : URA M) (H : Heap 𝓤) (A : Atoms 𝓤) (W : Given
             next r-head-of r-head-of-is said-head-of))))
 
         module _ (r-head-of : Head) (r-head-of-is : Is Head-is.the-row r-head-of ((Head-val r-head-of) ∷ [])) (said-head-of : Said-head-of r-head-of) where
-          abbrev has-head-of : List (Item 𝓤) → List (Item 𝓤)
-          has-head-of Γ = ‵ (fat fullShare (tyArray Feature-has.mir 8192) l₁₀ 0 (many-val array-read)) ∷ ‵ (flft κ₀ q₀) ∷ ‵ (flft κ₁ q₁) ∷ ‵ (flft κ₂ q₂) ∷ ‵ (flft κ₃ q₃) ∷ ‵ (flft κ₄ q₄) ∷ ‵ (flft κ₅ q₅) ∷ ‵ (flft κ₆ q₆) ∷ ‵ (texts-own texts-read) ∷ ‵ (references-own references-read) ∷ ‵ (comments-own comments-read) ∷ ‵
-              (qualifiers-own qualifiers-read) ∷ ‵ (letters-own letters-read) ∷ ‵ (out-own (out .now)) ∷ Γ
-
           -- the call of `how_after`
           abbrev lfts-how-after : Unit {0}
           lfts-how-after = tt
@@ -511,7 +498,9 @@ module _ {M : Type 1} (𝓤 : URA M) (H : Heap 𝓤) (A : Atoms 𝓤) (W : Given
 
           lends-how-after : {K : Type 0} {Γ : List (Item 𝓤)} {G : Goal 𝓤 H} → K → Soaks G →
               (Seq K W (raw (how-after-contract 𝓤 H A mem run .pre to-how-after) ∷ ‵ (fat fullShare (tyArray Feature-has.mir 8192) l₁₀ 0 (many-val array-read)) ∷ ‵ (flft κ₀ q₀) ∷ ‵ (flft κ₁ q₁) ∷ ‵ (flft κ₂ q₂) ∷ ‵ (flft κ₃ q₃) ∷ ‵ (flft κ₄ q₄) ∷ ‵ (flft κ₅ q₅) ∷ ‵ (flft κ₆ q₆) ∷ ‵ (texts-own texts-read) ∷ ‵ (references-own references-read) ∷ ‵
-              (comments-own comments-read) ∷ ‵ (qualifiers-own qualifiers-read) ∷ ‵ (letters-own letters-read) ∷ ‵ (out-own (out .now)) ∷ Γ) G) → Seq K W (has-head-of Γ) G
+              (comments-own comments-read) ∷ ‵ (qualifiers-own qualifiers-read) ∷ ‵ (letters-own letters-read) ∷ ‵ (out-own (out .now)) ∷ Γ) G) → Seq K W
+              (‵ (fat fullShare (tyArray Feature-has.mir 8192) l₁₀ 0 (many-val array-read)) ∷ ‵ (flft κ₀ q₀) ∷ ‵ (flft κ₁ q₁) ∷ ‵ (flft κ₂ q₂) ∷ ‵ (flft κ₃ q₃) ∷ ‵ (flft κ₄ q₄) ∷ ‵ (flft κ₅ q₅) ∷ ‵ (flft κ₆ q₆) ∷ ‵ (texts-own texts-read) ∷ ‵ (references-own references-read) ∷ ‵ (comments-own comments-read) ∷ ‵
+              (qualifiers-own qualifiers-read) ∷ ‵ (letters-own letters-read) ∷ ‵ (out-own (out .now)) ∷ Γ) G
           lends-how-after t z next =
               use0 W (raw (how-after-contract 𝓤 H A mem run .pre to-how-after)) goes-how-after $
               next
@@ -540,10 +529,6 @@ module _ {M : Type 1} (𝓤 : URA M) (H : Heap 𝓤) (A : Atoms 𝓤) (W : Given
               next r-how-after r-how-after-is said-how-after))))
 
           module _ (r-how-after : How) (r-how-after-is : Is How-is.the-row r-how-after ((How-val r-how-after) ∷ [])) (said-how-after : Said-how-after r-how-after) where
-            abbrev has-how-after : List (Item 𝓤) → List (Item 𝓤)
-            has-how-after Γ = ‵ (fat fullShare (tyArray Feature-has.mir 8192) l₁₀ 0 (many-val array-read)) ∷ ‵ (flft κ₀ q₀) ∷ ‵ (flft κ₁ q₁) ∷ ‵ (flft κ₂ q₂) ∷ ‵ (flft κ₃ q₃) ∷ ‵ (flft κ₄ q₄) ∷ ‵ (flft κ₅ q₅) ∷ ‵ (flft κ₆ q₆) ∷ ‵ (texts-own texts-read) ∷ ‵ (references-own references-read) ∷ ‵ (comments-own comments-read) ∷ ‵
-                (qualifiers-own qualifiers-read) ∷ ‵ (letters-own letters-read) ∷ ‵ (out-own (out .now)) ∷ Γ
-
             -- the call of `write`
             abbrev lfts-write : (γ-texts : GName) (γ-references : GName) (γ-comments : GName) (full-array : length array-read ≡ 8192) (k-array : Loan) (γ-qualifiers : GName) (γ-letters : GName) → Lft × (Lft × (Lft × (Lft × (Lft × (Lft × (Lft × Unit {0}))))))
             lfts-write γ-texts γ-references γ-comments full-array k-array γ-qualifiers γ-letters = (κ₆, (κ₁, (κ₂, (κ₃, (k-array .life ∷ [], (κ₄, (κ₅, tt)))))))
@@ -657,18 +642,11 @@ module _ {M : Type 1} (𝓤 : URA M) (H : Heap 𝓤) (A : Atoms 𝓤) (W : Given
                 next r-write r-write-is (ws .0) out-long said-write))))))
 
             module _ (r-write : WriteAnswer) (r-write-is : Is WriteAnswer-is.the-row r-write ((WriteAnswer-val r-write) ∷ [])) (out-write : List ℕ) (out-write-long : length out-write ≡ length (out .now)) (said-write : Said-write r-write out-write) where
-              abbrev has-write : List (Item 𝓤) → List (Item 𝓤)
-              has-write Γ = ‵ (fat fullShare (tyArray Feature-has.mir 8192) l₁₀ 0 (many-val array-read)) ∷ ‵ (flft κ₀ q₀) ∷ ‵ (flft κ₁ q₁) ∷ ‵ (flft κ₂ q₂) ∷ ‵ (flft κ₃ q₃) ∷ ‵ (flft κ₄ q₄) ∷ ‵ (flft κ₅ q₅) ∷ ‵ (flft κ₆ q₆) ∷ ‵ (texts-last texts-read) ∷ ‵ (references-last references-read) ∷ ‵ (comments-last comments-read) ∷ ‵
-                  (qualifiers-last qualifiers-read) ∷ ‵ (letters-last letters-read) ∷ ‵ (out-last out-write) ∷ Γ
-
               abbrev made-Round : Round
               made-Round = record { read = r-read; wrote = r-write }
 
               made-Round-is : Is Round-is.the-row made-Round ((Round-val made-Round) ∷ [])
               made-Round-is = LL.owes Round-is.the-type Round-has.the-laws made-Round (r-read-is, (r-write-is, tt))
-
-              abbrev has-at-last : List (Item 𝓤) → List (Item 𝓤)
-              has-at-last Γ = ‵ (flft κ₀ q₀) ∷ ‵ (flft κ₁ q₁) ∷ ‵ (flft κ₂ q₂) ∷ ‵ (flft κ₃ q₃) ∷ ‵ (flft κ₄ q₄) ∷ ‵ (flft κ₅ q₅) ∷ ‵ (flft κ₆ q₆) ∷ ‵ (texts-last texts-read) ∷ ‵ (references-last references-read) ∷ ‵ (comments-last comments-read) ∷ ‵ (qualifiers-last qualifiers-read) ∷ ‵ (letters-last letters-read) ∷ ‵ (out-last out-write) ∷ Γ
 
               -- the law, and the end
               ended : Rounds (s .now) at′ (roomsIn (texts .now) (references .now) (comments .now) (flat emptyRows) (qualifiers .now) (letters .now)) how (texts-read) (references-read) (comments-read) (qualifiers-read) (letters-read) (out .now) (out-write) (made-Round .read) (made-Round .wrote)
@@ -677,9 +655,12 @@ module _ {M : Type 1} (𝓤 : URA M) (H : Heap 𝓤) (A : Atoms 𝓤) (W : Given
                   (subst (λ (k : How). WriteAnswered k (rowsRooms texts-read references-read comments-read qualifiers-read letters-read array-read) (headOf r-read) (out .now) out-write r-write) said-how-after
                   (subst (λ (h : Head). WriteAnswered r-how-after (rowsRooms texts-read references-read comments-read qualifiers-read letters-read array-read) h (out .now) out-write r-write) said-head-of said-write))
 
-              exits : ent 𝓤 (⋆ 𝓤 H A (has-at-last [])) (Post (Round-val made-Round))
+              abbrev at-last : List (Item 𝓤)
+              at-last = ‵ (flft κ₀ q₀) ∷ ‵ (flft κ₁ q₁) ∷ ‵ (flft κ₂ q₂) ∷ ‵ (flft κ₃ q₃) ∷ ‵ (flft κ₄ q₄) ∷ ‵ (flft κ₅ q₅) ∷ ‵ (flft κ₆ q₆) ∷ ‵ (texts-last texts-read) ∷ ‵ (references-last references-read) ∷ ‵ (comments-last comments-read) ∷ ‵ (qualifiers-last qualifiers-read) ∷ ‵ (letters-last letters-read) ∷ ‵ (out-last out-write) ∷ []
+
+              exits : ent 𝓤 (⋆ 𝓤 H A at-last) (Post (Round-val made-Round))
               exits =
-                  qed W (has-at-last []) ∵
+                  qed W at-last ∵
                   suffices ! _ (ends-at 𝓤 H A f.ended stayed (f.clauses 𝓤 H A mem run) W bound (Round-val made-Round) made-Round (tt, (tt, (texts-read, (references-read, (comments-read, (qualifiers-read, (letters-read, (out-write, (tt, tt)))))))))
                   (tt, (tt, (texts-read-long, (references-read-long, (comments-read-long, (qualifiers-read-long, (letters-read-long, (out-write-long, (tt, tt)))))))))) $ says ! ended $
                   owned ! Round-is.the-row (Is Round-is.the-row) (LL.makes Round-is.the-type Round-has.the-plain 𝓤 H A) made-Round ((Round-val made-Round) ∷ []) made-Round-is $
@@ -688,34 +669,33 @@ module _ {M : Type 1} (𝓤 : URA M) (H : Heap 𝓤) (A : Atoms 𝓤) (W : Given
                   group ! 8 $ frame ! $ group ! 10 $
                   done !
 
-              abbrev part-8-holds : List Cell
-              part-8-holds = vacant ∷ holds (v s) ∷ holds (vint w64 at′) ∷ holds (v texts) ∷ holds (v references) ∷ holds (v comments) ∷ holds (v qualifiers) ∷ holds (v letters) ∷ holds (v out) ∷ holds (How-val how) ∷ away ∷ holds (ReadAnswer-val r-read) ∷ holds (Head-val r-head-of) ∷ holds (How-val r-how-after) ∷ holds (WriteAnswer-val r-write) ∷
-                  holds (many-val r-no-rows) ∷ holds (p texts) ∷ holds (v texts) ∷ holds (p references) ∷ holds (v references) ∷ holds (p comments) ∷ holds (v comments) ∷ holds (vptr l₁₀ 0) ∷ holds (sliceVal (l₁₀, 0) 8192) ∷ holds (p qualifiers) ∷ holds (v qualifiers) ∷ holds (p letters) ∷ holds (v letters) ∷ holds (p out) ∷ holds (v out) ∷ holds
-                  (p texts) ∷ holds (v texts) ∷ holds (p references) ∷ holds (v references) ∷ holds (p comments) ∷ holds (v comments) ∷ holds (vptr l₁₀ 0) ∷ holds (sliceVal (l₁₀, 0) 8192) ∷ holds (p qualifiers) ∷ holds (v qualifiers) ∷ holds (p letters) ∷ holds (v letters) ∷ []
+              abbrev part-13-holds : List Cell
+              part-13-holds = vacant ∷ holds (v s) ∷ holds (vint w64 at′) ∷ holds (v texts) ∷ holds (v references) ∷ holds (v comments) ∷ holds (v qualifiers) ∷ holds (v letters) ∷ holds (v out) ∷ holds (How-val how) ∷ away ∷ holds (ReadAnswer-val r-read) ∷ holds (Head-val r-head-of) ∷ holds (How-val r-how-after) ∷ holds (WriteAnswer-val r-write) ∷
+                  holds (many-val r-no-rows) ∷ holds (vptr (texts .ptr .0) (texts .ptr .1)) ∷ holds (v texts) ∷ holds (vptr (references .ptr .0) (references .ptr .1)) ∷ holds (v references) ∷ holds (vptr (comments .ptr .0) (comments .ptr .1)) ∷ holds (v comments) ∷ holds (vptr l₁₀ 0) ∷ holds (sliceVal (l₁₀, 0) 8192) ∷ holds
+                  (vptr (qualifiers .ptr .0) (qualifiers .ptr .1)) ∷ holds (v qualifiers) ∷ holds (vptr (letters .ptr .0) (letters .ptr .1)) ∷ holds (v letters) ∷ holds (vptr (out .ptr .0) (out .ptr .1)) ∷ holds (v out) ∷ holds (vptr (texts .ptr .0) (texts .ptr .1)) ∷ holds (v texts) ∷ holds (vptr (references .ptr .0) (references .ptr .1)) ∷
+                  holds (v references) ∷ holds (vptr (comments .ptr .0) (comments .ptr .1)) ∷ holds (v comments) ∷ holds (vptr l₁₀ 0) ∷ holds (sliceVal (l₁₀, 0) 8192) ∷ holds (vptr (qualifiers .ptr .0) (qualifiers .ptr .1)) ∷ holds (v qualifiers) ∷ holds (vptr (letters .ptr .0) (letters .ptr .1)) ∷ holds (v letters) ∷ []
 
-              part-8 : Sq W (has-write (standing part-8-holds)) (runs C Λ E body.t-33 (atRet E Post))
-              part-8 =
+              part-13 : Sq W (‵ (fat fullShare (tyArray Feature-has.mir 8192) l₁₀ 0 (many-val array-read)) ∷ ‵ (flft κ₀ q₀) ∷ ‵ (flft κ₁ q₁) ∷ ‵ (flft κ₂ q₂) ∷ ‵ (flft κ₃ q₃) ∷ ‵ (flft κ₄ q₄) ∷ ‵ (flft κ₅ q₅) ∷ ‵ (flft κ₆ q₆) ∷ ‵ (texts-last texts-read) ∷ ‵ (references-last references-read) ∷ ‵ (comments-last comments-read) ∷ ‵
+                  (qualifiers-last qualifiers-read) ∷ ‵ (letters-last letters-read) ∷ ‵ (out-last out-write) ∷ standing part-13-holds) (runs C Λ E body.t-33 (atRet E Post))
+              part-13 =
                   assigns ! (agg ! (and-then ! (load ! (from ! (stop !)) (look ! 24 refl)) (and-then ! (load ! (from ! (stop !)) (look ! 27 refl)) (no-more !)))) (from ! (stop !)) (init ! 14 refl (LL.lawful Round-is.the-type Round-has.the-laws 𝓤 H A W .typed made-Round ((Round-val made-Round) ∷ []) made-Round-is .0)) $
                   move ! (1 ∷ 2 ∷ 3 ∷ 4 ∷ 5 ∷ 6 ∷ 7 ∷ 8 ∷ 9 ∷ 10 ∷ 11 ∷ 12 ∷ 13 ∷ 14 ∷ 15 ∷ 16 ∷ 17 ∷ 18 ∷ 19 ∷ 20 ∷ 21 ∷ 22 ∷ 23 ∷ 0 ∷ []) $
-                  returns ! (look ! 13 refl) $ frees-all ! (has-at-last [])
+                  returns ! (look ! 13 refl) $ frees-all ! at-last
                   (holds (Round-val made-Round) ∷ holds (v s) ∷ holds (vint w64 at′) ∷ holds (v texts) ∷ holds (v references) ∷ holds (v comments) ∷ holds (v qualifiers) ∷ holds (v letters) ∷ holds (v out) ∷ holds (How-val how) ∷ holds (many-val array-read) ∷ holds (ReadAnswer-val r-read) ∷ holds (Head-val r-head-of) ∷ holds
-                  (How-val r-how-after) ∷ holds (WriteAnswer-val r-write) ∷ holds (many-val r-no-rows) ∷ holds (p texts) ∷ holds (v texts) ∷ holds (p references) ∷ holds (v references) ∷ holds (p comments) ∷ holds (v comments) ∷ holds (vptr l₁₀ 0) ∷ holds (sliceVal (l₁₀, 0) 8192) ∷ holds (p qualifiers) ∷ holds (v qualifiers) ∷ holds
-                  (p letters) ∷ holds (v letters) ∷ holds (p out) ∷ holds (v out) ∷ holds (p texts) ∷ holds (v texts) ∷ holds (p references) ∷ holds (v references) ∷ holds (p comments) ∷ holds (v comments) ∷ holds (vptr l₁₀ 0) ∷ holds (sliceVal (l₁₀, 0) 8192) ∷ holds (p qualifiers) ∷ holds (v qualifiers) ∷ holds (p letters) ∷ holds
-                  (v letters) ∷ []) tt exits
+                  (How-val r-how-after) ∷ holds (WriteAnswer-val r-write) ∷ holds (many-val r-no-rows) ∷ holds (vptr (texts .ptr .0) (texts .ptr .1)) ∷ holds (v texts) ∷ holds (vptr (references .ptr .0) (references .ptr .1)) ∷ holds (v references) ∷ holds (vptr (comments .ptr .0) (comments .ptr .1)) ∷ holds (v comments) ∷ holds (vptr l₁₀ 0)
+                  ∷ holds (sliceVal (l₁₀, 0) 8192) ∷ holds (vptr (qualifiers .ptr .0) (qualifiers .ptr .1)) ∷ holds (v qualifiers) ∷ holds (vptr (letters .ptr .0) (letters .ptr .1)) ∷ holds (v letters) ∷ holds (vptr (out .ptr .0) (out .ptr .1)) ∷ holds (v out) ∷ holds (vptr (texts .ptr .0) (texts .ptr .1)) ∷ holds (v texts) ∷ holds
+                  (vptr (references .ptr .0) (references .ptr .1)) ∷ holds (v references) ∷ holds (vptr (comments .ptr .0) (comments .ptr .1)) ∷ holds (v comments) ∷ holds (vptr l₁₀ 0) ∷ holds (sliceVal (l₁₀, 0) 8192) ∷ holds (vptr (qualifiers .ptr .0) (qualifiers .ptr .1)) ∷ holds (v qualifiers) ∷ holds
+                  (vptr (letters .ptr .0) (letters .ptr .1)) ∷ holds (v letters) ∷ []) tt exits
 
-            abbrev part-7-holds : List Cell
-            part-7-holds = vacant ∷ holds (v s) ∷ holds (vint w64 at′) ∷ holds (v texts) ∷ holds (v references) ∷ holds (v comments) ∷ holds (v qualifiers) ∷ holds (v letters) ∷ holds (v out) ∷ holds (How-val how) ∷ away ∷ holds (ReadAnswer-val r-read) ∷ holds (Head-val r-head-of) ∷ holds (How-val r-how-after) ∷ vacant ∷ holds (many-val r-no-rows)
-                ∷ holds (p texts) ∷ holds (v texts) ∷ holds (p references) ∷ holds (v references) ∷ holds (p comments) ∷ holds (v comments) ∷ holds (vptr l₁₀ 0) ∷ holds (sliceVal (l₁₀, 0) 8192) ∷ holds (p qualifiers) ∷ holds (v qualifiers) ∷ holds (p letters) ∷ holds (v letters) ∷ holds (p out) ∷ holds (v out) ∷ holds (p texts) ∷ holds (v texts) ∷
-                holds (p references) ∷ holds (v references) ∷ holds (p comments) ∷ holds (v comments) ∷ vacant ∷ vacant ∷ vacant ∷ vacant ∷ vacant ∷ vacant ∷ []
+            abbrev part-12-holds : List Cell
+            part-12-holds = vacant ∷ holds (v s) ∷ holds (vint w64 at′) ∷ holds (v texts) ∷ holds (v references) ∷ holds (v comments) ∷ holds (v qualifiers) ∷ holds (v letters) ∷ holds (v out) ∷ holds (How-val how) ∷ away ∷ holds (ReadAnswer-val r-read) ∷ holds (Head-val r-head-of) ∷ holds (How-val r-how-after) ∷ vacant ∷ holds (many-val r-no-rows)
+                ∷ holds (vptr (texts .ptr .0) (texts .ptr .1)) ∷ holds (v texts) ∷ holds (vptr (references .ptr .0) (references .ptr .1)) ∷ holds (v references) ∷ holds (vptr (comments .ptr .0) (comments .ptr .1)) ∷ holds (v comments) ∷ holds (vptr l₁₀ 0) ∷ holds (sliceVal (l₁₀, 0) 8192) ∷ holds (vptr (qualifiers .ptr .0) (qualifiers .ptr .1)) ∷
+                holds (v qualifiers) ∷ holds (vptr (letters .ptr .0) (letters .ptr .1)) ∷ holds (v letters) ∷ holds (vptr (out .ptr .0) (out .ptr .1)) ∷ holds (v out) ∷ holds (vptr (texts .ptr .0) (texts .ptr .1)) ∷ holds (v texts) ∷ holds (vptr (references .ptr .0) (references .ptr .1)) ∷ holds (v references) ∷ holds
+                (vptr (comments .ptr .0) (comments .ptr .1)) ∷ holds (v comments) ∷ holds (vptr l₁₀ 0) ∷ holds (sliceVal (l₁₀, 0) 8192) ∷ holds (vptr (qualifiers .ptr .0) (qualifiers .ptr .1)) ∷ holds (v qualifiers) ∷ holds (vptr (letters .ptr .0) (letters .ptr .1)) ∷ holds (v letters) ∷ []
 
-            part-7 : Sq W (has-how-after (standing part-7-holds)) (runs C Λ E body.t-26 (atRet E Post))
-            part-7 =
-                assigns ! (addr ! (from ! (stop !))) (from ! (stop !)) (init ! 49 refl (tt, tt)) $
-                assigns ! (agg ! (and-then ! (load ! (from ! (stop !)) (look ! 49 refl)) (and-then ! (big-lit ! (record { fits = lit< tt })) (no-more !)))) (from ! (stop !)) (init ! 50 refl (tt, (tt, (record { fits = lit< tt }, tt)))) $
-                assigns ! (addr ! (from ! (fld ! refl (hop ! (look-in ! 20 (sub ! 0 refl (whole !))) (stop !))))) (from ! (stop !)) (init ! 51 refl (tt, tt)) $
-                assigns ! (agg ! (and-then ! (load ! (from ! (stop !)) (look ! 51 refl)) (and-then ! (load ! (from ! (fld ! refl (stop !))) (look-in ! 20 (sub ! 1 refl (whole !)))) (no-more !)))) (from ! (stop !)) (init ! 52 refl (tt, (tt, (record { fits = qualifiers-room .0 }, tt)))) $
-                assigns ! (addr ! (from ! (fld ! refl (hop ! (look-in ! 21 (sub ! 0 refl (whole !))) (stop !))))) (from ! (stop !)) (init ! 53 refl (tt, tt)) $
-                assigns ! (agg ! (and-then ! (load ! (from ! (stop !)) (look ! 53 refl)) (and-then ! (load ! (from ! (fld ! refl (stop !))) (look-in ! 21 (sub ! 1 refl (whole !)))) (no-more !)))) (from ! (stop !)) (init ! 54 refl (tt, (tt, (record { fits = letters-room .0 }, tt)))) $
+            part-12 : Sq W (‵ (fat fullShare (tyArray Feature-has.mir 8192) l₁₀ 0 (many-val array-read)) ∷ ‵ (flft κ₀ q₀) ∷ ‵ (flft κ₁ q₁) ∷ ‵ (flft κ₂ q₂) ∷ ‵ (flft κ₃ q₃) ∷ ‵ (flft κ₄ q₄) ∷ ‵ (flft κ₅ q₅) ∷ ‵ (flft κ₆ q₆) ∷ ‵ (texts-own texts-read) ∷ ‵ (references-own references-read) ∷ ‵ (comments-own comments-read) ∷ ‵
+                (qualifiers-own qualifiers-read) ∷ ‵ (letters-own letters-read) ∷ ‵ (out-own (out .now)) ∷ standing part-12-holds) (runs C Λ E body.t-32 (atRet E Post))
+            part-12 =
                 lends-write ! tt (λ γ-texts γ-references γ-comments full-array k-array γ-qualifiers γ-letters.
                 calls-at ! fm (write-contract 𝓤 H A mem run) known-write (to-write γ-texts γ-references γ-comments full-array k-array γ-qualifiers γ-letters)
                 (and-then ! (load ! (from ! (stop !)) (look ! 36 refl))
@@ -725,61 +705,100 @@ module _ {M : Type 1} (𝓤 : URA M) (H : Heap 𝓤) (A : Atoms 𝓤) (W : Given
                 (and-then ! (load ! (from ! (stop !)) (look ! 44 refl)) (and-then ! (load ! (from ! (stop !)) (look ! 46 refl)) (and-then ! (load ! (from ! (stop !)) (look ! 48 refl)) (and-then ! (load ! (from ! (stop !)) (look ! 19 refl)) (and-then ! (load ! (from ! (stop !)) (look ! 20 refl)) (no-more !))))))))))
                 (back-write ! γ-texts γ-references γ-comments full-array k-array γ-qualifiers γ-letters (λ r-write r-write-is out-write out-write-long said-write.
                 land ! (from ! (stop !)) (init ! 27 refl (EL.lawful WriteAnswer-is.the-type WriteAnswer-has.the-laws 𝓤 H A W tt .typed r-write ((WriteAnswer-val r-write) ∷ []) r-write-is .0)) $
-                part-8 r-write r-write-is out-write out-write-long said-write)))
+                part-13 r-write r-write-is out-write out-write-long said-write)))
 
-            abbrev part-6-holds : List Cell
-            part-6-holds = vacant ∷ holds (v s) ∷ holds (vint w64 at′) ∷ holds (v texts) ∷ holds (v references) ∷ holds (v comments) ∷ holds (v qualifiers) ∷ holds (v letters) ∷ holds (v out) ∷ holds (How-val how) ∷ away ∷ holds (ReadAnswer-val r-read) ∷ holds (Head-val r-head-of) ∷ holds (How-val r-how-after) ∷ vacant ∷ holds (many-val r-no-rows)
-                ∷ holds (p texts) ∷ holds (v texts) ∷ holds (p references) ∷ holds (v references) ∷ holds (p comments) ∷ holds (v comments) ∷ holds (vptr l₁₀ 0) ∷ holds (sliceVal (l₁₀, 0) 8192) ∷ holds (p qualifiers) ∷ holds (v qualifiers) ∷ holds (p letters) ∷ holds (v letters) ∷ vacant ∷ vacant ∷ vacant ∷ vacant ∷ vacant ∷ vacant ∷ vacant ∷
-                vacant ∷ vacant ∷ vacant ∷ vacant ∷ vacant ∷ vacant ∷ vacant ∷ []
+            abbrev part-11-holds : List Cell
+            part-11-holds = vacant ∷ holds (v s) ∷ holds (vint w64 at′) ∷ holds (v texts) ∷ holds (v references) ∷ holds (v comments) ∷ holds (v qualifiers) ∷ holds (v letters) ∷ holds (v out) ∷ holds (How-val how) ∷ away ∷ holds (ReadAnswer-val r-read) ∷ holds (Head-val r-head-of) ∷ holds (How-val r-how-after) ∷ vacant ∷ holds (many-val r-no-rows)
+                ∷ holds (vptr (texts .ptr .0) (texts .ptr .1)) ∷ holds (v texts) ∷ holds (vptr (references .ptr .0) (references .ptr .1)) ∷ holds (v references) ∷ holds (vptr (comments .ptr .0) (comments .ptr .1)) ∷ holds (v comments) ∷ holds (vptr l₁₀ 0) ∷ holds (sliceVal (l₁₀, 0) 8192) ∷ holds (vptr (qualifiers .ptr .0) (qualifiers .ptr .1)) ∷
+                holds (v qualifiers) ∷ holds (vptr (letters .ptr .0) (letters .ptr .1)) ∷ holds (v letters) ∷ holds (vptr (out .ptr .0) (out .ptr .1)) ∷ holds (v out) ∷ holds (vptr (texts .ptr .0) (texts .ptr .1)) ∷ holds (v texts) ∷ holds (vptr (references .ptr .0) (references .ptr .1)) ∷ holds (v references) ∷ holds
+                (vptr (comments .ptr .0) (comments .ptr .1)) ∷ holds (v comments) ∷ holds (vptr l₁₀ 0) ∷ holds (sliceVal (l₁₀, 0) 8192) ∷ holds (vptr (qualifiers .ptr .0) (qualifiers .ptr .1)) ∷ holds (v qualifiers) ∷ vacant ∷ vacant ∷ []
 
-            part-6 : Sq W (has-how-after (standing part-6-holds)) (runs C Λ E body.t-18 (atRet E Post))
-            part-6 =
-                assigns ! (addr ! (from ! (fld ! refl (hop ! (look-in ! 22 (sub ! 0 refl (whole !))) (stop !))))) (from ! (stop !)) (init ! 41 refl (tt, tt)) $
-                assigns ! (agg ! (and-then ! (load ! (from ! (stop !)) (look ! 41 refl)) (and-then ! (load ! (from ! (fld ! refl (stop !))) (look-in ! 22 (sub ! 1 refl (whole !)))) (no-more !)))) (from ! (stop !)) (init ! 42 refl (tt, (tt, (record { fits = out-room .0 }, tt)))) $
-                assigns ! (addr ! (from ! (fld ! refl (hop ! (look-in ! 17 (sub ! 0 refl (whole !))) (stop !))))) (from ! (stop !)) (init ! 43 refl (tt, tt)) $
-                assigns ! (agg ! (and-then ! (load ! (from ! (stop !)) (look ! 43 refl)) (and-then ! (load ! (from ! (fld ! refl (stop !))) (look-in ! 17 (sub ! 1 refl (whole !)))) (no-more !)))) (from ! (stop !)) (init ! 44 refl (tt, (tt, (record { fits = texts-room .0 }, tt)))) $
+            part-11 : Sq W (‵ (fat fullShare (tyArray Feature-has.mir 8192) l₁₀ 0 (many-val array-read)) ∷ ‵ (flft κ₀ q₀) ∷ ‵ (flft κ₁ q₁) ∷ ‵ (flft κ₂ q₂) ∷ ‵ (flft κ₃ q₃) ∷ ‵ (flft κ₄ q₄) ∷ ‵ (flft κ₅ q₅) ∷ ‵ (flft κ₆ q₆) ∷ ‵ (texts-own texts-read) ∷ ‵ (references-own references-read) ∷ ‵ (comments-own comments-read) ∷ ‵
+                (qualifiers-own qualifiers-read) ∷ ‵ (letters-own letters-read) ∷ ‵ (out-own (out .now)) ∷ standing part-11-holds) (runs C Λ E body.t-30 (atRet E Post))
+            part-11 =
+                assigns ! (addr ! (from ! (fld ! refl (hop ! (look-in ! 21 (sub ! 0 refl (whole !))) (stop !))))) (from ! (stop !)) (init ! 53 refl (tt, tt)) $
+                assigns ! (agg ! (and-then ! (load ! (from ! (stop !)) (look ! 53 refl)) (and-then ! (load ! (from ! (fld ! refl (stop !))) (look-in ! 21 (sub ! 1 refl (whole !)))) (no-more !)))) (from ! (stop !)) (init ! 54 refl (tt, (tt, (record { fits = letters-room .0 }, tt)))) $
+                part-12
+
+            abbrev part-10-holds : List Cell
+            part-10-holds = vacant ∷ holds (v s) ∷ holds (vint w64 at′) ∷ holds (v texts) ∷ holds (v references) ∷ holds (v comments) ∷ holds (v qualifiers) ∷ holds (v letters) ∷ holds (v out) ∷ holds (How-val how) ∷ away ∷ holds (ReadAnswer-val r-read) ∷ holds (Head-val r-head-of) ∷ holds (How-val r-how-after) ∷ vacant ∷ holds (many-val r-no-rows)
+                ∷ holds (vptr (texts .ptr .0) (texts .ptr .1)) ∷ holds (v texts) ∷ holds (vptr (references .ptr .0) (references .ptr .1)) ∷ holds (v references) ∷ holds (vptr (comments .ptr .0) (comments .ptr .1)) ∷ holds (v comments) ∷ holds (vptr l₁₀ 0) ∷ holds (sliceVal (l₁₀, 0) 8192) ∷ holds (vptr (qualifiers .ptr .0) (qualifiers .ptr .1)) ∷
+                holds (v qualifiers) ∷ holds (vptr (letters .ptr .0) (letters .ptr .1)) ∷ holds (v letters) ∷ holds (vptr (out .ptr .0) (out .ptr .1)) ∷ holds (v out) ∷ holds (vptr (texts .ptr .0) (texts .ptr .1)) ∷ holds (v texts) ∷ holds (vptr (references .ptr .0) (references .ptr .1)) ∷ holds (v references) ∷ holds
+                (vptr (comments .ptr .0) (comments .ptr .1)) ∷ holds (v comments) ∷ vacant ∷ vacant ∷ vacant ∷ vacant ∷ vacant ∷ vacant ∷ []
+
+            part-10 : Sq W (‵ (fat fullShare (tyArray Feature-has.mir 8192) l₁₀ 0 (many-val array-read)) ∷ ‵ (flft κ₀ q₀) ∷ ‵ (flft κ₁ q₁) ∷ ‵ (flft κ₂ q₂) ∷ ‵ (flft κ₃ q₃) ∷ ‵ (flft κ₄ q₄) ∷ ‵ (flft κ₅ q₅) ∷ ‵ (flft κ₆ q₆) ∷ ‵ (texts-own texts-read) ∷ ‵ (references-own references-read) ∷ ‵ (comments-own comments-read) ∷ ‵
+                (qualifiers-own qualifiers-read) ∷ ‵ (letters-own letters-read) ∷ ‵ (out-own (out .now)) ∷ standing part-10-holds) (runs C Λ E body.t-26 (atRet E Post))
+            part-10 =
+                assigns ! (addr ! (from ! (stop !))) (from ! (stop !)) (init ! 49 refl (tt, tt)) $
+                assigns ! (agg ! (and-then ! (load ! (from ! (stop !)) (look ! 49 refl)) (and-then ! (big-lit ! (record { fits = lit< tt })) (no-more !)))) (from ! (stop !)) (init ! 50 refl (tt, (tt, (record { fits = lit< tt }, tt)))) $
+                assigns ! (addr ! (from ! (fld ! refl (hop ! (look-in ! 20 (sub ! 0 refl (whole !))) (stop !))))) (from ! (stop !)) (init ! 51 refl (tt, tt)) $
+                assigns ! (agg ! (and-then ! (load ! (from ! (stop !)) (look ! 51 refl)) (and-then ! (load ! (from ! (fld ! refl (stop !))) (look-in ! 20 (sub ! 1 refl (whole !)))) (no-more !)))) (from ! (stop !)) (init ! 52 refl (tt, (tt, (record { fits = qualifiers-room .0 }, tt)))) $
+                part-11
+
+            abbrev part-9-holds : List Cell
+            part-9-holds = vacant ∷ holds (v s) ∷ holds (vint w64 at′) ∷ holds (v texts) ∷ holds (v references) ∷ holds (v comments) ∷ holds (v qualifiers) ∷ holds (v letters) ∷ holds (v out) ∷ holds (How-val how) ∷ away ∷ holds (ReadAnswer-val r-read) ∷ holds (Head-val r-head-of) ∷ holds (How-val r-how-after) ∷ vacant ∷ holds (many-val r-no-rows)
+                ∷ holds (vptr (texts .ptr .0) (texts .ptr .1)) ∷ holds (v texts) ∷ holds (vptr (references .ptr .0) (references .ptr .1)) ∷ holds (v references) ∷ holds (vptr (comments .ptr .0) (comments .ptr .1)) ∷ holds (v comments) ∷ holds (vptr l₁₀ 0) ∷ holds (sliceVal (l₁₀, 0) 8192) ∷ holds (vptr (qualifiers .ptr .0) (qualifiers .ptr .1)) ∷
+                holds (v qualifiers) ∷ holds (vptr (letters .ptr .0) (letters .ptr .1)) ∷ holds (v letters) ∷ holds (vptr (out .ptr .0) (out .ptr .1)) ∷ holds (v out) ∷ holds (vptr (texts .ptr .0) (texts .ptr .1)) ∷ holds (v texts) ∷ vacant ∷ vacant ∷ vacant ∷ vacant ∷ vacant ∷ vacant ∷ vacant ∷ vacant ∷ vacant ∷ vacant ∷ []
+
+            part-9 : Sq W (‵ (fat fullShare (tyArray Feature-has.mir 8192) l₁₀ 0 (many-val array-read)) ∷ ‵ (flft κ₀ q₀) ∷ ‵ (flft κ₁ q₁) ∷ ‵ (flft κ₂ q₂) ∷ ‵ (flft κ₃ q₃) ∷ ‵ (flft κ₄ q₄) ∷ ‵ (flft κ₅ q₅) ∷ ‵ (flft κ₆ q₆) ∷ ‵ (texts-own texts-read) ∷ ‵ (references-own references-read) ∷ ‵ (comments-own comments-read) ∷ ‵
+                (qualifiers-own qualifiers-read) ∷ ‵ (letters-own letters-read) ∷ ‵ (out-own (out .now)) ∷ standing part-9-holds) (runs C Λ E body.t-22 (atRet E Post))
+            part-9 =
                 assigns ! (addr ! (from ! (fld ! refl (hop ! (look-in ! 18 (sub ! 0 refl (whole !))) (stop !))))) (from ! (stop !)) (init ! 45 refl (tt, tt)) $
                 assigns ! (agg ! (and-then ! (load ! (from ! (stop !)) (look ! 45 refl)) (and-then ! (load ! (from ! (fld ! refl (stop !))) (look-in ! 18 (sub ! 1 refl (whole !)))) (no-more !)))) (from ! (stop !)) (init ! 46 refl (tt, (tt, (record { fits = references-room .0 }, tt)))) $
                 assigns ! (addr ! (from ! (fld ! refl (hop ! (look-in ! 19 (sub ! 0 refl (whole !))) (stop !))))) (from ! (stop !)) (init ! 47 refl (tt, tt)) $
                 assigns ! (agg ! (and-then ! (load ! (from ! (stop !)) (look ! 47 refl)) (and-then ! (load ! (from ! (fld ! refl (stop !))) (look-in ! 19 (sub ! 1 refl (whole !)))) (no-more !)))) (from ! (stop !)) (init ! 48 refl (tt, (tt, (record { fits = comments-room .0 }, tt)))) $
-                part-7
+                part-10
 
-          abbrev part-5-holds : List Cell
-          part-5-holds = vacant ∷ holds (v s) ∷ holds (vint w64 at′) ∷ holds (v texts) ∷ holds (v references) ∷ holds (v comments) ∷ holds (v qualifiers) ∷ holds (v letters) ∷ holds (v out) ∷ holds (How-val how) ∷ away ∷ holds (ReadAnswer-val r-read) ∷ holds (Head-val r-head-of) ∷ vacant ∷ vacant ∷ holds (many-val r-no-rows) ∷ holds (p texts) ∷
-              holds (v texts) ∷ holds (p references) ∷ holds (v references) ∷ holds (p comments) ∷ holds (v comments) ∷ holds (vptr l₁₀ 0) ∷ holds (sliceVal (l₁₀, 0) 8192) ∷ holds (p qualifiers) ∷ holds (v qualifiers) ∷ holds (p letters) ∷ holds (v letters) ∷ vacant ∷ vacant ∷ vacant ∷ vacant ∷ vacant ∷ vacant ∷ vacant ∷ vacant ∷ vacant ∷ vacant ∷
-              vacant ∷ vacant ∷ vacant ∷ vacant ∷ []
+            abbrev part-8-holds : List Cell
+            part-8-holds = vacant ∷ holds (v s) ∷ holds (vint w64 at′) ∷ holds (v texts) ∷ holds (v references) ∷ holds (v comments) ∷ holds (v qualifiers) ∷ holds (v letters) ∷ holds (v out) ∷ holds (How-val how) ∷ away ∷ holds (ReadAnswer-val r-read) ∷ holds (Head-val r-head-of) ∷ holds (How-val r-how-after) ∷ vacant ∷ holds (many-val r-no-rows)
+                ∷ holds (vptr (texts .ptr .0) (texts .ptr .1)) ∷ holds (v texts) ∷ holds (vptr (references .ptr .0) (references .ptr .1)) ∷ holds (v references) ∷ holds (vptr (comments .ptr .0) (comments .ptr .1)) ∷ holds (v comments) ∷ holds (vptr l₁₀ 0) ∷ holds (sliceVal (l₁₀, 0) 8192) ∷ holds (vptr (qualifiers .ptr .0) (qualifiers .ptr .1)) ∷
+                holds (v qualifiers) ∷ holds (vptr (letters .ptr .0) (letters .ptr .1)) ∷ holds (v letters) ∷ vacant ∷ vacant ∷ vacant ∷ vacant ∷ vacant ∷ vacant ∷ vacant ∷ vacant ∷ vacant ∷ vacant ∷ vacant ∷ vacant ∷ vacant ∷ vacant ∷ []
 
-          part-5 : Sq W (has-head-of (standing part-5-holds)) (runs C Λ E body.t-17 (atRet E Post))
-          part-5 =
+            part-8 : Sq W (‵ (fat fullShare (tyArray Feature-has.mir 8192) l₁₀ 0 (many-val array-read)) ∷ ‵ (flft κ₀ q₀) ∷ ‵ (flft κ₁ q₁) ∷ ‵ (flft κ₂ q₂) ∷ ‵ (flft κ₃ q₃) ∷ ‵ (flft κ₄ q₄) ∷ ‵ (flft κ₅ q₅) ∷ ‵ (flft κ₆ q₆) ∷ ‵ (texts-own texts-read) ∷ ‵ (references-own references-read) ∷ ‵ (comments-own comments-read) ∷ ‵
+                (qualifiers-own qualifiers-read) ∷ ‵ (letters-own letters-read) ∷ ‵ (out-own (out .now)) ∷ standing part-8-holds) (runs C Λ E body.t-18 (atRet E Post))
+            part-8 =
+                assigns ! (addr ! (from ! (fld ! refl (hop ! (look-in ! 22 (sub ! 0 refl (whole !))) (stop !))))) (from ! (stop !)) (init ! 41 refl (tt, tt)) $
+                assigns ! (agg ! (and-then ! (load ! (from ! (stop !)) (look ! 41 refl)) (and-then ! (load ! (from ! (fld ! refl (stop !))) (look-in ! 22 (sub ! 1 refl (whole !)))) (no-more !)))) (from ! (stop !)) (init ! 42 refl (tt, (tt, (record { fits = out-room .0 }, tt)))) $
+                assigns ! (addr ! (from ! (fld ! refl (hop ! (look-in ! 17 (sub ! 0 refl (whole !))) (stop !))))) (from ! (stop !)) (init ! 43 refl (tt, tt)) $
+                assigns ! (agg ! (and-then ! (load ! (from ! (stop !)) (look ! 43 refl)) (and-then ! (load ! (from ! (fld ! refl (stop !))) (look-in ! 17 (sub ! 1 refl (whole !)))) (no-more !)))) (from ! (stop !)) (init ! 44 refl (tt, (tt, (record { fits = texts-room .0 }, tt)))) $
+                part-9
+
+          abbrev part-7-holds : List Cell
+          part-7-holds = vacant ∷ holds (v s) ∷ holds (vint w64 at′) ∷ holds (v texts) ∷ holds (v references) ∷ holds (v comments) ∷ holds (v qualifiers) ∷ holds (v letters) ∷ holds (v out) ∷ holds (How-val how) ∷ away ∷ holds (ReadAnswer-val r-read) ∷ holds (Head-val r-head-of) ∷ vacant ∷ vacant ∷ holds (many-val r-no-rows) ∷ holds
+              (vptr (texts .ptr .0) (texts .ptr .1)) ∷ holds (v texts) ∷ holds (vptr (references .ptr .0) (references .ptr .1)) ∷ holds (v references) ∷ holds (vptr (comments .ptr .0) (comments .ptr .1)) ∷ holds (v comments) ∷ holds (vptr l₁₀ 0) ∷ holds (sliceVal (l₁₀, 0) 8192) ∷ holds (vptr (qualifiers .ptr .0) (qualifiers .ptr .1)) ∷ holds
+              (v qualifiers) ∷ holds (vptr (letters .ptr .0) (letters .ptr .1)) ∷ holds (v letters) ∷ vacant ∷ vacant ∷ vacant ∷ vacant ∷ vacant ∷ vacant ∷ vacant ∷ vacant ∷ vacant ∷ vacant ∷ vacant ∷ vacant ∷ vacant ∷ vacant ∷ []
+
+          part-7 : Sq W (‵ (fat fullShare (tyArray Feature-has.mir 8192) l₁₀ 0 (many-val array-read)) ∷ ‵ (flft κ₀ q₀) ∷ ‵ (flft κ₁ q₁) ∷ ‵ (flft κ₂ q₂) ∷ ‵ (flft κ₃ q₃) ∷ ‵ (flft κ₄ q₄) ∷ ‵ (flft κ₅ q₅) ∷ ‵ (flft κ₆ q₆) ∷ ‵ (texts-own texts-read) ∷ ‵ (references-own references-read) ∷ ‵ (comments-own comments-read) ∷ ‵
+              (qualifiers-own qualifiers-read) ∷ ‵ (letters-own letters-read) ∷ ‵ (out-own (out .now)) ∷ standing part-7-holds) (runs C Λ E body.t-17 (atRet E Post))
+          part-7 =
               lends-how-after ! tt (
               calls-at ! fm (how-after-contract 𝓤 H A mem run) known-how-after to-how-after (and-then ! (load ! (from ! (stop !)) (look ! 25 refl)) (and-then ! (load ! (from ! (stop !)) (look ! 24 refl)) (no-more !)))
               (back-how-after ! (λ r-how-after r-how-after-is said-how-after.
               land ! (from ! (stop !)) (init ! 26 refl (LL.lawful How-is.the-type How-has.the-laws 𝓤 H A W .typed r-how-after ((How-val r-how-after) ∷ []) r-how-after-is .0)) $
-              part-6 r-how-after r-how-after-is said-how-after)))
+              part-8 r-how-after r-how-after-is said-how-after)))
 
-        abbrev part-4-holds : List Cell
-        part-4-holds = vacant ∷ holds (v s) ∷ holds (vint w64 at′) ∷ holds (v texts) ∷ holds (v references) ∷ holds (v comments) ∷ holds (v qualifiers) ∷ holds (v letters) ∷ holds (v out) ∷ holds (How-val how) ∷ away ∷ holds (ReadAnswer-val r-read) ∷ vacant ∷ vacant ∷ vacant ∷ holds (many-val r-no-rows) ∷ holds (p texts) ∷ holds (v texts) ∷ holds
-            (p references) ∷ holds (v references) ∷ holds (p comments) ∷ holds (v comments) ∷ holds (vptr l₁₀ 0) ∷ holds (sliceVal (l₁₀, 0) 8192) ∷ holds (p qualifiers) ∷ holds (v qualifiers) ∷ holds (p letters) ∷ holds (v letters) ∷ vacant ∷ vacant ∷ vacant ∷ vacant ∷ vacant ∷ vacant ∷ vacant ∷ vacant ∷ vacant ∷ vacant ∷ vacant ∷ vacant ∷ vacant ∷
-            vacant ∷ []
+        abbrev part-6-holds : List Cell
+        part-6-holds = vacant ∷ holds (v s) ∷ holds (vint w64 at′) ∷ holds (v texts) ∷ holds (v references) ∷ holds (v comments) ∷ holds (v qualifiers) ∷ holds (v letters) ∷ holds (v out) ∷ holds (How-val how) ∷ away ∷ holds (ReadAnswer-val r-read) ∷ vacant ∷ vacant ∷ vacant ∷ holds (many-val r-no-rows) ∷ holds
+            (vptr (texts .ptr .0) (texts .ptr .1)) ∷ holds (v texts) ∷ holds (vptr (references .ptr .0) (references .ptr .1)) ∷ holds (v references) ∷ holds (vptr (comments .ptr .0) (comments .ptr .1)) ∷ holds (v comments) ∷ holds (vptr l₁₀ 0) ∷ holds (sliceVal (l₁₀, 0) 8192) ∷ holds (vptr (qualifiers .ptr .0) (qualifiers .ptr .1)) ∷ holds
+            (v qualifiers) ∷ holds (vptr (letters .ptr .0) (letters .ptr .1)) ∷ holds (v letters) ∷ vacant ∷ vacant ∷ vacant ∷ vacant ∷ vacant ∷ vacant ∷ vacant ∷ vacant ∷ vacant ∷ vacant ∷ vacant ∷ vacant ∷ vacant ∷ vacant ∷ []
 
-        part-4 : Sq W (has-read (standing part-4-holds)) (runs C Λ E body.t-16 (atRet E Post))
-        part-4 =
+        part-6 : Sq W (‵ (fat fullShare (tyArray Feature-has.mir 8192) l₁₀ 0 (many-val array-read)) ∷ ‵ (flft κ₀ q₀) ∷ ‵ (flft κ₁ q₁) ∷ ‵ (flft κ₂ q₂) ∷ ‵ (flft κ₃ q₃) ∷ ‵ (flft κ₄ q₄) ∷ ‵ (flft κ₅ q₅) ∷ ‵ (flft κ₆ q₆) ∷ ‵ (texts-own texts-read) ∷ ‵ (references-own references-read) ∷ ‵ (comments-own comments-read) ∷ ‵
+            (qualifiers-own qualifiers-read) ∷ ‵ (letters-own letters-read) ∷ ‵ (out-own (out .now)) ∷ standing part-6-holds) (runs C Λ E body.t-16 (atRet E Post))
+        part-6 =
             lends-head-of ! tt (
             calls-at ! fm (head-of-contract 𝓤 H A mem run) known-head-of to-head-of (and-then ! (load ! (from ! (stop !)) (look ! 25 refl)) (no-more !))
             (back-head-of ! (λ r-head-of r-head-of-is said-head-of.
             land ! (from ! (stop !)) (init ! 25 refl (LL.lawful Head-is.the-type Head-has.the-laws 𝓤 H A W .typed r-head-of ((Head-val r-head-of) ∷ []) r-head-of-is .0)) $
-            part-5 r-head-of r-head-of-is said-head-of)))
+            part-7 r-head-of r-head-of-is said-head-of)))
 
-      abbrev part-3-holds : List Cell
-      part-3-holds = vacant ∷ holds (v s) ∷ holds (vint w64 at′) ∷ holds (v texts) ∷ holds (v references) ∷ holds (v comments) ∷ holds (v qualifiers) ∷ holds (v letters) ∷ holds (v out) ∷ holds (How-val how) ∷ holds (many-val r-no-rows) ∷ vacant ∷ vacant ∷ vacant ∷ vacant ∷ holds (many-val r-no-rows) ∷ holds (p texts) ∷ holds (v texts) ∷ holds
-          (p references) ∷ holds (v references) ∷ holds (p comments) ∷ holds (v comments) ∷ holds (vptr l₁₀ 0) ∷ vacant ∷ vacant ∷ vacant ∷ vacant ∷ vacant ∷ vacant ∷ vacant ∷ vacant ∷ vacant ∷ vacant ∷ vacant ∷ vacant ∷ vacant ∷ vacant ∷ vacant ∷ vacant ∷ vacant ∷ vacant ∷ vacant ∷ []
+      abbrev part-5-holds : List Cell
+      part-5-holds = vacant ∷ holds (v s) ∷ holds (vint w64 at′) ∷ holds (v texts) ∷ holds (v references) ∷ holds (v comments) ∷ holds (v qualifiers) ∷ holds (v letters) ∷ holds (v out) ∷ holds (How-val how) ∷ holds (many-val r-no-rows) ∷ vacant ∷ vacant ∷ vacant ∷ vacant ∷ holds (many-val r-no-rows) ∷ holds (vptr (texts .ptr .0) (texts .ptr .1)) ∷
+          holds (v texts) ∷ holds (vptr (references .ptr .0) (references .ptr .1)) ∷ holds (v references) ∷ holds (vptr (comments .ptr .0) (comments .ptr .1)) ∷ holds (v comments) ∷ holds (vptr l₁₀ 0) ∷ holds (sliceVal (l₁₀, 0) 8192) ∷ holds (vptr (qualifiers .ptr .0) (qualifiers .ptr .1)) ∷ holds (v qualifiers) ∷ holds
+          (vptr (letters .ptr .0) (letters .ptr .1)) ∷ vacant ∷ vacant ∷ vacant ∷ vacant ∷ vacant ∷ vacant ∷ vacant ∷ vacant ∷ vacant ∷ vacant ∷ vacant ∷ vacant ∷ vacant ∷ vacant ∷ vacant ∷ []
 
-      part-3 : Sq W (has-no-rows (standing part-3-holds)) (runs C Λ E body.t-10 (atRet E Post))
-      part-3 =
-          assigns ! (agg ! (and-then ! (load ! (from ! (stop !)) (look ! 36 refl)) (and-then ! (big-lit ! (record { fits = lit< tt })) (no-more !)))) (from ! (stop !)) (init ! 37 refl (tt, (tt, (record { fits = lit< tt }, tt)))) $
-          assigns ! (addr ! (from ! (fld ! refl (hop ! (look-in ! 20 (sub ! 0 refl (whole !))) (stop !))))) (from ! (stop !)) (init ! 38 refl (tt, tt)) $
-          assigns ! (agg ! (and-then ! (load ! (from ! (stop !)) (look ! 38 refl)) (and-then ! (load ! (from ! (fld ! refl (stop !))) (look-in ! 20 (sub ! 1 refl (whole !)))) (no-more !)))) (from ! (stop !)) (init ! 39 refl (tt, (tt, (record { fits = qualifiers-room .0 }, tt)))) $
-          assigns ! (addr ! (from ! (fld ! refl (hop ! (look-in ! 21 (sub ! 0 refl (whole !))) (stop !))))) (from ! (stop !)) (init ! 40 refl (tt, tt)) $
+      part-5 : Sq W (‵ (flft κ₀ q₀) ∷ ‵ (flft κ₁ q₁) ∷ ‵ (flft κ₂ q₂) ∷ ‵ (flft κ₃ q₃) ∷ ‵ (flft κ₄ q₄) ∷ ‵ (flft κ₅ q₅) ∷ ‵ (flft κ₆ q₆) ∷ ‵ s-own ∷ ‵ (texts-own (texts .now)) ∷ ‵ (references-own (references .now)) ∷ ‵ (comments-own (comments .now)) ∷ ‵ (qualifiers-own (qualifiers .now)) ∷ ‵ (letters-own (letters .now)) ∷ ‵ (out-own (out .now)) ∷
+          standing part-5-holds) (runs C Λ E body.t-14 (atRet E Post))
+      part-5 =
           assigns ! (agg ! (and-then ! (load ! (from ! (stop !)) (look ! 40 refl)) (and-then ! (load ! (from ! (fld ! refl (stop !))) (look-in ! 21 (sub ! 1 refl (whole !)))) (no-more !)))) (from ! (stop !)) (init ! 41 refl (tt, (tt, (record { fits = letters-room .0 }, tt)))) $
           move ! (24 ∷ 0 ∷ 1 ∷ 2 ∷ 3 ∷ 4 ∷ 5 ∷ 6 ∷ 7 ∷ 8 ∷ 9 ∷ 10 ∷ 11 ∷ 12 ∷ 13 ∷ []) $
           lends-read ! tt (λ k-texts k-references k-comments full-array k-array k-qualifiers k-letters.
@@ -790,29 +809,54 @@ module _ {M : Type 1} (𝓤 : URA M) (H : Heap 𝓤) (A : Atoms 𝓤) (W : Given
           (and-then ! (load ! (from ! (stop !)) (look ! 27 refl)) (and-then ! (load ! (from ! (stop !)) (look ! 29 refl)) (and-then ! (load ! (from ! (stop !)) (look ! 31 refl)) (and-then ! (load ! (from ! (stop !)) (look ! 33 refl)) (and-then ! (load ! (from ! (stop !)) (look ! 35 refl)) (no-more !)))))))))
           (back-read ! k-texts k-references k-comments full-array k-array k-qualifiers k-letters (λ r-read r-read-is texts-read references-read comments-read array-read qualifiers-read letters-read texts-read-long references-read-long comments-read-long array-read-is qualifiers-read-long letters-read-long said-read.
           land ! (from ! (stop !)) (init ! 24 refl (EL.lawful ReadAnswer-is.the-type ReadAnswer-has.the-laws 𝓤 H A W tt .typed r-read ((ReadAnswer-val r-read) ∷ []) r-read-is .0)) $
-          part-4 r-read r-read-is texts-read references-read comments-read array-read qualifiers-read letters-read texts-read-long references-read-long comments-read-long array-read-is qualifiers-read-long letters-read-long said-read)))
+          part-6 r-read r-read-is texts-read references-read comments-read array-read qualifiers-read letters-read texts-read-long references-read-long comments-read-long array-read-is qualifiers-read-long letters-read-long said-read)))
+
+      abbrev part-4-holds : List Cell
+      part-4-holds = vacant ∷ holds (v s) ∷ holds (vint w64 at′) ∷ holds (v texts) ∷ holds (v references) ∷ holds (v comments) ∷ holds (v qualifiers) ∷ holds (v letters) ∷ holds (v out) ∷ holds (How-val how) ∷ holds (many-val r-no-rows) ∷ vacant ∷ vacant ∷ vacant ∷ vacant ∷ holds (many-val r-no-rows) ∷ holds (vptr (texts .ptr .0) (texts .ptr .1)) ∷
+          holds (v texts) ∷ holds (vptr (references .ptr .0) (references .ptr .1)) ∷ holds (v references) ∷ holds (vptr (comments .ptr .0) (comments .ptr .1)) ∷ holds (v comments) ∷ holds (vptr l₁₀ 0) ∷ vacant ∷ vacant ∷ vacant ∷ vacant ∷ vacant ∷ vacant ∷ vacant ∷ vacant ∷ vacant ∷ vacant ∷ vacant ∷ vacant ∷ vacant ∷ vacant ∷ vacant ∷ vacant ∷
+          vacant ∷ vacant ∷ vacant ∷ []
+
+      part-4 : Sq W (‵ (flft κ₀ q₀) ∷ ‵ (flft κ₁ q₁) ∷ ‵ (flft κ₂ q₂) ∷ ‵ (flft κ₃ q₃) ∷ ‵ (flft κ₄ q₄) ∷ ‵ (flft κ₅ q₅) ∷ ‵ (flft κ₆ q₆) ∷ ‵ s-own ∷ ‵ (texts-own (texts .now)) ∷ ‵ (references-own (references .now)) ∷ ‵ (comments-own (comments .now)) ∷ ‵ (qualifiers-own (qualifiers .now)) ∷ ‵ (letters-own (letters .now)) ∷ ‵ (out-own (out .now)) ∷
+          standing part-4-holds) (runs C Λ E body.t-10 (atRet E Post))
+      part-4 =
+          assigns ! (agg ! (and-then ! (load ! (from ! (stop !)) (look ! 36 refl)) (and-then ! (big-lit ! (record { fits = lit< tt })) (no-more !)))) (from ! (stop !)) (init ! 37 refl (tt, (tt, (record { fits = lit< tt }, tt)))) $
+          assigns ! (addr ! (from ! (fld ! refl (hop ! (look-in ! 20 (sub ! 0 refl (whole !))) (stop !))))) (from ! (stop !)) (init ! 38 refl (tt, tt)) $
+          assigns ! (agg ! (and-then ! (load ! (from ! (stop !)) (look ! 38 refl)) (and-then ! (load ! (from ! (fld ! refl (stop !))) (look-in ! 20 (sub ! 1 refl (whole !)))) (no-more !)))) (from ! (stop !)) (init ! 39 refl (tt, (tt, (record { fits = qualifiers-room .0 }, tt)))) $
+          assigns ! (addr ! (from ! (fld ! refl (hop ! (look-in ! 21 (sub ! 0 refl (whole !))) (stop !))))) (from ! (stop !)) (init ! 40 refl (tt, tt)) $
+          part-5
+
+      abbrev part-3-holds : List Cell
+      part-3-holds = vacant ∷ holds (v s) ∷ holds (vint w64 at′) ∷ holds (v texts) ∷ holds (v references) ∷ holds (v comments) ∷ holds (v qualifiers) ∷ holds (v letters) ∷ holds (v out) ∷ holds (How-val how) ∷ holds (many-val r-no-rows) ∷ vacant ∷ vacant ∷ vacant ∷ vacant ∷ holds (many-val r-no-rows) ∷ holds (vptr (texts .ptr .0) (texts .ptr .1)) ∷
+          holds (v texts) ∷ holds (vptr (references .ptr .0) (references .ptr .1)) ∷ vacant ∷ vacant ∷ vacant ∷ vacant ∷ vacant ∷ vacant ∷ vacant ∷ vacant ∷ vacant ∷ vacant ∷ vacant ∷ vacant ∷ vacant ∷ vacant ∷ vacant ∷ vacant ∷ vacant ∷ vacant ∷ vacant ∷ vacant ∷ vacant ∷ vacant ∷ vacant ∷ []
+
+      part-3 : Sq W (‵ (flft κ₀ q₀) ∷ ‵ (flft κ₁ q₁) ∷ ‵ (flft κ₂ q₂) ∷ ‵ (flft κ₃ q₃) ∷ ‵ (flft κ₄ q₄) ∷ ‵ (flft κ₅ q₅) ∷ ‵ (flft κ₆ q₆) ∷ ‵ s-own ∷ ‵ (texts-own (texts .now)) ∷ ‵ (references-own (references .now)) ∷ ‵ (comments-own (comments .now)) ∷ ‵ (qualifiers-own (qualifiers .now)) ∷ ‵ (letters-own (letters .now)) ∷ ‵ (out-own (out .now)) ∷
+          standing part-3-holds) (runs C Λ E body.t-6 (atRet E Post))
+      part-3 =
+          assigns ! (agg ! (and-then ! (load ! (from ! (stop !)) (look ! 32 refl)) (and-then ! (load ! (from ! (fld ! refl (stop !))) (look-in ! 18 (sub ! 1 refl (whole !)))) (no-more !)))) (from ! (stop !)) (init ! 33 refl (tt, (tt, (record { fits = references-room .0 }, tt)))) $
+          assigns ! (addr ! (from ! (fld ! refl (hop ! (look-in ! 19 (sub ! 0 refl (whole !))) (stop !))))) (from ! (stop !)) (init ! 34 refl (tt, tt)) $
+          assigns ! (agg ! (and-then ! (load ! (from ! (stop !)) (look ! 34 refl)) (and-then ! (load ! (from ! (fld ! refl (stop !))) (look-in ! 19 (sub ! 1 refl (whole !)))) (no-more !)))) (from ! (stop !)) (init ! 35 refl (tt, (tt, (record { fits = comments-room .0 }, tt)))) $
+          assigns ! (addr ! (from ! (stop !))) (from ! (stop !)) (init ! 36 refl (tt, tt)) $
+          part-4
 
       abbrev part-2-holds : List Cell
       part-2-holds = vacant ∷ holds (v s) ∷ holds (vint w64 at′) ∷ holds (v texts) ∷ holds (v references) ∷ holds (v comments) ∷ holds (v qualifiers) ∷ holds (v letters) ∷ holds (v out) ∷ holds (How-val how) ∷ vacant ∷ vacant ∷ vacant ∷ vacant ∷ vacant ∷ holds (many-val r-no-rows) ∷ vacant ∷ vacant ∷ vacant ∷ vacant ∷ vacant ∷ vacant ∷ vacant ∷
           vacant ∷ vacant ∷ vacant ∷ vacant ∷ vacant ∷ vacant ∷ vacant ∷ vacant ∷ vacant ∷ vacant ∷ vacant ∷ vacant ∷ vacant ∷ vacant ∷ vacant ∷ vacant ∷ vacant ∷ vacant ∷ vacant ∷ []
 
-      part-2 : Sq W (has-no-rows (standing part-2-holds)) (runs C Λ E body.t-2 (atRet E Post))
+      part-2 : Sq W (‵ (flft κ₀ q₀) ∷ ‵ (flft κ₁ q₁) ∷ ‵ (flft κ₂ q₂) ∷ ‵ (flft κ₃ q₃) ∷ ‵ (flft κ₄ q₄) ∷ ‵ (flft κ₅ q₅) ∷ ‵ (flft κ₆ q₆) ∷ ‵ s-own ∷ ‵ (texts-own (texts .now)) ∷ ‵ (references-own (references .now)) ∷ ‵ (comments-own (comments .now)) ∷ ‵ (qualifiers-own (qualifiers .now)) ∷ ‵ (letters-own (letters .now)) ∷ ‵ (out-own (out .now)) ∷
+          standing part-2-holds) (runs C Λ E body.t-2 (atRet E Post))
       part-2 =
           assigns ! (of-opd ! (load ! (from ! (stop !)) (look ! 29 refl))) (from ! (stop !)) (init ! 24 refl (array-lawful 𝓤 H A W Feature-is.the-row (LL.lawful Feature-is.the-type Feature-has.the-laws 𝓤 H A W) 8192 .typed r-no-rows (array-vals (LL.vals Feature-is.the-type Feature-has.the-laws) r-no-rows) r-no-rows-is .0)) $
           assigns ! (addr ! (from ! (fld ! refl (hop ! (look-in ! 17 (sub ! 0 refl (whole !))) (stop !))))) (from ! (stop !)) (init ! 30 refl (tt, tt)) $
           assigns ! (agg ! (and-then ! (load ! (from ! (stop !)) (look ! 30 refl)) (and-then ! (load ! (from ! (fld ! refl (stop !))) (look-in ! 17 (sub ! 1 refl (whole !)))) (no-more !)))) (from ! (stop !)) (init ! 31 refl (tt, (tt, (record { fits = texts-room .0 }, tt)))) $
           assigns ! (addr ! (from ! (fld ! refl (hop ! (look-in ! 18 (sub ! 0 refl (whole !))) (stop !))))) (from ! (stop !)) (init ! 32 refl (tt, tt)) $
-          assigns ! (agg ! (and-then ! (load ! (from ! (stop !)) (look ! 32 refl)) (and-then ! (load ! (from ! (fld ! refl (stop !))) (look-in ! 18 (sub ! 1 refl (whole !)))) (no-more !)))) (from ! (stop !)) (init ! 33 refl (tt, (tt, (record { fits = references-room .0 }, tt)))) $
-          assigns ! (addr ! (from ! (fld ! refl (hop ! (look-in ! 19 (sub ! 0 refl (whole !))) (stop !))))) (from ! (stop !)) (init ! 34 refl (tt, tt)) $
-          assigns ! (agg ! (and-then ! (load ! (from ! (stop !)) (look ! 34 refl)) (and-then ! (load ! (from ! (fld ! refl (stop !))) (look-in ! 19 (sub ! 1 refl (whole !)))) (no-more !)))) (from ! (stop !)) (init ! 35 refl (tt, (tt, (record { fits = comments-room .0 }, tt)))) $
-          assigns ! (addr ! (from ! (stop !))) (from ! (stop !)) (init ! 36 refl (tt, tt)) $
           part-3
 
     abbrev part-1-holds : List Cell
     part-1-holds = vacant ∷ holds (v s) ∷ holds (vint w64 at′) ∷ holds (v texts) ∷ holds (v references) ∷ holds (v comments) ∷ holds (v qualifiers) ∷ holds (v letters) ∷ holds (v out) ∷ holds (How-val how) ∷ vacant ∷ vacant ∷ vacant ∷ vacant ∷ vacant ∷ vacant ∷ vacant ∷ vacant ∷ vacant ∷ vacant ∷ vacant ∷ vacant ∷ vacant ∷ vacant ∷ vacant ∷ vacant
         ∷ vacant ∷ vacant ∷ vacant ∷ vacant ∷ vacant ∷ vacant ∷ vacant ∷ vacant ∷ vacant ∷ vacant ∷ vacant ∷ vacant ∷ vacant ∷ vacant ∷ vacant ∷ vacant ∷ []
 
-    part-1 : Sq W (has-first (standing part-1-holds)) (runs C Λ E body.t-1 (atRet E Post))
+    part-1 : Sq W (‵ (flft κ₀ q₀) ∷ ‵ (flft κ₁ q₁) ∷ ‵ (flft κ₂ q₂) ∷ ‵ (flft κ₃ q₃) ∷ ‵ (flft κ₄ q₄) ∷ ‵ (flft κ₅ q₅) ∷ ‵ (flft κ₆ q₆) ∷ ‵ s-own ∷ ‵ (texts-own (texts .now)) ∷ ‵ (references-own (references .now)) ∷ ‵ (comments-own (comments .now)) ∷ ‵ (qualifiers-own (qualifiers .now)) ∷ ‵ (letters-own (letters .now)) ∷ ‵ (out-own (out .now)) ∷
+        standing part-1-holds) (runs C Λ E body.t-1 (atRet E Post))
     part-1 =
         lends-no-rows ! tt (
         calls-at ! fm (no-rows-contract 𝓤 H A mem run) known-no-rows to-no-rows (no-more !)

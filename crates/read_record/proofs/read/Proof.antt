@@ -46,8 +46,8 @@ use Rattle.base_walk.proofs.Calls.{splits, lands-at}
 use Rattle.base_walk.proofs.Locals.{Cell, vacant, holds, locals, Dies, allocs-all, frees-all}
 use Rattle.base_walk.proofs.Loans.{Loan, again as slice-at, Own, Lent, Kept, lends, returned}
 use Rattle.base_rows.specs.Rows.{flat}
-use Rattle.read_feature_table.specs.Reads.{featuresIn}
 use Rattle.read_feature_qualifier_rows.specs.Puts.{FeaturesPut, Fits}
+use Rattle.read_feature_table.specs.Reads.{featuresIn}
 use Rattle.read_record_prepared.specs.Prepares.{Prepares}
 use Rattle.spec_contracts.specs.Reads.{Answered}
 use Rattle.spec_format.specs.Rooms.{roomsIn}
@@ -91,12 +91,9 @@ Prepared-val = LL.val Prepared-is.the-type Prepared-has.the-laws
 abbrev ReadAnswer-val : ReadAnswer → Val
 ReadAnswer-val = EL.val ReadAnswer-is.the-type ReadAnswer-has.the-laws
 
--- the machine values of a slice and of its pointer
+-- the machine value of a slice
 abbrev v : {X : Type 0} → RefT (List X) → Val
 v r = sliceVal (r .ptr) (length (r .now))
-
-abbrev p : {X : Type 0} → RefT (List X) → Val
-p r = vptr (r .ptr .0) (r .ptr .1)
 
 module _ {M : Type 1} (𝓤 : URA M) (H : Heap 𝓤) (A : Atoms 𝓤) (mem : Memory → SProp 𝓤) (run : Routine → Fun 𝓤) where
   -- the contracts that the proof cites
@@ -166,10 +163,9 @@ module _ {M : Type 1} (𝓤 : URA M) (H : Heap 𝓤) (A : Atoms 𝓤) (W : Given
   Had Γ = (‵ (flft κ₀ q₀) ⊛ ‵ (flft κ₁ q₁) ⊛ ‵ (flft κ₂ q₂) ⊛ ‵ (flft κ₃ q₃) ⊛ ‵ (flft κ₄ q₄) ⊛ ‵ (flft κ₅ q₅) ⊛ ‵ (flft κ₆ q₆) ⊛ ‵ ftrue) ∷ ‵
       (owns (ShrSlice (named 0) κ₀ u8 ∷ usize ∷ MutSlice (named 1) κ₁ u8 ∷ MutSlice (named 2) κ₂ usize ∷ MutSlice (named 3) κ₃ usize ∷ MutSlice (named 4) κ₄ Feature-is.the-row ∷ MutSlice (named 5) κ₅ usize ∷ MutSlice (named 6) κ₆ u8 ∷ []) a at-entry) ∷ Γ
 
-  abbrev has-first : List (Item 𝓤) → List (Item 𝓤)
-  has-first Γ = ‵ (flft κ₀ q₀) ∷ ‵ (flft κ₁ q₁) ∷ ‵ (flft κ₂ q₂) ∷ ‵ (flft κ₃ q₃) ∷ ‵ (flft κ₄ q₄) ∷ ‵ (flft κ₅ q₅) ∷ ‵ (flft κ₆ q₆) ∷ ‵ s-own ∷ ‵ (texts-own (texts .now)) ∷ ‵ (references-own (references .now)) ∷ ‵ (comments-own (comments .now)) ∷ ‵ (rows-own (rows .now)) ∷ ‵ (qualifiers-own (qualifiers .now)) ∷ ‵ (letters-own (letters .now)) ∷ Γ
-
-  opened : {K : Type 0} {Γ : List (Item 𝓤)} {G : Goal 𝓤 H} → K → Seq K W (has-first Γ) G → Seq K W (Had Γ) G
+  opened : {K : Type 0} {Γ : List (Item 𝓤)} {G : Goal 𝓤 H} → K → Seq K W
+      (‵ (flft κ₀ q₀) ∷ ‵ (flft κ₁ q₁) ∷ ‵ (flft κ₂ q₂) ∷ ‵ (flft κ₃ q₃) ∷ ‵ (flft κ₄ q₄) ∷ ‵ (flft κ₅ q₅) ∷ ‵ (flft κ₆ q₆) ∷ ‵ s-own ∷ ‵ (texts-own (texts .now)) ∷ ‵ (references-own (references .now)) ∷ ‵ (comments-own (comments .now)) ∷ ‵ (rows-own (rows .now)) ∷ ‵ (qualifiers-own (qualifiers .now)) ∷ ‵ (letters-own (letters .now)) ∷ Γ) G → Seq K
+      W (Had Γ) G
   opened t then =
       splits t (‵ (flft κ₀ q₀) ∷ ‵ (flft κ₁ q₁) ∷ ‵ (flft κ₂ q₂) ∷ ‵ (flft κ₃ q₃) ∷ ‵ (flft κ₄ q₄) ∷ ‵ (flft κ₅ q₅) ∷ ‵ (flft κ₆ q₆) ∷ []) (id⊢ 𝓤 _) $
       move t (7 ∷ []) $
@@ -215,7 +211,7 @@ module _ {M : Type 1} (𝓤 : URA M) (H : Heap 𝓤) (A : Atoms 𝓤) (W : Given
         done !
 
     lends-prepare : {K : Type 0} {Γ : List (Item 𝓤)} {G : Goal 𝓤 H} → K → Soaks G → ((k-texts : Loan) → Seq K W (raw (prepare-contract 𝓤 H A mem run .pre (to-prepare k-texts)) ∷ ‵ (Kept u8 texts κ₁ q₁ (texts .now) k-texts) ∷ ‵ s-own ∷ ‵ (flft κ₄ q₄) ∷ ‵ (flft κ₅ q₅) ∷ ‵ (rows-own (rows .now)) ∷ ‵ (qualifiers-own (qualifiers .now)) ∷ Γ) G) → Seq K W
-        (has-first Γ) G
+        (‵ (flft κ₀ q₀) ∷ ‵ (flft κ₁ q₁) ∷ ‵ (flft κ₂ q₂) ∷ ‵ (flft κ₃ q₃) ∷ ‵ (flft κ₄ q₄) ∷ ‵ (flft κ₅ q₅) ∷ ‵ (flft κ₆ q₆) ∷ ‵ s-own ∷ ‵ (texts-own (texts .now)) ∷ ‵ (references-own (references .now)) ∷ ‵ (comments-own (comments .now)) ∷ ‵ (rows-own (rows .now)) ∷ ‵ (qualifiers-own (qualifiers .now)) ∷ ‵ (letters-own (letters .now)) ∷ Γ) G
     lends-prepare t z next =
         move t (7 ∷ []) $
         use1 W (‵ s-own ⊛ ‵ s-own) (shr-slice-copy 𝓤 H A W (named 0) κ₀ u8 .twice s (v s ∷ [])) $ split t $
@@ -271,10 +267,6 @@ module _ {M : Type 1} (𝓤 : URA M) (H : Heap 𝓤) (A : Atoms 𝓤) (W : Given
 
     module _ (r-prepare : Prepared) (r-prepare-is : Is Prepared-is.the-row r-prepare ((Prepared-val r-prepare) ∷ [])) (texts-prepare : List ℕ) (references-prepare : List ℕ) (comments-prepare : List ℕ) (letters-prepare : List ℕ) (texts-prepare-long : length texts-prepare ≡ length (texts .now))
         (references-prepare-long : length references-prepare ≡ length (references .now)) (comments-prepare-long : length comments-prepare ≡ length (comments .now)) (letters-prepare-long : length letters-prepare ≡ length (letters .now)) (said-prepare : Said-prepare r-prepare texts-prepare references-prepare comments-prepare letters-prepare) where
-      abbrev has-prepare : List (Item 𝓤) → List (Item 𝓤)
-      has-prepare Γ = ‵ (flft κ₀ q₀) ∷ ‵ (flft κ₁ q₁) ∷ ‵ (flft κ₂ q₂) ∷ ‵ (flft κ₃ q₃) ∷ ‵ (flft κ₄ q₄) ∷ ‵ (flft κ₅ q₅) ∷ ‵ (flft κ₆ q₆) ∷ ‵ s-own ∷ ‵ (texts-own texts-prepare) ∷ ‵ (references-last references-prepare) ∷ ‵ (comments-last comments-prepare) ∷ ‵ (rows-own (rows .now)) ∷ ‵ (qualifiers-own (qualifiers .now)) ∷ ‵
-          (letters-last letters-prepare) ∷ Γ
-
       -- the call of `store_rows`
       abbrev lfts-store-rows : Lft × (Lft × (Lft × (Lft × Unit {0})))
       lfts-store-rows = (κ₀, (κ₁, (κ₄, (κ₅, tt))))
@@ -299,7 +291,8 @@ module _ {M : Type 1} (𝓤 : URA M) (H : Heap 𝓤) (A : Atoms 𝓤) (W : Given
           done !
 
       lends-store-rows : {K : Type 0} {Γ : List (Item 𝓤)} {G : Goal 𝓤 H} → K → Soaks G → (Seq K W (raw (store-rows-contract 𝓤 H A mem run .pre to-store-rows) ∷ ‵ (flft κ₂ q₂) ∷ ‵ (flft κ₃ q₃) ∷ ‵ (flft κ₆ q₆) ∷ ‵ (references-last references-prepare) ∷ ‵ (comments-last comments-prepare) ∷ ‵ (letters-last letters-prepare) ∷ Γ) G) → Seq K W
-          (has-prepare Γ) G
+          (‵ (flft κ₀ q₀) ∷ ‵ (flft κ₁ q₁) ∷ ‵ (flft κ₂ q₂) ∷ ‵ (flft κ₃ q₃) ∷ ‵ (flft κ₄ q₄) ∷ ‵ (flft κ₅ q₅) ∷ ‵ (flft κ₆ q₆) ∷ ‵ s-own ∷ ‵ (texts-own texts-prepare) ∷ ‵ (references-last references-prepare) ∷ ‵ (comments-last comments-prepare) ∷ ‵ (rows-own (rows .now)) ∷ ‵ (qualifiers-own (qualifiers .now)) ∷ ‵ (letters-last letters-prepare) ∷
+          Γ) G
       lends-store-rows t z next =
           move t (0 ∷ 1 ∷ 4 ∷ 5 ∷ 7 ∷ 8 ∷ 11 ∷ 12 ∷ []) $
           group t 8 $
@@ -344,17 +337,17 @@ module _ {M : Type 1} (𝓤 : URA M) (H : Heap 𝓤) (A : Atoms 𝓤) (W : Given
 
       module _ (r-store-rows : ℕ) (r-store-rows-is : Is usize r-store-rows ((vint w64 r-store-rows) ∷ [])) (texts-store-rows : List ℕ) (rows-store-rows : List Feature) (qualifiers-store-rows : List ℕ) (texts-store-rows-long : length texts-store-rows ≡ length (texts .now)) (rows-store-rows-long : length rows-store-rows ≡ length (rows .now))
           (qualifiers-store-rows-long : length qualifiers-store-rows ≡ length (qualifiers .now)) (said-store-rows : Said-store-rows r-store-rows texts-store-rows rows-store-rows qualifiers-store-rows) where
-        abbrev has-store-rows : List (Item 𝓤) → List (Item 𝓤)
-        has-store-rows Γ = ‵ (flft κ₀ q₀) ∷ ‵ (flft κ₁ q₁) ∷ ‵ (flft κ₂ q₂) ∷ ‵ (flft κ₃ q₃) ∷ ‵ (flft κ₄ q₄) ∷ ‵ (flft κ₅ q₅) ∷ ‵ (flft κ₆ q₆) ∷ ‵ (texts-last texts-store-rows) ∷ ‵ (references-last references-prepare) ∷ ‵ (comments-last comments-prepare) ∷ ‵ (rows-last rows-store-rows) ∷ ‵ (qualifiers-last qualifiers-store-rows) ∷ ‵
-            (letters-last letters-prepare) ∷ Γ
-
         -- the law, and the end
         ended : Answered (s .now) at′ (roomsIn (texts .now) (references .now) (comments .now) (flat (rows .now)) (qualifiers .now) (letters .now)) (roomsIn (texts-store-rows) (references-prepare) (comments-prepare) (flat (rows-store-rows)) (qualifiers-store-rows) (letters-prepare)) (r-prepare .answer)
         ended = said-prepare .answers texts-store-rows (flat (rows .now)) (flat rows-store-rows) (qualifiers .now) qualifiers-store-rows r-store-rows (flat-length (rows .now)) refl said-store-rows
 
-        exits : ent 𝓤 (⋆ 𝓤 H A (has-store-rows [])) (Post (ReadAnswer-val (r-prepare .answer)))
+        abbrev at-last : List (Item 𝓤)
+        at-last = ‵ (flft κ₀ q₀) ∷ ‵ (flft κ₁ q₁) ∷ ‵ (flft κ₂ q₂) ∷ ‵ (flft κ₃ q₃) ∷ ‵ (flft κ₄ q₄) ∷ ‵ (flft κ₅ q₅) ∷ ‵ (flft κ₆ q₆) ∷ ‵ (texts-last texts-store-rows) ∷ ‵ (references-last references-prepare) ∷ ‵ (comments-last comments-prepare) ∷ ‵ (rows-last rows-store-rows) ∷ ‵ (qualifiers-last qualifiers-store-rows) ∷ ‵
+            (letters-last letters-prepare) ∷ []
+
+        exits : ent 𝓤 (⋆ 𝓤 H A at-last) (Post (ReadAnswer-val (r-prepare .answer)))
         exits =
-            qed W (has-store-rows []) ∵
+            qed W at-last ∵
             suffices ! _ (ends-at 𝓤 H A f.ended stayed (f.clauses 𝓤 H A mem run) W bound (ReadAnswer-val (r-prepare .answer)) (r-prepare .answer) (tt, (tt, (texts-store-rows, (references-prepare, (comments-prepare, (rows-store-rows, (qualifiers-store-rows, (letters-prepare, tt))))))))
             (tt, (tt, (texts-store-rows-long, (references-prepare-long, (comments-prepare-long, (rows-store-rows-long, (qualifiers-store-rows-long, (letters-prepare-long, tt))))))))) $ says ! ended $
             owned ! ReadAnswer-is.the-row (Is ReadAnswer-is.the-row) (EL.makes ReadAnswer-is.the-type ReadAnswer-has.the-plain 𝓤 H A) (r-prepare .answer) ((ReadAnswer-val (r-prepare .answer)) ∷ []) (LL.owed Prepared-is.the-type Prepared-has.the-laws r-prepare _ r-prepare-is .1 .1 .1 .0) $
@@ -363,30 +356,29 @@ module _ {M : Type 1} (𝓤 : URA M) (H : Heap 𝓤) (A : Atoms 𝓤) (W : Given
             group ! 8 $ frame ! $ group ! 9 $
             done !
 
-        abbrev part-4-holds : List Cell
-        part-4-holds = vacant ∷ holds (v s) ∷ holds (vint w64 at′) ∷ holds (v texts) ∷ holds (v references) ∷ holds (v comments) ∷ holds (v rows) ∷ holds (v qualifiers) ∷ holds (v letters) ∷ holds (Prepared-val r-prepare) ∷ holds (p texts) ∷ holds (v texts) ∷ holds (p references) ∷ holds (v references) ∷ holds (p comments) ∷ holds (v comments) ∷
-            holds (vint w64 r-store-rows) ∷ holds (vint w64 (length (qualifiers .now))) ∷ holds (p letters) ∷ holds (v letters) ∷ holds (p texts) ∷ holds (v texts) ∷ holds (p rows) ∷ holds (v rows) ∷ holds (p qualifiers) ∷ holds (v qualifiers) ∷ []
+        abbrev part-8-holds : List Cell
+        part-8-holds = vacant ∷ holds (v s) ∷ holds (vint w64 at′) ∷ holds (v texts) ∷ holds (v references) ∷ holds (v comments) ∷ holds (v rows) ∷ holds (v qualifiers) ∷ holds (v letters) ∷ holds (Prepared-val r-prepare) ∷ holds (vptr (texts .ptr .0) (texts .ptr .1)) ∷ holds (v texts) ∷ holds (vptr (references .ptr .0) (references .ptr .1)) ∷
+            holds (v references) ∷ holds (vptr (comments .ptr .0) (comments .ptr .1)) ∷ holds (v comments) ∷ holds (vint w64 r-store-rows) ∷ holds (vint w64 (length (qualifiers .now))) ∷ holds (vptr (letters .ptr .0) (letters .ptr .1)) ∷ holds (v letters) ∷ holds (vptr (texts .ptr .0) (texts .ptr .1)) ∷ holds (v texts) ∷ holds
+            (vptr (rows .ptr .0) (rows .ptr .1)) ∷ holds (v rows) ∷ holds (vptr (qualifiers .ptr .0) (qualifiers .ptr .1)) ∷ holds (v qualifiers) ∷ []
 
-        part-4 : Sq W (has-store-rows (standing part-4-holds)) (runs C Λ E body.t-19 (atRet E Post))
-        part-4 =
+        part-8 : Sq W (‵ (flft κ₀ q₀) ∷ ‵ (flft κ₁ q₁) ∷ ‵ (flft κ₂ q₂) ∷ ‵ (flft κ₃ q₃) ∷ ‵ (flft κ₄ q₄) ∷ ‵ (flft κ₅ q₅) ∷ ‵ (flft κ₆ q₆) ∷ ‵ (texts-last texts-store-rows) ∷ ‵ (references-last references-prepare) ∷ ‵ (comments-last comments-prepare) ∷ ‵ (rows-last rows-store-rows) ∷ ‵ (qualifiers-last qualifiers-store-rows) ∷ ‵
+            (letters-last letters-prepare) ∷ standing part-8-holds) (runs C Λ E body.t-19 (atRet E Post))
+        part-8 =
             assigns ! (of-opd ! (load ! (from ! (fld ! refl (stop !))) (look-in ! 22 (sub ! 3 refl (whole !))))) (from ! (stop !))
             (init ! 13 refl (EL.lawful ReadAnswer-is.the-type ReadAnswer-has.the-laws 𝓤 H A W tt .typed (r-prepare .answer) ((ReadAnswer-val (r-prepare .answer)) ∷ []) (LL.owed Prepared-is.the-type Prepared-has.the-laws r-prepare _ r-prepare-is .1 .1 .1 .0) .0)) $
-            returns ! (look ! 13 refl) $ frees-all ! (has-store-rows [])
-            (holds (ReadAnswer-val (r-prepare .answer)) ∷ holds (v s) ∷ holds (vint w64 at′) ∷ holds (v texts) ∷ holds (v references) ∷ holds (v comments) ∷ holds (v rows) ∷ holds (v qualifiers) ∷ holds (v letters) ∷ holds (Prepared-val r-prepare) ∷ holds (p texts) ∷ holds (v texts) ∷ holds (p references) ∷ holds (v references) ∷ holds
-            (p comments) ∷ holds (v comments) ∷ holds (vint w64 r-store-rows) ∷ holds (vint w64 (length (qualifiers .now))) ∷ holds (p letters) ∷ holds (v letters) ∷ holds (p texts) ∷ holds (v texts) ∷ holds (p rows) ∷ holds (v rows) ∷ holds (p qualifiers) ∷ holds (v qualifiers) ∷ []) tt exits
+            returns ! (look ! 13 refl) $ frees-all ! at-last
+            (holds (ReadAnswer-val (r-prepare .answer)) ∷ holds (v s) ∷ holds (vint w64 at′) ∷ holds (v texts) ∷ holds (v references) ∷ holds (v comments) ∷ holds (v rows) ∷ holds (v qualifiers) ∷ holds (v letters) ∷ holds (Prepared-val r-prepare) ∷ holds (vptr (texts .ptr .0) (texts .ptr .1)) ∷ holds (v texts) ∷ holds
+            (vptr (references .ptr .0) (references .ptr .1)) ∷ holds (v references) ∷ holds (vptr (comments .ptr .0) (comments .ptr .1)) ∷ holds (v comments) ∷ holds (vint w64 r-store-rows) ∷ holds (vint w64 (length (qualifiers .now))) ∷ holds (vptr (letters .ptr .0) (letters .ptr .1)) ∷ holds (v letters) ∷ holds
+            (vptr (texts .ptr .0) (texts .ptr .1)) ∷ holds (v texts) ∷ holds (vptr (rows .ptr .0) (rows .ptr .1)) ∷ holds (v rows) ∷ holds (vptr (qualifiers .ptr .0) (qualifiers .ptr .1)) ∷ holds (v qualifiers) ∷ []) tt exits
 
-      abbrev part-3-holds : List Cell
-      part-3-holds = vacant ∷ holds (v s) ∷ holds (vint w64 at′) ∷ holds (v texts) ∷ holds (v references) ∷ holds (v comments) ∷ holds (v rows) ∷ holds (v qualifiers) ∷ holds (v letters) ∷ holds (Prepared-val r-prepare) ∷ holds (p texts) ∷ holds (v texts) ∷ holds (p references) ∷ holds (v references) ∷ holds (p comments) ∷ holds (v comments) ∷
-          holds (vint w64 (length (rows .now))) ∷ holds (vint w64 (length (qualifiers .now))) ∷ holds (p letters) ∷ holds (v letters) ∷ vacant ∷ vacant ∷ vacant ∷ vacant ∷ vacant ∷ vacant ∷ []
+      abbrev part-7-holds : List Cell
+      part-7-holds = vacant ∷ holds (v s) ∷ holds (vint w64 at′) ∷ holds (v texts) ∷ holds (v references) ∷ holds (v comments) ∷ holds (v rows) ∷ holds (v qualifiers) ∷ holds (v letters) ∷ holds (Prepared-val r-prepare) ∷ holds (vptr (texts .ptr .0) (texts .ptr .1)) ∷ holds (v texts) ∷ holds (vptr (references .ptr .0) (references .ptr .1)) ∷ holds
+          (v references) ∷ holds (vptr (comments .ptr .0) (comments .ptr .1)) ∷ holds (v comments) ∷ holds (vint w64 (length (rows .now))) ∷ holds (vint w64 (length (qualifiers .now))) ∷ holds (vptr (letters .ptr .0) (letters .ptr .1)) ∷ holds (v letters) ∷ holds (vptr (texts .ptr .0) (texts .ptr .1)) ∷ holds (v texts) ∷ holds
+          (vptr (rows .ptr .0) (rows .ptr .1)) ∷ holds (v rows) ∷ holds (vptr (qualifiers .ptr .0) (qualifiers .ptr .1)) ∷ holds (v qualifiers) ∷ []
 
-      part-3 : Sq W (has-prepare (standing part-3-holds)) (runs C Λ E body.t-12 (atRet E Post))
-      part-3 =
-          assigns ! (addr ! (from ! (fld ! refl (hop ! (look-in ! 17 (sub ! 0 refl (whole !))) (stop !))))) (from ! (stop !)) (init ! 34 refl (tt, tt)) $
-          assigns ! (agg ! (and-then ! (load ! (from ! (stop !)) (look ! 34 refl)) (and-then ! (load ! (from ! (fld ! refl (stop !))) (look-in ! 17 (sub ! 1 refl (whole !)))) (no-more !)))) (from ! (stop !)) (init ! 35 refl (tt, (tt, (record { fits = texts-room .0 }, tt)))) $
-          assigns ! (addr ! (from ! (fld ! refl (hop ! (look-in ! 20 (sub ! 0 refl (whole !))) (stop !))))) (from ! (stop !)) (init ! 36 refl (tt, tt)) $
-          assigns ! (agg ! (and-then ! (load ! (from ! (stop !)) (look ! 36 refl)) (and-then ! (load ! (from ! (fld ! refl (stop !))) (look-in ! 20 (sub ! 1 refl (whole !)))) (no-more !)))) (from ! (stop !)) (init ! 37 refl (tt, (tt, (record { fits = rows-room .0 }, tt)))) $
-          assigns ! (addr ! (from ! (fld ! refl (hop ! (look-in ! 21 (sub ! 0 refl (whole !))) (stop !))))) (from ! (stop !)) (init ! 38 refl (tt, tt)) $
-          assigns ! (agg ! (and-then ! (load ! (from ! (stop !)) (look ! 38 refl)) (and-then ! (load ! (from ! (fld ! refl (stop !))) (look-in ! 21 (sub ! 1 refl (whole !)))) (no-more !)))) (from ! (stop !)) (init ! 39 refl (tt, (tt, (record { fits = qualifiers-room .0 }, tt)))) $
+      part-7 : Sq W (‵ (flft κ₀ q₀) ∷ ‵ (flft κ₁ q₁) ∷ ‵ (flft κ₂ q₂) ∷ ‵ (flft κ₃ q₃) ∷ ‵ (flft κ₄ q₄) ∷ ‵ (flft κ₅ q₅) ∷ ‵ (flft κ₆ q₆) ∷ ‵ s-own ∷ ‵ (texts-own texts-prepare) ∷ ‵ (references-last references-prepare) ∷ ‵ (comments-last comments-prepare) ∷ ‵ (rows-own (rows .now)) ∷ ‵ (qualifiers-own (qualifiers .now)) ∷ ‵
+          (letters-last letters-prepare) ∷ standing part-7-holds) (runs C Λ E body.t-18 (atRet E Post))
+      part-7 =
           lends-store-rows ! tt (
           calls-at ! fm (store-rows-contract 𝓤 H A mem run) known-store-rows to-store-rows
           (and-then ! (load ! (from ! (stop !)) (look ! 8 refl))
@@ -395,16 +387,40 @@ module _ {M : Type 1} (𝓤 : URA M) (H : Heap 𝓤) (A : Atoms 𝓤) (W : Given
           (and-then ! (load ! (from ! (stop !)) (look ! 28 refl)) (and-then ! (load ! (from ! (fld ! refl (stop !))) (look-in ! 16 (sub ! 1 refl (whole !)))) (and-then ! (load ! (from ! (stop !)) (look ! 30 refl)) (and-then ! (load ! (from ! (stop !)) (look ! 32 refl)) (no-more !))))))))
           (back-store-rows ! (λ r-store-rows r-store-rows-is texts-store-rows rows-store-rows qualifiers-store-rows texts-store-rows-long rows-store-rows-long qualifiers-store-rows-long said-store-rows.
           land ! (from ! (stop !)) (store ! 29 refl (uint-lawful 𝓤 H A W w64 .typed r-store-rows ((vint w64 r-store-rows) ∷ []) r-store-rows-is .0)) $
-          part-4 r-store-rows r-store-rows-is texts-store-rows rows-store-rows qualifiers-store-rows texts-store-rows-long rows-store-rows-long qualifiers-store-rows-long said-store-rows)))
+          part-8 r-store-rows r-store-rows-is texts-store-rows rows-store-rows qualifiers-store-rows texts-store-rows-long rows-store-rows-long qualifiers-store-rows-long said-store-rows)))
 
-    abbrev part-2-holds : List Cell
-    part-2-holds = vacant ∷ holds (v s) ∷ holds (vint w64 at′) ∷ holds (v texts) ∷ holds (v references) ∷ holds (v comments) ∷ holds (v rows) ∷ holds (v qualifiers) ∷ holds (v letters) ∷ vacant ∷ holds (p texts) ∷ holds (v texts) ∷ holds (p references) ∷ holds (v references) ∷ holds (p comments) ∷ holds (v comments) ∷ holds
-        (vint w64 (length (rows .now))) ∷ holds (vint w64 (length (qualifiers .now))) ∷ vacant ∷ vacant ∷ vacant ∷ vacant ∷ vacant ∷ vacant ∷ vacant ∷ vacant ∷ []
+      abbrev part-6-holds : List Cell
+      part-6-holds = vacant ∷ holds (v s) ∷ holds (vint w64 at′) ∷ holds (v texts) ∷ holds (v references) ∷ holds (v comments) ∷ holds (v rows) ∷ holds (v qualifiers) ∷ holds (v letters) ∷ holds (Prepared-val r-prepare) ∷ holds (vptr (texts .ptr .0) (texts .ptr .1)) ∷ holds (v texts) ∷ holds (vptr (references .ptr .0) (references .ptr .1)) ∷ holds
+          (v references) ∷ holds (vptr (comments .ptr .0) (comments .ptr .1)) ∷ holds (v comments) ∷ holds (vint w64 (length (rows .now))) ∷ holds (vint w64 (length (qualifiers .now))) ∷ holds (vptr (letters .ptr .0) (letters .ptr .1)) ∷ holds (v letters) ∷ holds (vptr (texts .ptr .0) (texts .ptr .1)) ∷ holds (v texts) ∷ holds
+          (vptr (rows .ptr .0) (rows .ptr .1)) ∷ holds (v rows) ∷ vacant ∷ vacant ∷ []
 
-    part-2 : Sq W (has-first (standing part-2-holds)) (runs C Λ E body.t-9 (atRet E Post))
-    part-2 =
-        assigns ! (addr ! (from ! (fld ! refl (hop ! (look-in ! 22 (sub ! 0 refl (whole !))) (stop !))))) (from ! (stop !)) (init ! 32 refl (tt, tt)) $
-        assigns ! (agg ! (and-then ! (load ! (from ! (stop !)) (look ! 32 refl)) (and-then ! (load ! (from ! (fld ! refl (stop !))) (look-in ! 22 (sub ! 1 refl (whole !)))) (no-more !)))) (from ! (stop !)) (init ! 33 refl (tt, (tt, (record { fits = letters-room .0 }, tt)))) $
+      part-6 : Sq W (‵ (flft κ₀ q₀) ∷ ‵ (flft κ₁ q₁) ∷ ‵ (flft κ₂ q₂) ∷ ‵ (flft κ₃ q₃) ∷ ‵ (flft κ₄ q₄) ∷ ‵ (flft κ₅ q₅) ∷ ‵ (flft κ₆ q₆) ∷ ‵ s-own ∷ ‵ (texts-own texts-prepare) ∷ ‵ (references-last references-prepare) ∷ ‵ (comments-last comments-prepare) ∷ ‵ (rows-own (rows .now)) ∷ ‵ (qualifiers-own (qualifiers .now)) ∷ ‵
+          (letters-last letters-prepare) ∷ standing part-6-holds) (runs C Λ E body.t-16 (atRet E Post))
+      part-6 =
+          assigns ! (addr ! (from ! (fld ! refl (hop ! (look-in ! 21 (sub ! 0 refl (whole !))) (stop !))))) (from ! (stop !)) (init ! 38 refl (tt, tt)) $
+          assigns ! (agg ! (and-then ! (load ! (from ! (stop !)) (look ! 38 refl)) (and-then ! (load ! (from ! (fld ! refl (stop !))) (look-in ! 21 (sub ! 1 refl (whole !)))) (no-more !)))) (from ! (stop !)) (init ! 39 refl (tt, (tt, (record { fits = qualifiers-room .0 }, tt)))) $
+          part-7
+
+      abbrev part-5-holds : List Cell
+      part-5-holds = vacant ∷ holds (v s) ∷ holds (vint w64 at′) ∷ holds (v texts) ∷ holds (v references) ∷ holds (v comments) ∷ holds (v rows) ∷ holds (v qualifiers) ∷ holds (v letters) ∷ holds (Prepared-val r-prepare) ∷ holds (vptr (texts .ptr .0) (texts .ptr .1)) ∷ holds (v texts) ∷ holds (vptr (references .ptr .0) (references .ptr .1)) ∷ holds
+          (v references) ∷ holds (vptr (comments .ptr .0) (comments .ptr .1)) ∷ holds (v comments) ∷ holds (vint w64 (length (rows .now))) ∷ holds (vint w64 (length (qualifiers .now))) ∷ holds (vptr (letters .ptr .0) (letters .ptr .1)) ∷ holds (v letters) ∷ vacant ∷ vacant ∷ vacant ∷ vacant ∷ vacant ∷ vacant ∷ []
+
+      part-5 : Sq W (‵ (flft κ₀ q₀) ∷ ‵ (flft κ₁ q₁) ∷ ‵ (flft κ₂ q₂) ∷ ‵ (flft κ₃ q₃) ∷ ‵ (flft κ₄ q₄) ∷ ‵ (flft κ₅ q₅) ∷ ‵ (flft κ₆ q₆) ∷ ‵ s-own ∷ ‵ (texts-own texts-prepare) ∷ ‵ (references-last references-prepare) ∷ ‵ (comments-last comments-prepare) ∷ ‵ (rows-own (rows .now)) ∷ ‵ (qualifiers-own (qualifiers .now)) ∷ ‵
+          (letters-last letters-prepare) ∷ standing part-5-holds) (runs C Λ E body.t-12 (atRet E Post))
+      part-5 =
+          assigns ! (addr ! (from ! (fld ! refl (hop ! (look-in ! 17 (sub ! 0 refl (whole !))) (stop !))))) (from ! (stop !)) (init ! 34 refl (tt, tt)) $
+          assigns ! (agg ! (and-then ! (load ! (from ! (stop !)) (look ! 34 refl)) (and-then ! (load ! (from ! (fld ! refl (stop !))) (look-in ! 17 (sub ! 1 refl (whole !)))) (no-more !)))) (from ! (stop !)) (init ! 35 refl (tt, (tt, (record { fits = texts-room .0 }, tt)))) $
+          assigns ! (addr ! (from ! (fld ! refl (hop ! (look-in ! 20 (sub ! 0 refl (whole !))) (stop !))))) (from ! (stop !)) (init ! 36 refl (tt, tt)) $
+          assigns ! (agg ! (and-then ! (load ! (from ! (stop !)) (look ! 36 refl)) (and-then ! (load ! (from ! (fld ! refl (stop !))) (look-in ! 20 (sub ! 1 refl (whole !)))) (no-more !)))) (from ! (stop !)) (init ! 37 refl (tt, (tt, (record { fits = rows-room .0 }, tt)))) $
+          part-6
+
+    abbrev part-4-holds : List Cell
+    part-4-holds = vacant ∷ holds (v s) ∷ holds (vint w64 at′) ∷ holds (v texts) ∷ holds (v references) ∷ holds (v comments) ∷ holds (v rows) ∷ holds (v qualifiers) ∷ holds (v letters) ∷ vacant ∷ holds (vptr (texts .ptr .0) (texts .ptr .1)) ∷ holds (v texts) ∷ holds (vptr (references .ptr .0) (references .ptr .1)) ∷ holds (v references) ∷ holds
+        (vptr (comments .ptr .0) (comments .ptr .1)) ∷ holds (v comments) ∷ holds (vint w64 (length (rows .now))) ∷ holds (vint w64 (length (qualifiers .now))) ∷ holds (vptr (letters .ptr .0) (letters .ptr .1)) ∷ holds (v letters) ∷ vacant ∷ vacant ∷ vacant ∷ vacant ∷ vacant ∷ vacant ∷ []
+
+    part-4 : Sq W (‵ (flft κ₀ q₀) ∷ ‵ (flft κ₁ q₁) ∷ ‵ (flft κ₂ q₂) ∷ ‵ (flft κ₃ q₃) ∷ ‵ (flft κ₄ q₄) ∷ ‵ (flft κ₅ q₅) ∷ ‵ (flft κ₆ q₆) ∷ ‵ s-own ∷ ‵ (texts-own (texts .now)) ∷ ‵ (references-own (references .now)) ∷ ‵ (comments-own (comments .now)) ∷ ‵ (rows-own (rows .now)) ∷ ‵ (qualifiers-own (qualifiers .now)) ∷ ‵ (letters-own (letters .now)) ∷
+        standing part-4-holds) (runs C Λ E body.t-11 (atRet E Post))
+    part-4 =
         lends-prepare ! tt (λ k-texts.
         calls-at ! fm (prepare-contract 𝓤 H A mem run) known-prepare (to-prepare k-texts)
         (and-then ! (load ! (from ! (stop !)) (look ! 8 refl))
@@ -413,21 +429,42 @@ module _ {M : Type 1} (𝓤 : URA M) (H : Heap 𝓤) (A : Atoms 𝓤) (W : Given
         (and-then ! (load ! (from ! (stop !)) (look ! 20 refl)) (and-then ! (load ! (from ! (stop !)) (look ! 22 refl)) (and-then ! (load ! (from ! (stop !)) (look ! 23 refl)) (and-then ! (load ! (from ! (stop !)) (look ! 24 refl)) (and-then ! (load ! (from ! (stop !)) (look ! 26 refl)) (no-more !)))))))))
         (back-prepare ! k-texts (λ r-prepare r-prepare-is texts-prepare references-prepare comments-prepare letters-prepare texts-prepare-long references-prepare-long comments-prepare-long letters-prepare-long said-prepare.
         land ! (from ! (stop !)) (init ! 23 refl (LL.lawful Prepared-is.the-type Prepared-has.the-laws 𝓤 H A W .typed r-prepare ((Prepared-val r-prepare) ∷ []) r-prepare-is .0)) $
-        part-3 r-prepare r-prepare-is texts-prepare references-prepare comments-prepare letters-prepare texts-prepare-long references-prepare-long comments-prepare-long letters-prepare-long said-prepare)))
+        part-5 r-prepare r-prepare-is texts-prepare references-prepare comments-prepare letters-prepare texts-prepare-long references-prepare-long comments-prepare-long letters-prepare-long said-prepare)))
+
+    abbrev part-3-holds : List Cell
+    part-3-holds = vacant ∷ holds (v s) ∷ holds (vint w64 at′) ∷ holds (v texts) ∷ holds (v references) ∷ holds (v comments) ∷ holds (v rows) ∷ holds (v qualifiers) ∷ holds (v letters) ∷ vacant ∷ holds (vptr (texts .ptr .0) (texts .ptr .1)) ∷ holds (v texts) ∷ holds (vptr (references .ptr .0) (references .ptr .1)) ∷ holds (v references) ∷ holds
+        (vptr (comments .ptr .0) (comments .ptr .1)) ∷ holds (v comments) ∷ holds (vint w64 (length (rows .now))) ∷ holds (vint w64 (length (qualifiers .now))) ∷ vacant ∷ vacant ∷ vacant ∷ vacant ∷ vacant ∷ vacant ∷ vacant ∷ vacant ∷ []
+
+    part-3 : Sq W (‵ (flft κ₀ q₀) ∷ ‵ (flft κ₁ q₁) ∷ ‵ (flft κ₂ q₂) ∷ ‵ (flft κ₃ q₃) ∷ ‵ (flft κ₄ q₄) ∷ ‵ (flft κ₅ q₅) ∷ ‵ (flft κ₆ q₆) ∷ ‵ s-own ∷ ‵ (texts-own (texts .now)) ∷ ‵ (references-own (references .now)) ∷ ‵ (comments-own (comments .now)) ∷ ‵ (rows-own (rows .now)) ∷ ‵ (qualifiers-own (qualifiers .now)) ∷ ‵ (letters-own (letters .now)) ∷
+        standing part-3-holds) (runs C Λ E body.t-9 (atRet E Post))
+    part-3 =
+        assigns ! (addr ! (from ! (fld ! refl (hop ! (look-in ! 22 (sub ! 0 refl (whole !))) (stop !))))) (from ! (stop !)) (init ! 32 refl (tt, tt)) $
+        assigns ! (agg ! (and-then ! (load ! (from ! (stop !)) (look ! 32 refl)) (and-then ! (load ! (from ! (fld ! refl (stop !))) (look-in ! 22 (sub ! 1 refl (whole !)))) (no-more !)))) (from ! (stop !)) (init ! 33 refl (tt, (tt, (record { fits = letters-room .0 }, tt)))) $
+        part-4
+
+    abbrev part-2-holds : List Cell
+    part-2-holds = vacant ∷ holds (v s) ∷ holds (vint w64 at′) ∷ holds (v texts) ∷ holds (v references) ∷ holds (v comments) ∷ holds (v rows) ∷ holds (v qualifiers) ∷ holds (v letters) ∷ vacant ∷ holds (vptr (texts .ptr .0) (texts .ptr .1)) ∷ holds (v texts) ∷ holds (vptr (references .ptr .0) (references .ptr .1)) ∷ holds (v references) ∷ vacant ∷
+        vacant ∷ vacant ∷ vacant ∷ vacant ∷ vacant ∷ vacant ∷ vacant ∷ vacant ∷ vacant ∷ vacant ∷ vacant ∷ []
+
+    part-2 : Sq W (‵ (flft κ₀ q₀) ∷ ‵ (flft κ₁ q₁) ∷ ‵ (flft κ₂ q₂) ∷ ‵ (flft κ₃ q₃) ∷ ‵ (flft κ₄ q₄) ∷ ‵ (flft κ₅ q₅) ∷ ‵ (flft κ₆ q₆) ∷ ‵ s-own ∷ ‵ (texts-own (texts .now)) ∷ ‵ (references-own (references .now)) ∷ ‵ (comments-own (comments .now)) ∷ ‵ (rows-own (rows .now)) ∷ ‵ (qualifiers-own (qualifiers .now)) ∷ ‵ (letters-own (letters .now)) ∷
+        standing part-2-holds) (runs C Λ E body.t-5 (atRet E Post))
+    part-2 =
+        assigns ! (addr ! (from ! (fld ! refl (hop ! (look-in ! 19 (sub ! 0 refl (whole !))) (stop !))))) (from ! (stop !)) (init ! 28 refl (tt, tt)) $
+        assigns ! (agg ! (and-then ! (load ! (from ! (stop !)) (look ! 28 refl)) (and-then ! (load ! (from ! (fld ! refl (stop !))) (look-in ! 19 (sub ! 1 refl (whole !)))) (no-more !)))) (from ! (stop !)) (init ! 29 refl (tt, (tt, (record { fits = comments-room .0 }, tt)))) $
+        assigns ! (of-opd ! (load ! (from ! (fld ! refl (stop !))) (look-in ! 20 (sub ! 1 refl (whole !))))) (from ! (stop !)) (init ! 30 refl (uint-lawful 𝓤 H A W w64 .typed (length (rows .now)) ((vint w64 (length (rows .now))) ∷ []) (refl, rows-room .0) .0)) $
+        assigns ! (of-opd ! (load ! (from ! (fld ! refl (stop !))) (look-in ! 21 (sub ! 1 refl (whole !))))) (from ! (stop !)) (init ! 31 refl (uint-lawful 𝓤 H A W w64 .typed (length (qualifiers .now)) ((vint w64 (length (qualifiers .now))) ∷ []) (refl, qualifiers-room .0) .0)) $
+        part-3
 
     abbrev part-1-holds : List Cell
     part-1-holds = vacant ∷ holds (v s) ∷ holds (vint w64 at′) ∷ holds (v texts) ∷ holds (v references) ∷ holds (v comments) ∷ holds (v rows) ∷ holds (v qualifiers) ∷ holds (v letters) ∷ vacant ∷ vacant ∷ vacant ∷ vacant ∷ vacant ∷ vacant ∷ vacant ∷ vacant ∷ vacant ∷ vacant ∷ vacant ∷ vacant ∷ vacant ∷ vacant ∷ vacant ∷ vacant ∷ vacant ∷ []
 
-    part-1 : Sq W (has-first (standing part-1-holds)) (runs C Λ E body.t-1 (atRet E Post))
+    part-1 : Sq W (‵ (flft κ₀ q₀) ∷ ‵ (flft κ₁ q₁) ∷ ‵ (flft κ₂ q₂) ∷ ‵ (flft κ₃ q₃) ∷ ‵ (flft κ₄ q₄) ∷ ‵ (flft κ₅ q₅) ∷ ‵ (flft κ₆ q₆) ∷ ‵ s-own ∷ ‵ (texts-own (texts .now)) ∷ ‵ (references-own (references .now)) ∷ ‵ (comments-own (comments .now)) ∷ ‵ (rows-own (rows .now)) ∷ ‵ (qualifiers-own (qualifiers .now)) ∷ ‵ (letters-own (letters .now)) ∷
+        standing part-1-holds) (runs C Λ E body.t-1 (atRet E Post))
     part-1 =
         assigns ! (addr ! (from ! (fld ! refl (hop ! (look-in ! 17 (sub ! 0 refl (whole !))) (stop !))))) (from ! (stop !)) (init ! 24 refl (tt, tt)) $
         assigns ! (agg ! (and-then ! (load ! (from ! (stop !)) (look ! 24 refl)) (and-then ! (load ! (from ! (fld ! refl (stop !))) (look-in ! 17 (sub ! 1 refl (whole !)))) (no-more !)))) (from ! (stop !)) (init ! 25 refl (tt, (tt, (record { fits = texts-room .0 }, tt)))) $
         assigns ! (addr ! (from ! (fld ! refl (hop ! (look-in ! 18 (sub ! 0 refl (whole !))) (stop !))))) (from ! (stop !)) (init ! 26 refl (tt, tt)) $
         assigns ! (agg ! (and-then ! (load ! (from ! (stop !)) (look ! 26 refl)) (and-then ! (load ! (from ! (fld ! refl (stop !))) (look-in ! 18 (sub ! 1 refl (whole !)))) (no-more !)))) (from ! (stop !)) (init ! 27 refl (tt, (tt, (record { fits = references-room .0 }, tt)))) $
-        assigns ! (addr ! (from ! (fld ! refl (hop ! (look-in ! 19 (sub ! 0 refl (whole !))) (stop !))))) (from ! (stop !)) (init ! 28 refl (tt, tt)) $
-        assigns ! (agg ! (and-then ! (load ! (from ! (stop !)) (look ! 28 refl)) (and-then ! (load ! (from ! (fld ! refl (stop !))) (look-in ! 19 (sub ! 1 refl (whole !)))) (no-more !)))) (from ! (stop !)) (init ! 29 refl (tt, (tt, (record { fits = comments-room .0 }, tt)))) $
-        assigns ! (of-opd ! (load ! (from ! (fld ! refl (stop !))) (look-in ! 20 (sub ! 1 refl (whole !))))) (from ! (stop !)) (init ! 30 refl (uint-lawful 𝓤 H A W w64 .typed (length (rows .now)) ((vint w64 (length (rows .now))) ∷ []) (refl, rows-room .0) .0)) $
-        assigns ! (of-opd ! (load ! (from ! (fld ! refl (stop !))) (look-in ! 21 (sub ! 1 refl (whole !))))) (from ! (stop !)) (init ! 31 refl (uint-lawful 𝓤 H A W w64 .typed (length (qualifiers .now)) ((vint w64 (length (qualifiers .now))) ∷ []) (refl, qualifiers-room .0) .0)) $
         part-2
 
     begins : Sq W (locals 𝓤 H A E (vacant ∷ vacant ∷ vacant ∷ vacant ∷ vacant ∷ vacant ∷ vacant ∷ vacant ∷ vacant ∷ vacant ∷ vacant ∷ vacant ∷ vacant ∷ vacant ∷ vacant ∷ vacant ∷ vacant ∷ vacant ∷ vacant ∷ vacant ∷ vacant ∷ vacant ∷ vacant ∷ vacant ∷ vacant ∷ vacant ∷ []) (raw (Dies 𝓤 H A E) ∷ Had []))

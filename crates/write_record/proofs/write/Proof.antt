@@ -123,21 +123,19 @@ State-val = LL.val State-is.the-type State-has.the-laws
 abbrev WriteAnswer-val : WriteAnswer → Val
 WriteAnswer-val = EL.val WriteAnswer-is.the-type WriteAnswer-has.the-laws
 
--- the machine values of a slice and of its pointer
+-- the machine value of a slice
 abbrev v : {X : Type 0} → RefT (List X) → Val
 v r = sliceVal (r .ptr) (length (r .now))
-
-abbrev p : {X : Type 0} → RefT (List X) → Val
-p r = vptr (r .ptr .0) (r .ptr .1)
 
 -- the parts of a turn, which the generated MIR has under no name
 abbrev turn-from-7 : S.Body
 turn-from-7 = S.assign (S.place 10 []) (S.rvOpd (S.copy (S.place 12 [])))
 
+abbrev turn-from-6 : S.Body
+turn-from-6 = S.seq (S.call #write-record-turns·step (S.copy (S.place 16 []) ∷ S.copy (S.place 10 []) ∷ S.copy (S.place 11 []) ∷ S.copy (S.place 2 []) ∷ S.copy (S.place 3 []) ∷ S.copy (S.place 4 []) ∷ S.copy (S.place 6 []) ∷ S.copy (S.place 7 []) ∷ S.copy (S.place 8 []) ∷ S.copy (S.place 9 []) ∷ []) (S.place 12 [])) turn-from-7
+
 abbrev turn-from-4 : S.Body
-turn-from-4 = S.seq (S.assign (S.place 15 []) (S.addrOf (S.place 1 (S.field 0 ∷ S.deref (tyInt w8) ∷ []))))
-    (S.seq (S.assign (S.place 16 []) (S.aggregate (S.copy (S.place 15 []) ∷ S.copy (S.place 1 (S.field 1 ∷ [])) ∷ [])))
-    (S.seq (S.call #write-record-turns·step (S.copy (S.place 16 []) ∷ S.copy (S.place 10 []) ∷ S.copy (S.place 11 []) ∷ S.copy (S.place 2 []) ∷ S.copy (S.place 3 []) ∷ S.copy (S.place 4 []) ∷ S.copy (S.place 6 []) ∷ S.copy (S.place 7 []) ∷ S.copy (S.place 8 []) ∷ S.copy (S.place 9 []) ∷ []) (S.place 12 [])) turn-from-7))
+turn-from-4 = S.seq (S.assign (S.place 15 []) (S.addrOf (S.place 1 (S.field 0 ∷ S.deref (tyInt w8) ∷ [])))) (S.seq (S.assign (S.place 16 []) (S.aggregate (S.copy (S.place 15 []) ∷ S.copy (S.place 1 (S.field 1 ∷ [])) ∷ []))) turn-from-6)
 
 abbrev turn-from-3 : S.Body
 turn-from-3 = S.seq (S.call #base-rows·fetch-row (S.copy (S.place 5 []) ∷ S.copy (S.place 10 (S.field 2 ∷ [])) ∷ []) (S.place 11 [])) turn-from-4
@@ -198,10 +196,7 @@ module _ {M : Type 1} (𝓤 : URA M) (H : Heap 𝓤) (A : Atoms 𝓤) (W : Given
   Had Γ = (‵ (flft κ₀ q₀) ⊛ ‵ (flft κ₁ q₁) ⊛ ‵ (flft κ₂ q₂) ⊛ ‵ (flft κ₃ q₃) ⊛ ‵ (flft κ₄ q₄) ⊛ ‵ (flft κ₅ q₅) ⊛ ‵ (flft κ₆ q₆) ⊛ ‵ ftrue) ∷ ‵
       (owns (MutSlice (named 0) κ₀ u8 ∷ ShrSlice (named 1) κ₁ u8 ∷ ShrSlice (named 2) κ₂ usize ∷ ShrSlice (named 3) κ₃ usize ∷ ShrSlice (named 4) κ₄ Feature-is.the-row ∷ ShrSlice (named 5) κ₅ usize ∷ ShrSlice (named 6) κ₆ u8 ∷ Head-is.the-row ∷ How-is.the-row ∷ []) a at-entry) ∷ Γ
 
-  abbrev has-first : List (Item 𝓤) → List (Item 𝓤)
-  has-first Γ = ‵ (flft κ₀ q₀) ∷ ‵ (flft κ₁ q₁) ∷ ‵ (flft κ₂ q₂) ∷ ‵ (flft κ₃ q₃) ∷ ‵ (flft κ₄ q₄) ∷ ‵ (flft κ₅ q₅) ∷ ‵ (flft κ₆ q₆) ∷ ‵ (out-own (out .now)) ∷ ‵ texts-own ∷ ‵ references-own ∷ ‵ comments-own ∷ ‵ rows-own ∷ ‵ qualifiers-own ∷ ‵ letters-own ∷ Γ
-
-  opened : {K : Type 0} {Γ : List (Item 𝓤)} {G : Goal 𝓤 H} → K → Seq K W (has-first Γ) G → Seq K W (Had Γ) G
+  opened : {K : Type 0} {Γ : List (Item 𝓤)} {G : Goal 𝓤 H} → K → Seq K W (‵ (flft κ₀ q₀) ∷ ‵ (flft κ₁ q₁) ∷ ‵ (flft κ₂ q₂) ∷ ‵ (flft κ₃ q₃) ∷ ‵ (flft κ₄ q₄) ∷ ‵ (flft κ₅ q₅) ∷ ‵ (flft κ₆ q₆) ∷ ‵ (out-own (out .now)) ∷ ‵ texts-own ∷ ‵ references-own ∷ ‵ comments-own ∷ ‵ rows-own ∷ ‵ qualifiers-own ∷ ‵ letters-own ∷ Γ) G → Seq K W (Had Γ) G
   opened t then =
       splits t (‵ (flft κ₀ q₀) ∷ ‵ (flft κ₁ q₁) ∷ ‵ (flft κ₂ q₂) ∷ ‵ (flft κ₃ q₃) ∷ ‵ (flft κ₄ q₄) ∷ ‵ (flft κ₅ q₅) ∷ ‵ (flft κ₆ q₆) ∷ []) (id⊢ 𝓤 _) $
       move t (7 ∷ []) $
@@ -249,7 +244,8 @@ module _ {M : Type 1} (𝓤 : URA M) (H : Heap 𝓤) (A : Atoms 𝓤) (W : Given
         group ! 6 $
         done !
 
-    lends-start : {K : Type 0} {Γ : List (Item 𝓤)} {G : Goal 𝓤 H} → K → Soaks G → (Seq K W (raw (start-contract 𝓤 H A mem run .pre to-start) ∷ ‵ letters-own ∷ ‵ qualifiers-own ∷ ‵ comments-own ∷ ‵ references-own ∷ ‵ texts-own ∷ ‵ (flft κ₀ q₀) ∷ ‵ (flft κ₄ q₄) ∷ ‵ (out-own (out .now)) ∷ ‵ rows-own ∷ Γ) G) → Seq K W (has-first Γ) G
+    lends-start : {K : Type 0} {Γ : List (Item 𝓤)} {G : Goal 𝓤 H} → K → Soaks G → (Seq K W (raw (start-contract 𝓤 H A mem run .pre to-start) ∷ ‵ letters-own ∷ ‵ qualifiers-own ∷ ‵ comments-own ∷ ‵ references-own ∷ ‵ texts-own ∷ ‵ (flft κ₀ q₀) ∷ ‵ (flft κ₄ q₄) ∷ ‵ (out-own (out .now)) ∷ ‵ rows-own ∷ Γ) G) → Seq K W
+        (‵ (flft κ₀ q₀) ∷ ‵ (flft κ₁ q₁) ∷ ‵ (flft κ₂ q₂) ∷ ‵ (flft κ₃ q₃) ∷ ‵ (flft κ₄ q₄) ∷ ‵ (flft κ₅ q₅) ∷ ‵ (flft κ₆ q₆) ∷ ‵ (out-own (out .now)) ∷ ‵ texts-own ∷ ‵ references-own ∷ ‵ comments-own ∷ ‵ rows-own ∷ ‵ qualifiers-own ∷ ‵ letters-own ∷ Γ) G
     lends-start t z next =
         move t (8 ∷ []) $
         use1 W (‵ texts-own ⊛ ‵ texts-own) (shr-slice-copy 𝓤 H A W (named 1) κ₁ u8 .twice texts (v texts ∷ [])) $ split t $
@@ -290,9 +286,6 @@ module _ {M : Type 1} (𝓤 : URA M) (H : Heap 𝓤) (A : Atoms 𝓤) (W : Given
         next r-start r-start-is said-start))))
 
     module _ (r-start : State) (r-start-is : Is State-is.the-row r-start ((State-val r-start) ∷ [])) (said-start : Said-start r-start) where
-      abbrev has-start : List (Item 𝓤) → List (Item 𝓤)
-      has-start Γ = ‵ (flft κ₀ q₀) ∷ ‵ (flft κ₁ q₁) ∷ ‵ (flft κ₂ q₂) ∷ ‵ (flft κ₃ q₃) ∷ ‵ (flft κ₄ q₄) ∷ ‵ (flft κ₅ q₅) ∷ ‵ (flft κ₆ q₆) ∷ ‵ (out-own (out .now)) ∷ ‵ texts-own ∷ ‵ references-own ∷ ‵ comments-own ∷ ‵ rows-own ∷ ‵ qualifiers-own ∷ ‵ letters-own ∷ Γ
-
       -- where the loop stands
       pub record Standing : Type 0 where
         pub state : State
@@ -310,13 +303,10 @@ module _ {M : Type 1} (𝓤 : URA M) (H : Heap 𝓤) (A : Atoms 𝓤) (W : Given
       Nearer-wf : WellFounded Nearer
       Nearer-wf = InvImage·wf left-over (Nat·lt-wfRel .wf)
 
-      abbrev has-in-loop : Standing → List (Item 𝓤) → List (Item 𝓤)
-      has-in-loop i Γ = ‵ (flft κ₀ q₀) ∷ ‵ (flft κ₁ q₁) ∷ ‵ (flft κ₂ q₂) ∷ ‵ (flft κ₃ q₃) ∷ ‵ (flft κ₄ q₄) ∷ ‵ (flft κ₅ q₅) ∷ ‵ (flft κ₆ q₆) ∷ ‵ (out-own (i .out-now)) ∷ ‵ texts-own ∷ ‵ references-own ∷ ‵ comments-own ∷ ‵ rows-own ∷ ‵ qualifiers-own ∷ ‵ letters-own ∷ Γ
-
       -- the invariant: what stands before a turn
       abbrev At : Standing → List (Item 𝓤)
-      At i = has-in-loop i (standing (vacant ∷ holds (v out) ∷ holds (v texts) ∷ holds (v references) ∷ holds (v comments) ∷ holds (v rows) ∷ holds (v qualifiers) ∷ holds (v letters) ∷ holds (Head-val head) ∷ holds (How-val how) ∷ holds (State-val (i .state)) ∷ vacant ∷ vacant ∷ holds (vint w64 (length (rows .now))) ∷ vacant ∷ vacant ∷ vacant ∷
-          []))
+      At i = ‵ (flft κ₀ q₀) ∷ ‵ (flft κ₁ q₁) ∷ ‵ (flft κ₂ q₂) ∷ ‵ (flft κ₃ q₃) ∷ ‵ (flft κ₄ q₄) ∷ ‵ (flft κ₅ q₅) ∷ ‵ (flft κ₆ q₆) ∷ ‵ (out-own (i .out-now)) ∷ ‵ texts-own ∷ ‵ references-own ∷ ‵ comments-own ∷ ‵ rows-own ∷ ‵ qualifiers-own ∷ ‵ letters-own ∷ standing
+          (vacant ∷ holds (v out) ∷ holds (v texts) ∷ holds (v references) ∷ holds (v comments) ∷ holds (v rows) ∷ holds (v qualifiers) ∷ holds (v letters) ∷ holds (Head-val head) ∷ holds (How-val how) ∷ holds (State-val (i .state)) ∷ vacant ∷ vacant ∷ holds (vint w64 (length (rows .now))) ∷ vacant ∷ vacant ∷ vacant ∷ [])
 
       abbrev Turned : Standing → Out → SProp 𝓤
       Turned i = afterTurn 𝓤 H (Below 𝓤 H A Nearer At i) (afterBlock 𝓤 H (afterSeq 𝓤 H (Wp 𝓤 H C Λ E body.t-4 (atReturn 𝓤 H E Post)) (atReturn 𝓤 H E Post)))
@@ -342,7 +332,8 @@ module _ {M : Type 1} (𝓤 : URA M) (H : Heap 𝓤) (A : Atoms 𝓤) (W : Given
               done !
 
           lends-fetch-row : {K : Type 0} {Γ : List (Item 𝓤)} {G : Goal 𝓤 H} → K → Soaks G →
-              (Seq K W (raw (fetch-row-contract 𝓤 H A mem run .pre to-fetch-row) ∷ ‵ rows-own ∷ ‵ (flft κ₀ q₀) ∷ ‵ (flft κ₁ q₁) ∷ ‵ (flft κ₂ q₂) ∷ ‵ (flft κ₃ q₃) ∷ ‵ (flft κ₅ q₅) ∷ ‵ (flft κ₆ q₆) ∷ ‵ (out-own (i .out-now)) ∷ ‵ texts-own ∷ ‵ references-own ∷ ‵ comments-own ∷ ‵ qualifiers-own ∷ ‵ letters-own ∷ Γ) G) → Seq K W (has-in-loop i Γ) G
+              (Seq K W (raw (fetch-row-contract 𝓤 H A mem run .pre to-fetch-row) ∷ ‵ rows-own ∷ ‵ (flft κ₀ q₀) ∷ ‵ (flft κ₁ q₁) ∷ ‵ (flft κ₂ q₂) ∷ ‵ (flft κ₃ q₃) ∷ ‵ (flft κ₅ q₅) ∷ ‵ (flft κ₆ q₆) ∷ ‵ (out-own (i .out-now)) ∷ ‵ texts-own ∷ ‵ references-own ∷ ‵ comments-own ∷ ‵ qualifiers-own ∷ ‵ letters-own ∷ Γ) G) → Seq K W
+              (‵ (flft κ₀ q₀) ∷ ‵ (flft κ₁ q₁) ∷ ‵ (flft κ₂ q₂) ∷ ‵ (flft κ₃ q₃) ∷ ‵ (flft κ₄ q₄) ∷ ‵ (flft κ₅ q₅) ∷ ‵ (flft κ₆ q₆) ∷ ‵ (out-own (i .out-now)) ∷ ‵ texts-own ∷ ‵ references-own ∷ ‵ comments-own ∷ ‵ rows-own ∷ ‵ qualifiers-own ∷ ‵ letters-own ∷ Γ) G
           lends-fetch-row t z next =
               move t (11 ∷ []) $
               use1 W (‵ rows-own ⊛ ‵ rows-own) (shr-slice-copy 𝓤 H A W (named 4) κ₄ Feature-is.the-row .twice rows (v rows ∷ [])) $ split t $
@@ -376,9 +367,6 @@ module _ {M : Type 1} (𝓤 : URA M) (H : Heap 𝓤) (A : Atoms 𝓤) (W : Given
               next r-fetch-row r-fetch-row-is said-fetch-row))))
 
           module _ (r-fetch-row : Fetched) (r-fetch-row-is : Is Fetched-is.the-row r-fetch-row ((Fetched-val r-fetch-row) ∷ [])) (said-fetch-row : Said-fetch-row r-fetch-row) where
-            abbrev has-fetch-row : List (Item 𝓤) → List (Item 𝓤)
-            has-fetch-row Γ = ‵ (flft κ₀ q₀) ∷ ‵ (flft κ₁ q₁) ∷ ‵ (flft κ₂ q₂) ∷ ‵ (flft κ₃ q₃) ∷ ‵ (flft κ₄ q₄) ∷ ‵ (flft κ₅ q₅) ∷ ‵ (flft κ₆ q₆) ∷ ‵ (out-own (i .out-now)) ∷ ‵ texts-own ∷ ‵ references-own ∷ ‵ comments-own ∷ ‵ rows-own ∷ ‵ qualifiers-own ∷ ‵ letters-own ∷ Γ
-
             -- the call of `step`
             abbrev lfts-step : (k-out : Loan) → Lft × (Lft × (Lft × (Lft × (Lft × (Lft × Unit {0})))))
             lfts-step k-out = (k-out .life ∷ [], (κ₁, (κ₂, (κ₃, (κ₅, (κ₆, tt))))))
@@ -414,7 +402,7 @@ module _ {M : Type 1} (𝓤 : URA M) (H : Heap 𝓤) (A : Atoms 𝓤) (W : Given
                 done !
 
             lends-step : {K : Type 0} {Γ : List (Item 𝓤)} {G : Goal 𝓤 H} → K → Soaks G → ((k-out : Loan) → Seq K W (raw (step-contract 𝓤 H A mem run .pre (to-step k-out)) ∷ ‵ letters-own ∷ ‵ qualifiers-own ∷ ‵ comments-own ∷ ‵ references-own ∷ ‵ texts-own ∷ ‵ (Kept u8 out κ₀ q₀ (i .out-now) k-out) ∷ ‵ (flft κ₄ q₄) ∷ ‵ rows-own ∷ Γ) G) → Seq K W
-                (has-fetch-row Γ) G
+                (‵ (flft κ₀ q₀) ∷ ‵ (flft κ₁ q₁) ∷ ‵ (flft κ₂ q₂) ∷ ‵ (flft κ₃ q₃) ∷ ‵ (flft κ₄ q₄) ∷ ‵ (flft κ₅ q₅) ∷ ‵ (flft κ₆ q₆) ∷ ‵ (out-own (i .out-now)) ∷ ‵ texts-own ∷ ‵ references-own ∷ ‵ comments-own ∷ ‵ rows-own ∷ ‵ qualifiers-own ∷ ‵ letters-own ∷ Γ) G
             lends-step t z next =
                 move t (7 ∷ 0 ∷ []) $
                 use2 W (later (some (λ (k-out : Loan). ‵ (flft (k-out .life ∷ []) fullShare) ⊛ ‵ (Lent u8 out (named 0) (i .out-now) k-out) ⊛ ‵ (Kept u8 out κ₀ q₀ (i .out-now) k-out)))) (lends u8 out 𝓤 H A W (named 0) (named 0) κ₀ q₀ (i .out-now) (i .out-now-long)) $
@@ -465,16 +453,13 @@ module _ {M : Type 1} (𝓤 : URA M) (H : Heap 𝓤) (A : Atoms 𝓤) (W : Given
                 next r-step r-step-is (ws .0) (out-long ∙ (i .out-now-long)) said-step)))))
 
             module _ (r-step : State) (r-step-is : Is State-is.the-row r-step ((State-val r-step) ∷ [])) (out-step : List ℕ) (out-step-long : length out-step ≡ length (out .now)) (said-step : Said-step r-step out-step) where
-              abbrev has-step : List (Item 𝓤) → List (Item 𝓤)
-              has-step Γ = ‵ (flft κ₀ q₀) ∷ ‵ (flft κ₁ q₁) ∷ ‵ (flft κ₂ q₂) ∷ ‵ (flft κ₃ q₃) ∷ ‵ (flft κ₄ q₄) ∷ ‵ (flft κ₅ q₅) ∷ ‵ (flft κ₆ q₆) ∷ ‵ (out-own out-step) ∷ ‵ texts-own ∷ ‵ references-own ∷ ‵ comments-own ∷ ‵ rows-own ∷ ‵ qualifiers-own ∷ ‵ letters-own ∷ Γ
+              abbrev part-7-holds : List Cell
+              part-7-holds = vacant ∷ holds (v out) ∷ holds (v texts) ∷ holds (v references) ∷ holds (v comments) ∷ holds (v rows) ∷ holds (v qualifiers) ∷ holds (v letters) ∷ holds (Head-val head) ∷ holds (How-val how) ∷ holds (State-val (i .state)) ∷ holds (Fetched-val r-fetch-row) ∷ holds (State-val r-step) ∷ holds
+                  (vint w64 (length (rows .now))) ∷ holds (vbool ((i .state) .going)) ∷ holds (vptr (out .ptr .0) (out .ptr .1)) ∷ holds (v out) ∷ []
 
-              abbrev part-6-holds : List Cell
-              part-6-holds = vacant ∷ holds (v out) ∷ holds (v texts) ∷ holds (v references) ∷ holds (v comments) ∷ holds (v rows) ∷ holds (v qualifiers) ∷ holds (v letters) ∷ holds (Head-val head) ∷ holds (How-val how) ∷ holds (State-val (i .state)) ∷ holds (Fetched-val r-fetch-row) ∷ holds (State-val r-step) ∷ holds
-                  (vint w64 (length (rows .now))) ∷ holds (vbool ((i .state) .going)) ∷ holds (p out) ∷ holds (v out) ∷ []
-
-              part-6 : Sq W (has-step (standing part-6-holds)) (runs C Λ E turn-from-7 (anyQ (Turned i)))
+              part-7 : Sq W (‵ (flft κ₀ q₀) ∷ ‵ (flft κ₁ q₁) ∷ ‵ (flft κ₂ q₂) ∷ ‵ (flft κ₃ q₃) ∷ ‵ (flft κ₄ q₄) ∷ ‵ (flft κ₅ q₅) ∷ ‵ (flft κ₆ q₆) ∷ ‵ (out-own out-step) ∷ ‵ texts-own ∷ ‵ references-own ∷ ‵ comments-own ∷ ‵ rows-own ∷ ‵ qualifiers-own ∷ ‵ letters-own ∷ standing part-7-holds) (runs C Λ E turn-from-7 (anyQ (Turned i)))
               unfolding afterTurn
-              part-6 =
+              part-7 =
                   assigns-last ! (of-opd ! (load ! (from ! (stop !)) (look ! 26 refl))) (from ! (stop !)) (store ! 24 refl (LL.lawful State-is.the-type State-has.the-laws 𝓤 H A W .typed r-step ((State-val r-step) ∷ []) r-step-is .0)) $
                   forget ! 25 refl $
                   forget ! 26 refl $
@@ -483,15 +468,13 @@ module _ {M : Type 1} (𝓤 : URA M) (H : Heap 𝓤) (A : Atoms 𝓤) (W : Given
                   forget ! 30 refl $
                   again ! Nearer At i (record { state = r-step; state-is = r-step-is; out-now = out-step; out-now-long = out-step-long; holds-on = said-step .by (rows .now) (out .now) said-fetch-row test (i .holds-on) .held }) (said-step .by (rows .now) (out .now) said-fetch-row test (i .holds-on) .nearer)
 
-            abbrev part-5-holds : List Cell
-            part-5-holds = vacant ∷ holds (v out) ∷ holds (v texts) ∷ holds (v references) ∷ holds (v comments) ∷ holds (v rows) ∷ holds (v qualifiers) ∷ holds (v letters) ∷ holds (Head-val head) ∷ holds (How-val how) ∷ holds (State-val (i .state)) ∷ holds (Fetched-val r-fetch-row) ∷ vacant ∷ holds (vint w64 (length (rows .now))) ∷ holds
-                (vbool ((i .state) .going)) ∷ vacant ∷ vacant ∷ []
+            abbrev part-6-holds : List Cell
+            part-6-holds = vacant ∷ holds (v out) ∷ holds (v texts) ∷ holds (v references) ∷ holds (v comments) ∷ holds (v rows) ∷ holds (v qualifiers) ∷ holds (v letters) ∷ holds (Head-val head) ∷ holds (How-val how) ∷ holds (State-val (i .state)) ∷ holds (Fetched-val r-fetch-row) ∷ vacant ∷ holds (vint w64 (length (rows .now))) ∷ holds
+                (vbool ((i .state) .going)) ∷ holds (vptr (out .ptr .0) (out .ptr .1)) ∷ holds (v out) ∷ []
 
-            part-5 : Sq W (has-fetch-row (standing part-5-holds)) (runs C Λ E turn-from-4 (anyQ (Turned i)))
+            part-6 : Sq W (‵ (flft κ₀ q₀) ∷ ‵ (flft κ₁ q₁) ∷ ‵ (flft κ₂ q₂) ∷ ‵ (flft κ₃ q₃) ∷ ‵ (flft κ₄ q₄) ∷ ‵ (flft κ₅ q₅) ∷ ‵ (flft κ₆ q₆) ∷ ‵ (out-own (i .out-now)) ∷ ‵ texts-own ∷ ‵ references-own ∷ ‵ comments-own ∷ ‵ rows-own ∷ ‵ qualifiers-own ∷ ‵ letters-own ∷ standing part-6-holds) (runs C Λ E turn-from-6 (anyQ (Turned i)))
             unfolding afterTurn
-            part-5 =
-                assigns ! (addr ! (from ! (fld ! refl (hop ! (look-in ! 15 (sub ! 0 refl (whole !))) (stop !))))) (from ! (stop !)) (init ! 29 refl (tt, tt)) $
-                assigns ! (agg ! (and-then ! (load ! (from ! (stop !)) (look ! 29 refl)) (and-then ! (load ! (from ! (fld ! refl (stop !))) (look-in ! 15 (sub ! 1 refl (whole !)))) (no-more !)))) (from ! (stop !)) (init ! 30 refl (tt, (tt, (record { fits = out-room .0 }, tt)))) $
+            part-6 =
                 lends-step ! tt (λ k-out.
                 calls-at ! fm (step-contract 𝓤 H A mem run) known-step (to-step k-out)
                 (and-then ! (load ! (from ! (stop !)) (look ! 25 refl))
@@ -502,13 +485,24 @@ module _ {M : Type 1} (𝓤 : URA M) (H : Heap 𝓤) (A : Atoms 𝓤) (W : Given
                 (and-then ! (load ! (from ! (stop !)) (look ! 13 refl)) (and-then ! (load ! (from ! (stop !)) (look ! 15 refl)) (and-then ! (load ! (from ! (stop !)) (look ! 16 refl)) (and-then ! (load ! (from ! (stop !)) (look ! 17 refl)) (and-then ! (load ! (from ! (stop !)) (look ! 18 refl)) (no-more !)))))))))))
                 (back-step ! k-out (λ r-step r-step-is out-step out-step-long said-step.
                 land ! (from ! (stop !)) (init ! 26 refl (LL.lawful State-is.the-type State-has.the-laws 𝓤 H A W .typed r-step ((State-val r-step) ∷ []) r-step-is .0)) $
-                part-6 r-step r-step-is out-step out-step-long said-step)))
+                part-7 r-step r-step-is out-step out-step-long said-step)))
+
+            abbrev part-5-holds : List Cell
+            part-5-holds = vacant ∷ holds (v out) ∷ holds (v texts) ∷ holds (v references) ∷ holds (v comments) ∷ holds (v rows) ∷ holds (v qualifiers) ∷ holds (v letters) ∷ holds (Head-val head) ∷ holds (How-val how) ∷ holds (State-val (i .state)) ∷ holds (Fetched-val r-fetch-row) ∷ vacant ∷ holds (vint w64 (length (rows .now))) ∷ holds
+                (vbool ((i .state) .going)) ∷ vacant ∷ vacant ∷ []
+
+            part-5 : Sq W (‵ (flft κ₀ q₀) ∷ ‵ (flft κ₁ q₁) ∷ ‵ (flft κ₂ q₂) ∷ ‵ (flft κ₃ q₃) ∷ ‵ (flft κ₄ q₄) ∷ ‵ (flft κ₅ q₅) ∷ ‵ (flft κ₆ q₆) ∷ ‵ (out-own (i .out-now)) ∷ ‵ texts-own ∷ ‵ references-own ∷ ‵ comments-own ∷ ‵ rows-own ∷ ‵ qualifiers-own ∷ ‵ letters-own ∷ standing part-5-holds) (runs C Λ E turn-from-4 (anyQ (Turned i)))
+            unfolding afterTurn
+            part-5 =
+                assigns ! (addr ! (from ! (fld ! refl (hop ! (look-in ! 15 (sub ! 0 refl (whole !))) (stop !))))) (from ! (stop !)) (init ! 29 refl (tt, tt)) $
+                assigns ! (agg ! (and-then ! (load ! (from ! (stop !)) (look ! 29 refl)) (and-then ! (load ! (from ! (fld ! refl (stop !))) (look-in ! 15 (sub ! 1 refl (whole !)))) (no-more !)))) (from ! (stop !)) (init ! 30 refl (tt, (tt, (record { fits = out-room .0 }, tt)))) $
+                part-6
 
           abbrev part-4-holds : List Cell
           part-4-holds = vacant ∷ holds (v out) ∷ holds (v texts) ∷ holds (v references) ∷ holds (v comments) ∷ holds (v rows) ∷ holds (v qualifiers) ∷ holds (v letters) ∷ holds (Head-val head) ∷ holds (How-val how) ∷ holds (State-val (i .state)) ∷ vacant ∷ vacant ∷ holds (vint w64 (length (rows .now))) ∷ holds (vbool ((i .state) .going)) ∷ vacant
               ∷ vacant ∷ []
 
-          part-4 : Sq W (has-in-loop i (standing part-4-holds)) (runs C Λ E turn-from-3 (anyQ (Turned i)))
+          part-4 : Sq W (‵ (flft κ₀ q₀) ∷ ‵ (flft κ₁ q₁) ∷ ‵ (flft κ₂ q₂) ∷ ‵ (flft κ₃ q₃) ∷ ‵ (flft κ₄ q₄) ∷ ‵ (flft κ₅ q₅) ∷ ‵ (flft κ₆ q₆) ∷ ‵ (out-own (i .out-now)) ∷ ‵ texts-own ∷ ‵ references-own ∷ ‵ comments-own ∷ ‵ rows-own ∷ ‵ qualifiers-own ∷ ‵ letters-own ∷ standing part-4-holds) (runs C Λ E turn-from-3 (anyQ (Turned i)))
           unfolding afterTurn
           part-4 =
               lends-fetch-row ! tt (
@@ -522,9 +516,12 @@ module _ {M : Type 1} (𝓤 : URA M) (H : Heap 𝓤) (A : Atoms 𝓤) (W : Given
           ended : WriteAnswered how (roomsIn (texts .now) (references .now) (comments .now) (flat (rows .now)) (qualifiers .now) (letters .now)) head (out .now) (i .out-now) ((i .state) .answer)
           ended = ended-answer call-of (rows .now) (out .now) (i .state) (i .out-now) test (i .holds-on)
 
-          exits : ent 𝓤 (⋆ 𝓤 H A (has-in-loop i [])) (Post (WriteAnswer-val ((i .state) .answer)))
+          abbrev at-last : List (Item 𝓤)
+          at-last = ‵ (flft κ₀ q₀) ∷ ‵ (flft κ₁ q₁) ∷ ‵ (flft κ₂ q₂) ∷ ‵ (flft κ₃ q₃) ∷ ‵ (flft κ₄ q₄) ∷ ‵ (flft κ₅ q₅) ∷ ‵ (flft κ₆ q₆) ∷ ‵ (out-own (i .out-now)) ∷ ‵ texts-own ∷ ‵ references-own ∷ ‵ comments-own ∷ ‵ rows-own ∷ ‵ qualifiers-own ∷ ‵ letters-own ∷ []
+
+          exits : ent 𝓤 (⋆ 𝓤 H A at-last) (Post (WriteAnswer-val ((i .state) .answer)))
           exits =
-              qed W (has-in-loop i []) ∵
+              qed W at-last ∵
               move ! (8 ∷ 9 ∷ 10 ∷ 11 ∷ 12 ∷ 13 ∷ []) $
               drop ! $ drop ! $ drop ! $ drop ! $ drop ! $ drop ! $
               suffices ! _ (ends-at 𝓤 H A f.ended stayed (f.clauses 𝓤 H A mem run) W bound (WriteAnswer-val ((i .state) .answer)) ((i .state) .answer) ((i .out-now), (tt, (tt, (tt, (tt, (tt, (tt, (tt, (tt, tt))))))))) ((i .out-now-long), (tt, (tt, (tt, (tt, (tt, (tt, (tt, (tt, tt)))))))))) $ says ! ended $
@@ -534,40 +531,40 @@ module _ {M : Type 1} (𝓤 : URA M) (H : Heap 𝓤) (A : Atoms 𝓤) (W : Given
               group ! 8 $ frame ! $ group ! 10 $
               done !
 
-          abbrev part-7-holds : List Cell
-          part-7-holds = vacant ∷ holds (v out) ∷ holds (v texts) ∷ holds (v references) ∷ holds (v comments) ∷ holds (v rows) ∷ holds (v qualifiers) ∷ holds (v letters) ∷ holds (Head-val head) ∷ holds (How-val how) ∷ holds (State-val (i .state)) ∷ vacant ∷ vacant ∷ holds (vint w64 (length (rows .now))) ∷ holds (vbool ((i .state) .going)) ∷ vacant
+          abbrev part-8-holds : List Cell
+          part-8-holds = vacant ∷ holds (v out) ∷ holds (v texts) ∷ holds (v references) ∷ holds (v comments) ∷ holds (v rows) ∷ holds (v qualifiers) ∷ holds (v letters) ∷ holds (Head-val head) ∷ holds (How-val how) ∷ holds (State-val (i .state)) ∷ vacant ∷ vacant ∷ holds (vint w64 (length (rows .now))) ∷ holds (vbool ((i .state) .going)) ∷ vacant
               ∷ vacant ∷ []
 
-          part-7 : Sq W (has-in-loop i (standing part-7-holds)) (runs C Λ E body.t-4 (atRet E Post))
-          part-7 =
+          part-8 : Sq W (‵ (flft κ₀ q₀) ∷ ‵ (flft κ₁ q₁) ∷ ‵ (flft κ₂ q₂) ∷ ‵ (flft κ₃ q₃) ∷ ‵ (flft κ₄ q₄) ∷ ‵ (flft κ₅ q₅) ∷ ‵ (flft κ₆ q₆) ∷ ‵ (out-own (i .out-now)) ∷ ‵ texts-own ∷ ‵ references-own ∷ ‵ comments-own ∷ ‵ rows-own ∷ ‵ qualifiers-own ∷ ‵ letters-own ∷ standing part-8-holds) (runs C Λ E body.t-4 (atRet E Post))
+          part-8 =
               assigns ! (of-opd ! (load ! (from ! (fld ! refl (stop !))) (look-in ! 24 (sub ! 7 refl (whole !))))) (from ! (stop !))
               (init ! 14 refl (EL.lawful WriteAnswer-is.the-type WriteAnswer-has.the-laws 𝓤 H A W tt .typed ((i .state) .answer) ((WriteAnswer-val ((i .state) .answer)) ∷ []) (LL.owed State-is.the-type State-has.the-laws (i .state) _ (i .state-is) .1 .1 .1 .1 .1 .1 .1 .0) .0)) $
-              returns ! (look ! 14 refl) $ frees-all ! (has-in-loop i [])
+              returns ! (look ! 14 refl) $ frees-all ! at-last
               (holds (WriteAnswer-val ((i .state) .answer)) ∷ holds (v out) ∷ holds (v texts) ∷ holds (v references) ∷ holds (v comments) ∷ holds (v rows) ∷ holds (v qualifiers) ∷ holds (v letters) ∷ holds (Head-val head) ∷ holds (How-val how) ∷ holds (State-val (i .state)) ∷ vacant ∷ vacant ∷ holds (vint w64 (length (rows .now))) ∷ holds
               (vbool ((i .state) .going)) ∷ vacant ∷ vacant ∷ []) tt exits
 
         abbrev part-3-holds : List Cell
         part-3-holds = vacant ∷ holds (v out) ∷ holds (v texts) ∷ holds (v references) ∷ holds (v comments) ∷ holds (v rows) ∷ holds (v qualifiers) ∷ holds (v letters) ∷ holds (Head-val head) ∷ holds (How-val how) ∷ holds (State-val (i .state)) ∷ vacant ∷ vacant ∷ holds (vint w64 (length (rows .now))) ∷ vacant ∷ vacant ∷ vacant ∷ []
 
-        part-3 : Sq W (has-in-loop i (standing part-3-holds)) (runs C Λ E body.turn-1 (anyQ (Turned i)))
+        part-3 : Sq W (‵ (flft κ₀ q₀) ∷ ‵ (flft κ₁ q₁) ∷ ‵ (flft κ₂ q₂) ∷ ‵ (flft κ₃ q₃) ∷ ‵ (flft κ₄ q₄) ∷ ‵ (flft κ₅ q₅) ∷ ‵ (flft κ₆ q₆) ∷ ‵ (out-own (i .out-now)) ∷ ‵ texts-own ∷ ‵ references-own ∷ ‵ comments-own ∷ ‵ rows-own ∷ ‵ qualifiers-own ∷ ‵ letters-own ∷ standing part-3-holds) (runs C Λ E body.turn-1 (anyQ (Turned i)))
         unfolding afterTurn
         part-3 =
             assigns ! (of-opd ! (load ! (from ! (fld ! refl (stop !))) (look-in ! 24 (sub ! 0 refl (whole !))))) (from ! (stop !)) (init ! 28 refl (bool-lawful 𝓤 H A W .typed ((i .state) .going) ((vbool ((i .state) .going)) ∷ []) (LL.owed State-is.the-type State-has.the-laws (i .state) _ (i .state-is) .0) .0)) $
             first ! $ branches ! (load ! (from ! (stop !)) (look ! 28 refl))
             (λ y. skips ! $ exec ! C Λ E turn-from-3 (anyQ (Turned i)) $ part-4 (is-true ((i .state) .going) y))
-            (λ y. jumps ! $ exec ! C Λ E body.t-4 (atRet E Post) $ part-7 (is-false ((i .state) .going) y))
+            (λ y. jumps ! $ exec ! C Λ E body.t-4 (atRet E Post) $ part-8 (is-false ((i .state) .going) y))
 
       abbrev part-2-holds : List Cell
       part-2-holds = vacant ∷ holds (v out) ∷ holds (v texts) ∷ holds (v references) ∷ holds (v comments) ∷ holds (v rows) ∷ holds (v qualifiers) ∷ holds (v letters) ∷ holds (Head-val head) ∷ holds (How-val how) ∷ holds (State-val r-start) ∷ vacant ∷ vacant ∷ holds (vint w64 (length (rows .now))) ∷ vacant ∷ vacant ∷ vacant ∷ []
 
-      part-2 : Sq W (has-start (standing part-2-holds)) (runs C Λ E body.t-3 (atRet E Post))
+      part-2 : Sq W (‵ (flft κ₀ q₀) ∷ ‵ (flft κ₁ q₁) ∷ ‵ (flft κ₂ q₂) ∷ ‵ (flft κ₃ q₃) ∷ ‵ (flft κ₄ q₄) ∷ ‵ (flft κ₅ q₅) ∷ ‵ (flft κ₆ q₆) ∷ ‵ (out-own (out .now)) ∷ ‵ texts-own ∷ ‵ references-own ∷ ‵ comments-own ∷ ‵ rows-own ∷ ‵ qualifiers-own ∷ ‵ letters-own ∷ standing part-2-holds) (runs C Λ E body.t-3 (atRet E Post))
       part-2 =
           first ! $ blocks ! $ loops ! 𝓣 Nearer Nearer-wf At part-3 (record { state = r-start; state-is = r-start-is; out-now = (out .now); out-now-long = refl; holds-on = said-start .by (rows .now) (out .now) refl })
 
     abbrev part-1-holds : List Cell
     part-1-holds = vacant ∷ holds (v out) ∷ holds (v texts) ∷ holds (v references) ∷ holds (v comments) ∷ holds (v rows) ∷ holds (v qualifiers) ∷ holds (v letters) ∷ holds (Head-val head) ∷ holds (How-val how) ∷ vacant ∷ vacant ∷ vacant ∷ vacant ∷ vacant ∷ vacant ∷ vacant ∷ []
 
-    part-1 : Sq W (has-first (standing part-1-holds)) (runs C Λ E body.t-1 (atRet E Post))
+    part-1 : Sq W (‵ (flft κ₀ q₀) ∷ ‵ (flft κ₁ q₁) ∷ ‵ (flft κ₂ q₂) ∷ ‵ (flft κ₃ q₃) ∷ ‵ (flft κ₄ q₄) ∷ ‵ (flft κ₅ q₅) ∷ ‵ (flft κ₆ q₆) ∷ ‵ (out-own (out .now)) ∷ ‵ texts-own ∷ ‵ references-own ∷ ‵ comments-own ∷ ‵ rows-own ∷ ‵ qualifiers-own ∷ ‵ letters-own ∷ standing part-1-holds) (runs C Λ E body.t-1 (atRet E Post))
     part-1 =
         assigns ! (of-opd ! (load ! (from ! (fld ! refl (stop !))) (look-in ! 19 (sub ! 1 refl (whole !))))) (from ! (stop !)) (init ! 27 refl (uint-lawful 𝓤 H A W w64 .typed (length (rows .now)) ((vint w64 (length (rows .now))) ∷ []) (refl, rows-room .0) .0)) $
         lends-start ! tt (
