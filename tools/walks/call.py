@@ -1,6 +1,6 @@
 """The text of a call: its terms, what the callee asks, the loans before it, and what comes back. All but the call itself is said over an open context, so it is checked once and over few entries."""
 from .mir import items, place
-from .passing import ArrayLoan, passing
+from .passing import ArrayLoan, FrontLoan, passing
 from .statements import operand, operands
 from .plain import list_of
 from .terms import OPEN, binders, fail, lists, over, par, prod, proj, tup
@@ -52,6 +52,10 @@ class Call:
         return entry, {q.said: x.term for x, q in zip(self.values, self.g.params) if not q.slice}
 
     # ---- before it
+    def within(self):
+        """that a local array has as many rows as are lent"""
+        return [l for w in self.ways.values() if isinstance(w, FrontLoan) for l in (f'{w.within} : {w.p.count} ≤ {w.p.n}', f'{w.within} = {self.f.d.within.get(self.tag, "?")}', '')]
+
     def asked(self):
         """what the callee asks"""
         g, t = self.g, self.tag
@@ -192,9 +196,10 @@ class Call:
         for i, w in self.muts:
             n, p = self.new[w.p.name], w.p
             if isinstance(w, ArrayLoan):
-                tele.append((f'{n}-is', f'Is {p.array.row} {n} {p.array.vals(n)}'))
+                all_ = w.after(n)
+                tele.append((f'{n}-is', f'Is {p.array.row} {all_} {p.array.vals(all_)}'))
                 given.append('array-is')
-                st.values[p.i] = Plain(p.array, n, f'{n}-is')
+                st.values[p.i] = Plain(p.array, all_, f'{n}-is')
                 continue
             tele.append((f'{n}-long', f'length {n} ≡ length ({p.name} .now)'))
             given.append(f'{p.name}-long' if w.long == 'refl' else f'({p.name}-long ∙ {w.long})')
@@ -209,7 +214,7 @@ def call(f, g, st, sp, defs):
     dest, steps = place(g.stmt[3])
     if steps:
         fail('a call whose result goes to a part of a local')
-    defs += c.terms() + c.asked() + c.lent() + c.said()
+    defs += c.within() + c.terms() + c.asked() + c.lent() + c.said()
     after = st.copy()
     tele, lines = c.back(after)
     defs += lines

@@ -25,7 +25,7 @@ class Description:
         self.crate, self.fn = crate, fn
         self.path = f'crates/{crate}/proofs/{fn}/walk'
         self.about, self.uses, self.lets, self.law = [], [], [], '?'
-        self.requires, self.same, self.loop, self.carried = {}, {}, {}, []
+        self.requires, self.within, self.same, self.loop, self.carried = {}, {}, {}, {}, []
         for e in entries(self.path):
             key, _, rest = e.partition(' ')
             self.take(key, rest.strip())
@@ -37,8 +37,9 @@ class Description:
             self.uses.append(self.path_and_names(rest))
         elif key == 'let':
             self.lets.append(re.fullmatch(r'(\S+) : (.*?) = (.*)', rest).groups())
-        elif key == 'requires':
-            call, _, self.requires[call] = rest.partition(' ')
+        elif key in ('requires', 'within'):
+            call, _, term = rest.partition(' ')
+            getattr(self, key)[call] = term
         elif key == 'same':
             name, _, other = rest.partition(' ')
             path, names = self.path_and_names(other)

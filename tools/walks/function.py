@@ -92,9 +92,10 @@ class Function:
             g.result = self.row(g.locals[0])
             g.contract = f'{g.id}-contract 𝓤 H A mem run'
         self.callees = [g for g in self.calls if g.tag == g.id]
-        for t in self.d.requires:
-            if t not in [g.tag for g in self.calls]:
-                fail(f'`requires {t}`: no call of that name; there are {[g.tag for g in self.calls]}')
+        for key in ('requires', 'within'):
+            for t in getattr(self.d, key):
+                if t not in [g.tag for g in self.calls]:
+                    fail(f'`{key} {t}`: no call of that name; there are {[g.tag for g in self.calls]}')
 
     def passed_on(self):
         """of each call, the names of the parameters whose slices it is passed"""

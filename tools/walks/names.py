@@ -53,7 +53,8 @@ denote.Exit.{yes}
 Rattle.base_walk.proofs.Calls.{splits, asks-nothing, lands-at}
 Rattle.base_walk.proofs.Locals.{Cell, vacant, away, holds, locals, Dies, allocs-all, frees-all, is-true, is-false}
 Rattle.base_walk.proofs.Loans.{Loan, again as slice-at, Own, Lent, Kept, Shared, lends, returned, shares, placed, LentCells, SharedCells, MineMut, MineShr, lends-cells, shares-cells, mut-cells-back, shr-cells-back}
-Rattle.base_walk.proofs.Arrays.{Many, many-val, apart, together, big-lit}'''.split('\n')
+Rattle.base_walk.proofs.Arrays.{Many, many-val, apart, together, big-lit}
+Rattle.base_walk.proofs.Fronts.{front, laid, Rest, front-long, front-room, laid-long, cut, joined, whole-again}'''.split('\n')
 
 # names that the text binds itself: a parameter or a call of such a name gets a prime
 OWN = set('''a v f u l z r at ws is spelled code body stated stayed bound begins opened exits ended required mem run next then ns state as open let in where use module record elim absurd

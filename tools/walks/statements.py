@@ -1,7 +1,7 @@
 """Operands and assignments as steps of a walk."""
 from .mir import items, place, slice_of
 from .terms import fail, par, proj, tup
-from .values import LocalArray, Plain, Pointer, Slice
+from .values import ArrayFront, LocalArray, Plain, Pointer, Slice
 
 # from here on the generated MIR has a constant as `intBig`
 BIG_FROM = 4096
@@ -87,7 +87,10 @@ class Walker:
     def aggregate(self, rv, d, st, sp, defs):
         rule, values = operands(self.f, items(rv[1]), st, sp)
         if slice_of(self.f.fn.locals[d]):
-            return f'agg ! ({rule})', Slice(values[0].of), slice_typed(values[0].of)
+            of = values[0].of
+            if isinstance(of, LocalArray) and values[1].term != of.n:
+                of = ArrayFront(of, values[1])
+            return f'agg ! ({rule})', Slice(of), slice_typed(of)
         row = self.f.row(self.f.fn.locals[d])
         if not row.fields:
             fail(f'_{d}: an aggregate of what is no struct')

@@ -1,7 +1,7 @@
 """What a local holds, and what a walk's context consists of."""
 from .mir import slice_of
 from .plain import list_of
-from .terms import lists, sub
+from .terms import lists, par, sub
 
 
 class Plain:
@@ -76,17 +76,26 @@ class Param:
 
 
 class LocalArray:
-    """a local array of rows, as what is lent"""
+    """a local array of rows, as what is lent: all its rows"""
     name, mut, fits = 'array', True, 'lit< tt'
 
     def __init__(self, i, array):
         self.i, self.array, self.row, self.n, self.l = i, array, array.inner, array.n, f'l{sub(i)}'
+        self.count = self.n
 
     def slice_value(self):
-        return f'(sliceVal ({self.l}, 0) {self.n})'
+        return f'(sliceVal ({self.l}, 0) {self.count})'
 
     def pointer_value(self):
         return f'(vptr {self.l} 0)'
+
+
+class ArrayFront(LocalArray):
+    """the first rows of a local array, as what is lent: as many as a number says"""
+
+    def __init__(self, whole, count):
+        super().__init__(whole.i, whole.array)
+        self.count, self.fits = par(count.term), f'{par(count.proof)} .1'
 
 
 class State:
