@@ -1,4 +1,4 @@
--- `rows::fetch_row` meets its contract: a walk of its MIR, by hand. What the slice owns is had twice: one copy is kept whole for the exit, and in the first arm the
+-- `base_rows::fetch_row` meets its contract: a walk of its MIR, by hand. What the slice owns is had twice: one copy is kept whole for the exit, and in the first arm the
 -- other is looked into, row i is taken out, copied, and put back.
 -- Assumes nothing.
 use mathlib.Core.Path.{_≡_, refl, sym}

@@ -1,4 +1,4 @@
--- `rows::store_row` meets its contract: a walk of its MIR, by hand. The place's test is read, and each arm is walked by itself: in the first the borrow is opened,
+-- `base_rows::store_row` meets its contract: a walk of its MIR, by hand. The place's test is read, and each arm is walked by itself: in the first the borrow is opened,
 -- row i is taken out and stored to, and the borrow is closed at the list with the row at i; in the second nothing is opened.
 -- Assumes nothing.
 use mathlib.Core.Path.{_≡_, refl, sym, ap, subst}

@@ -1,4 +1,4 @@
--- `featureputs::put_qualifier` meets its contract: one law for a qualifier with a value, one for a qualifier without.
+-- `read_feature_qualifier_rows::put_qualifier` meets its contract: one law for a qualifier with a value, one for a qualifier without.
 use native.Mathlib.Omega.{arith}
 use borrow.Author.Needs.{needs}
 use Rattle.read_feature_qualifier_rows.proofs.Qualifiers.{value-fits, qualifying}

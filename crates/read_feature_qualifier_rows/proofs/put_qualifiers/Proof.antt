@@ -1,4 +1,4 @@
--- `featureputs::put_qualifiers` meets its contract: what was put and what is still to be put are the whole.
+-- `read_feature_qualifier_rows::put_qualifiers` meets its contract: what was put and what is still to be put are the whole.
 use Prim.Native.Nat.{_-_}
 use lib.ListN.{length}
 use borrow.Author.Needs.{needs}

@@ -1,4 +1,4 @@
--- `referenceputs::put_always` meets its contract. Assumes nothing.
+-- `read_field_row::put_always` meets its contract. Assumes nothing.
 use Rattle.read_field_row.specs.Putting.{puts-always}
 use borrow.Author.Needs.{needs}
 use Rattle.read_field_row.proofs.put_always.Statement.{statement}

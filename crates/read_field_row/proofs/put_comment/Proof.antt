@@ -1,4 +1,4 @@
--- `referenceputs::put_comment` meets its contract. Assumes nothing.
+-- `read_field_row::put_comment` meets its contract. Assumes nothing.
 use mathlib.Core.Bool.{true}
 use denote.Ref.{now}
 use Rattle.read_field_row.specs.Putting.{may-ready, commented-room, puts-none}

@@ -1,4 +1,4 @@
--- `referenceputs::put_perhaps` meets its contract. Assumes nothing.
+-- `read_field_row::put_perhaps` meets its contract. Assumes nothing.
 use native.Mathlib.Omega.{arith}
 use denote.Ref.{now}
 use Rattle.read_field_row.specs.Putting.{may-ready, may-room, absent-room, puts-absent, puts-perhaps, plus-one}

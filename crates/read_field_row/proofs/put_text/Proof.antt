@@ -1,4 +1,4 @@
--- `referenceputs::put_text` meets its contract. Assumes nothing.
+-- `read_field_row::put_text` meets its contract. Assumes nothing.
 use Rattle.read_field_row.specs.Putting.{texted}
 use borrow.Author.Needs.{needs}
 use Rattle.read_field_row.proofs.put_text.Statement.{statement}

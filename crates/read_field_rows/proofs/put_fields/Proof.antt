@@ -1,4 +1,4 @@
--- `headerputs::put_fields` meets its contract. Assumes nothing.
+-- `read_field_rows::put_fields` meets its contract. Assumes nothing.
 use Prim.Native.Nat.{_-_, _≤_}
 use mathlib.Core.Path.{_≡_, refl}
 use lib.ListN.{length, drop}

@@ -1,4 +1,4 @@
--- `headerputs::put_found` meets its contract. Assumes nothing.
+-- `read_field_rows::put_found` meets its contract. Assumes nothing.
 use denote.Ref.{now}
 use Rattle.read_field_rows.proofs.Walking.{comment-ready, comment-room, comment-put}
 use borrow.Author.Needs.{needs}

@@ -1,4 +1,4 @@
--- `headerputs::put_if_reference` meets its contract. Assumes nothing.
+-- `read_field_rows::put_if_reference` meets its contract. Assumes nothing.
 use denote.Ref.{now}
 use Rattle.read_field_row.specs.Putting.{puts-none}
 use Rattle.read_field_rows.proofs.Walking.{reference-entries, reference-room}

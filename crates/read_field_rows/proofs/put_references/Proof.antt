@@ -1,4 +1,4 @@
--- `headerputs::put_references` meets its contract. Assumes nothing.
+-- `read_field_rows::put_references` meets its contract. Assumes nothing.
 use lib.ListN.{drop}
 use denote.Ref.{now}
 use Rattle.spec_format.specs.Header.{referenceIn}

@@ -1,4 +1,4 @@
--- `fill::fill_around` meets its contract. Assumes nothing.
+-- `read_record_frame::fill_around` meets its contract. Assumes nothing.
 use borrow.Author.Needs.{needs}
 use Rattle.read_record_frame.proofs.Laws.{around, around-filled}
 use Rattle.read_record_frame.proofs.fill_around.Statement.{statement}

@@ -1,4 +1,4 @@
--- `fill::fill_header` meets its contract. Assumes nothing.
+-- `read_record_frame::fill_header` meets its contract. Assumes nothing.
 use borrow.Author.Needs.{needs}
 use Rattle.read_record_frame.proofs.Laws.{header-within, head-there, head-bound, references-texts, references-rows, comments-texts, comments-rows, header-filled}
 use Rattle.read_record_frame.proofs.fill_header.Statement.{statement}

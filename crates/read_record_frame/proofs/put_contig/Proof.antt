@@ -1,4 +1,4 @@
--- `fill::put_contig` meets its contract. Assumes nothing.
+-- `read_record_frame::put_contig` meets its contract. Assumes nothing.
 use borrow.Author.Needs.{needs}
 use Rattle.read_record_frame.proofs.Laws.{joining}
 use Rattle.read_record_frame.proofs.put_contig.Statement.{statement}

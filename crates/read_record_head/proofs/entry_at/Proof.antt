@@ -1,4 +1,4 @@
--- `headputs::entry_at` meets its contract. Assumes nothing.
+-- `read_record_head::entry_at` meets its contract. Assumes nothing.
 use borrow.Author.Needs.{needs}
 use Rattle.read_record_head.proofs.Laws.{placing}
 use Rattle.read_record_head.proofs.entry_at.Statement.{statement}

@@ -1,4 +1,4 @@
--- `headputs::header_texts` meets its contract. Assumes nothing.
+-- `read_record_head::header_texts` meets its contract. Assumes nothing.
 use borrow.Author.Needs.{needs}
 use Rattle.read_record_head.proofs.header_texts.Statement.{statement}
 use Rattle.read_record_head.proofs.header_texts.Tie as tie

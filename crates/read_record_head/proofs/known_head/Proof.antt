@@ -1,4 +1,4 @@
--- `headputs::known_head` meets its contract. Assumes nothing.
+-- `read_record_head::known_head` meets its contract. Assumes nothing.
 use borrow.Author.Needs.{needs}
 use Rattle.read_record_head.proofs.known_head.Statement.{statement}
 use Rattle.read_record_head.proofs.known_head.Tie as tie

@@ -1,4 +1,4 @@
--- `headputs::locus_head` meets its contract. Assumes nothing.
+-- `read_record_head::locus_head` meets its contract. Assumes nothing.
 use borrow.Author.Needs.{needs}
 use Rattle.read_record_head.proofs.locus_head.Statement.{statement}
 use Rattle.read_record_head.proofs.locus_head.Tie as tie

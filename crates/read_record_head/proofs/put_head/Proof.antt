@@ -1,4 +1,4 @@
--- `headputs::put_head` meets its contract. Assumes nothing.
+-- `read_record_head::put_head` meets its contract. Assumes nothing.
 use borrow.Author.Needs.{needs}
 use native.Mathlib.Omega.{arith}
 use Rattle.base_pen.specs.Pen.{writes-append}

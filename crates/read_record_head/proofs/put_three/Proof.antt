@@ -1,4 +1,4 @@
--- `headputs::put_three` meets its contract. Assumes nothing.
+-- `read_record_head::put_three` meets its contract. Assumes nothing.
 use borrow.Author.Needs.{needs}
 use Rattle.base_pen.specs.Pen.{writes-append}
 use Rattle.read_record_head.proofs.put_three.Statement.{statement}

@@ -1,4 +1,4 @@
--- `headputs::source_length` meets its contract. Assumes nothing.
+-- `read_record_head::source_length` meets its contract. Assumes nothing.
 use borrow.Author.Needs.{needs}
 use Rattle.read_record_head.proofs.Laws.{placing}
 use Rattle.read_record_head.proofs.source_length.Statement.{statement}

@@ -1,4 +1,4 @@
--- `headputs::text_from` meets its contract. Assumes nothing.
+-- `read_record_head::text_from` meets its contract. Assumes nothing.
 use borrow.Author.Needs.{needs}
 use Rattle.read_record_head.proofs.Laws.{placing}
 use Rattle.read_record_head.proofs.text_from.Statement.{statement}

@@ -1,4 +1,4 @@
--- `middle::contig_at` meets its contract. Assumes nothing.
+-- `read_record_middle::contig_at` meets its contract. Assumes nothing.
 use borrow.Author.Needs.{needs}
 use Rattle.read_record_middle.proofs.Laws.{counting}
 use Rattle.read_record_middle.proofs.contig_at.Statement.{statement}

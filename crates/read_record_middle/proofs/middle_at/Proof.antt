@@ -1,4 +1,4 @@
--- `middle::middle_at` meets its contract. Assumes nothing.
+-- `read_record_middle::middle_at` meets its contract. Assumes nothing.
 use borrow.Author.Needs.{needs}
 use Rattle.read_record_middle.proofs.Laws.{tabling}
 use Rattle.read_record_middle.proofs.middle_at.Statement.{statement}

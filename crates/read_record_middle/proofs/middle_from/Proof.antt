@@ -1,4 +1,4 @@
--- `middle::middle_from` meets its contract. Assumes nothing.
+-- `read_record_middle::middle_from` meets its contract. Assumes nothing.
 use borrow.Author.Needs.{needs}
 use Rattle.read_record_middle.proofs.Laws.{joining}
 use Rattle.read_record_middle.proofs.middle_from.Statement.{statement}

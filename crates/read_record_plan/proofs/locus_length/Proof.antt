@@ -1,4 +1,4 @@
--- `plan::locus_length` meets its contract. Assumes nothing.
+-- `read_record_plan::locus_length` meets its contract. Assumes nothing.
 use borrow.Author.Needs.{needs}
 use Rattle.read_record_plan.proofs.locus_length.Statement.{statement}
 use Rattle.read_record_plan.proofs.locus_length.Tie as tie

@@ -1,4 +1,4 @@
--- `plan::plan_at` meets its contract. Assumes nothing.
+-- `read_record_plan::plan_at` meets its contract. Assumes nothing.
 use borrow.Author.Needs.{needs}
 use Rattle.read_record_plan.proofs.Laws.{starting}
 use Rattle.read_record_plan.proofs.plan_at.Statement.{statement}

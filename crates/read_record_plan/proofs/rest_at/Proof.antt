@@ -1,4 +1,4 @@
--- `plan::rest_at` meets its contract. Assumes nothing.
+-- `read_record_plan::rest_at` meets its contract. Assumes nothing.
 use borrow.Author.Needs.{needs}
 use Rattle.read_record_plan.proofs.Laws.{resting}
 use Rattle.read_record_plan.proofs.rest_at.Statement.{statement}

@@ -1,4 +1,4 @@
--- `sizing::enough` meets its contract. Assumes nothing.
+-- `read_record_sizes::enough` meets its contract. Assumes nothing.
 use borrow.Author.Needs.{needs}
 use borrow.Author.Tests.{le-leb, lt-leb}
 use Rattle.read_record_sizes.specs.Sizing.{fitsIn}
