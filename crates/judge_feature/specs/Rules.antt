@@ -13,6 +13,7 @@ use Rattle.judge_rooms.specs.Parts.{featureRooms}
 use Rattle.judge_rooms.specs.Facts.{QualifierIn, QualifiersIn, FeatureIn}
 use Rattle.judge_header.specs.declared.Rule.{Rule}
 use Rattle.judge_header.specs.declared.Rule.the-variants as rule
+use Rattle.spec_format.specs.Record.{most}
 
 abbrev pub widthOf : Rule → ℕ
 widthOf (rule.Fine W) = W
@@ -50,16 +51,16 @@ unfolding featureOf qualifierOf featureKept qualifierKept
 kept-is W fs = refl
 
 pub record QualifierKnown (texts rows : List ℕ) (at : ℕ) : Type 0 where
-  pub small : length texts ≤ 16777216
+  pub small : length texts ≤ most
   pub row : at + 3 < length rows
   pub inside : QualifierIn texts rows at
 
 pub record QualifiersKnown (texts rows : List ℕ) (first end : ℕ) : Type 0 where
-  pub small : length texts ≤ 16777216
+  pub small : length texts ≤ most
   pub order : first ≤ end
   pub inside : QualifiersIn texts rows first end
 
 pub record FeatureKnown (texts features qualifiers : List ℕ) (at : ℕ) : Type 0 where
-  pub small : length texts ≤ 16777216
+  pub small : length texts ≤ most
   pub row : at + 5 < length features
   pub inside : FeatureIn (featureRooms texts features qualifiers) at

@@ -18,6 +18,7 @@ ghost use Rattle.spec_format.specs.WellFormed.{ifIs, valueFine};
 ghost use Rattle.judge_rooms.specs.Parts.{qualifierRooms, featureRooms};
 ghost use Rattle.judge_header.specs.Rules.{RowKnown};
 ghost use Rattle.judge_feature.specs.Rules.{widthOf, kindOf, locationOf, keyOf, valueOf, qualifierOf, featureOf, QualifierKnown, QualifiersKnown, FeatureKnown};
+ghost use Rattle.spec_format.specs.Record.{most};
 
 fn value_fine(key: &[u8], value: &[u8]) -> bool
     ensures { λ r. ⌜ r ≡ valueFine (now (key .entry)) (now (value .entry)) ⌝ }
@@ -29,7 +30,7 @@ fn value_fine(key: &[u8], value: &[u8]) -> bool
 }
 
 fn value_passes(rule: Rule, key: &[u8], value: &[u8]) -> bool
-    requires { ⌜ (length (now key) ≤ 16777216) × (length (now value) ≤ 16777216) ⌝ }
+    requires { ⌜ (length (now key) ≤ most) × (length (now value) ≤ most) ⌝ }
     ensures { λ r. ⌜ r ≡ valueOf rule (now (key .entry)) (now (value .entry)) ⌝ }
 {
     match rule {

@@ -12,6 +12,7 @@ use Rattle.spec_format.specs.declared.Head.{Head}
 use Rattle.judge_rooms.specs.Facts.{TextIn, SourceIn, RowText, RowPerhaps, ReferenceIn, RoomsIn}
 use Rattle.judge_header.specs.declared.Rule.{Rule}
 use Rattle.judge_header.specs.declared.Rule.the-variants as rule
+use Rattle.spec_format.specs.Record.{most}
 
 abbrev pub headerOf : Rule → List ℕ → Bool
 headerOf (rule.Fine W) t = utf8 t
@@ -22,31 +23,31 @@ abbrev pub referenceEnd : (List ℕ → Bool) → Reference → Bool
 referenceEnd p r = p (r .title) && (ifIs p (r .journal) && (ifIs p (r .pubmed) && ifIs p (r .remark)))
 
 pub record Known (texts : List ℕ) (start n : ℕ) : Type 0 where
-  pub small : length texts ≤ 16777216
+  pub small : length texts ≤ most
   pub inside : start + n ≤ length texts
 
 pub record RowKnown (texts rows : List ℕ) (at : ℕ) : Type 0 where
-  pub small : length texts ≤ 16777216
+  pub small : length texts ≤ most
   pub row : at + 1 < length rows
   pub inside : RowText texts rows at
 
 pub record PerhapsKnown (texts rows : List ℕ) (at : ℕ) : Type 0 where
-  pub small : length texts ≤ 16777216
+  pub small : length texts ≤ most
   pub row : at + 1 < length rows
   pub inside : RowPerhaps texts rows at
 
 pub record ReferencesKnown (texts rows : List ℕ) (n : ℕ) : Type 0 where
-  pub small : length texts ≤ 16777216
+  pub small : length texts ≤ most
   pub long : 14 * n ≤ length rows
   pub each : (i : ℕ) → i < n → ReferenceIn texts rows (14 * i)
 
 pub record CommentsKnown (texts rows : List ℕ) (n : ℕ) : Type 0 where
-  pub small : length texts ≤ 16777216
+  pub small : length texts ≤ most
   pub long : 2 * n ≤ length rows
   pub each : (i : ℕ) → i < n → RowText texts rows (2 * i)
 
 pub record HeaderKnown (texts references comments : List ℕ) (h : Head) : Type 0 where
-  pub small : length texts ≤ 16777216
+  pub small : length texts ≤ most
   pub definition : TextIn texts (h .definition)
   pub accession : TextIn texts (h .accession)
   pub version : TextIn texts (h .version)

@@ -18,6 +18,7 @@ ghost use Rattle.spec_format.specs.Keeping.{pubmedKept};
 ghost use Rattle.judge_rooms.specs.Parts.{referenceRooms, commentRooms};
 ghost use Rattle.judge_rooms.specs.Facts.{SpanIn, TextIn, SourceIn, RowText, RowPerhaps, ReferenceIn};
 ghost use Rattle.judge_header.specs.Rules.{headerOf, referenceEnd, Known, RowKnown, PerhapsKnown, ReferencesKnown, CommentsKnown, HeaderKnown};
+ghost use Rattle.spec_format.specs.Record.{most};
 
 // A text that can be laid out at a width, or one that is read back as it was.
 pub enum Rule {
@@ -26,7 +27,7 @@ pub enum Rule {
 }
 
 fn header_text(rule: Rule, text: &[u8]) -> bool
-    requires { ⌜ length (now text) ≤ 16777216 ⌝ }
+    requires { ⌜ length (now text) ≤ most ⌝ }
     ensures { λ r. ⌜ r ≡ headerOf rule (now (text .entry)) ⌝ }
 {
     match rule {
@@ -44,7 +45,7 @@ fn span_passes(rule: Rule, texts: &[u8], start: usize, n: usize) -> bool
 }
 
 fn text_passes(rule: Rule, texts: &[u8], text: Text) -> bool
-    requires { ⌜ (length (now texts) ≤ 16777216) × TextIn (now texts) text ⌝ }
+    requires { ⌜ (length (now texts) ≤ most) × TextIn (now texts) text ⌝ }
     ensures { λ r. ⌜ r ≡ ifIs (headerOf rule) (mayText (now (texts .entry)) text) ⌝ }
 {
     match text {
@@ -54,7 +55,7 @@ fn text_passes(rule: Rule, texts: &[u8], text: Text) -> bool
 }
 
 fn source_passes(rule: Rule, texts: &[u8], source: SourceText) -> bool
-    requires { ⌜ (length (now texts) ≤ 16777216) × SourceIn (now texts) source ⌝ }
+    requires { ⌜ (length (now texts) ≤ most) × SourceIn (now texts) source ⌝ }
     ensures { λ r. ⌜ r ≡ ifIs (sourceTexts (headerOf rule)) (maySource (now (texts .entry)) source) ⌝ }
 {
     match source {
@@ -87,7 +88,7 @@ fn row_may_pass(rule: Rule, texts: &[u8], rows: &[usize], at: usize) -> bool
 
 // TITLE, JOURNAL, PUBMED, REMARK.
 fn reference_end_passes(rule: Rule, texts: &[u8], references: &[usize], at: usize) -> bool
-    requires { ⌜ (length (now texts) ≤ 16777216) × (at + 13 < length (now references)) × ReferenceIn (now texts) (now references) at ⌝ }
+    requires { ⌜ (length (now texts) ≤ most) × (at + 13 < length (now references)) × ReferenceIn (now texts) (now references) at ⌝ }
     ensures { λ r. ⌜ r ≡ referenceEnd (headerOf rule) (referenceIn (referenceRooms (now (texts .entry)) (now (references .entry))) at) ⌝ }
 {
     let remark = row_may_pass(rule, texts, references, at + 12);
@@ -97,7 +98,7 @@ fn reference_end_passes(rule: Rule, texts: &[u8], references: &[usize], at: usiz
 }
 
 fn reference_passes(rule: Rule, texts: &[u8], references: &[usize], at: usize) -> bool
-    requires { ⌜ (length (now texts) ≤ 16777216) × (at + 13 < length (now references)) × ReferenceIn (now texts) (now references) at ⌝ }
+    requires { ⌜ (length (now texts) ≤ most) × (at + 13 < length (now references)) × ReferenceIn (now texts) (now references) at ⌝ }
     ensures { λ r. ⌜ r ≡ referenceTexts (headerOf rule) (referenceIn (referenceRooms (now (texts .entry)) (now (references .entry))) at) ⌝ }
 {
     let title = reference_end_passes(rule, texts, references, at);
@@ -145,7 +146,7 @@ fn five_pass(
     keywords: Text,
     rest: bool,
 ) -> bool
-    requires { ⌜ (length (now texts) ≤ 16777216) × TextIn (now texts) definition × TextIn (now texts) accession × TextIn (now texts) version × TextIn (now texts) dblink × TextIn (now texts) keywords ⌝ }
+    requires { ⌜ (length (now texts) ≤ most) × TextIn (now texts) definition × TextIn (now texts) accession × TextIn (now texts) version × TextIn (now texts) dblink × TextIn (now texts) keywords ⌝ }
     ensures { λ r. ⌜ r ≡ (ifIs (headerOf rule) (mayText (now (texts .entry)) definition) && (ifIs (headerOf rule) (mayText (now (texts .entry)) accession) && (ifIs (headerOf rule) (mayText (now (texts .entry)) version) && (ifIs (headerOf rule) (mayText (now (texts .entry)) dblink) && (ifIs (headerOf rule) (mayText (now (texts .entry)) keywords) && rest))))) ⌝ }
 {
     let from_keywords = both(text_passes(rule, texts, keywords), rest);

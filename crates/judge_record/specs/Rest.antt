@@ -14,6 +14,7 @@ use Rattle.judge_header.specs.Rules.{HeaderKnown, header-known}
 use Rattle.judge_rooms.specs.Facts.{HeadIn, RoomsIn}
 use Rattle.judge_rooms.specs.Parts.{noRows}
 use Rattle.judge_rooms.specs.Steps.{and-left, and-right}
+use Rattle.spec_format.specs.Record.{most}
 
 abbrev pub restTable : List ℕ → List ℕ → List ℕ → List ℕ → Head → Table
 restTable t rf cm l h = tableOf (roomsIn t rf cm [] [] l) (noRows h)
@@ -22,7 +23,7 @@ pub record RestKnown (t rf cm l : List ℕ) (h : Head) : Type 0 where
   pub head : HeadIn t h
   pub header : HeaderKnown t rf cm h
   pub letters : h .letters ≤ length l
-  pub few : length l ≤ 16777216
+  pub few : length l ≤ most
 
 pub rest-known : (r : Rooms) (h : Head) → RoomsIn r h → RestKnown (r .texts) (r .references) (r .comments) (r .letters) h
 rest-known r h k = record { head = k .head; header = header-known r h k; letters = k .counts .letters; few = k .lengths .letters }

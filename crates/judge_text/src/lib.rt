@@ -15,6 +15,7 @@ ghost use Rattle.spec_format.specs.Features.{locationText, kindText};
 ghost use Rattle.spec_format.specs.WellFormed.{kindFine, keyFine};
 ghost use Rattle.spec_format.specs.Keeping.{spaceless, linesKept, headerKept, noLineEnd, noQuoteFirst, kindKept, noSlash, translationKept, bareKept, valueKept};
 ghost use Rattle.judge_text.specs.Words.{sameByte, Passed, Small, columnAfter};
+ghost use Rattle.spec_format.specs.Record.{most};
 
 // Whether the 8 bytes from `at` on are 33 to 126, without a branch: the compiler then tests them at once. Keys and kinds are short.
 fn visible_block(s: &[u8], at: usize) -> bool
@@ -269,7 +270,7 @@ fn column_after(
 }
 
 pub fn header_kept(width: usize, text: &[u8]) -> bool
-    requires { ⌜ length (now text) ≤ 16777216 ⌝ }
+    requires { ⌜ length (now text) ≤ most ⌝ }
     ensures { λ r. ⌜ r ≡ headerKept width (now (text .entry)) ⌝ }
 {
     both(lines_kept(text, false, width, 12, 12), !begins(text, b' '))
@@ -282,7 +283,7 @@ pub fn kind_kept(kind: &[u8]) -> bool
 }
 
 fn bare_kept(width: usize, key: &[u8], value: &[u8]) -> bool
-    requires { ⌜ (length (now key) ≤ 16777216) × (length (now value) ≤ 16777216) ⌝ }
+    requires { ⌜ (length (now key) ≤ most) × (length (now value) ≤ most) ⌝ }
     ensures { λ r. ⌜ r ≡ bareKept width (now (key .entry)) (now (value .entry)) ⌝ }
 {
     let ends = both(without(value, b'\n'), without(value, b'\r'));
@@ -297,7 +298,7 @@ fn translation_kept(value: &[u8]) -> bool
 }
 
 pub fn value_kept(width: usize, key: &[u8], value: &[u8]) -> bool
-    requires { ⌜ (length (now key) ≤ 16777216) × (length (now value) ≤ 16777216) ⌝ }
+    requires { ⌜ (length (now key) ≤ most) × (length (now value) ≤ most) ⌝ }
     ensures { λ r. ⌜ r ≡ valueKept width (now (key .entry)) (now (value .entry)) ⌝ }
 {
     if comma_key(key) {

@@ -34,6 +34,7 @@ use Rattle.read_record_head.specs.declared.HeaderTexts.{HeaderTexts}
 use Rattle.read_record_head.specs.Texts.{textOf, locusText, mayText, sourceText, headText, EntryGets, MayGets, SourceGets, HeadGets}
 use Rattle.read_record_head.specs.Places as places
 use Rattle.read_record_head.specs.Places.{textLength, textFrom, locusBytes, sourceBytes, headBytes, locusHead, entryAt, headerTexts, headIn}
+use Rattle.spec_format.specs.Record.{most}
 
 pub record HeadStands (s : List ℕ) (at : ℕ) (locus : LocusPlan) (h : Header) (t : Table) : Type 0 where
   pub plan : t .locus ≡ planned s locus
@@ -315,7 +316,7 @@ module _ (s : List ℕ) (at : ℕ) (locus : LocusPlan) (h : Header) (t : Table) 
       (arith, line-sized, definition-sized, accession-sized, version-sized, dblink-sized, keywords-sized, source-sized s at (t .source) (h .source) (k .source)))
 
   -- what `head_bytes`, `head_of` and `put_head` ask for
-  pub head-small : length s ≤ 16777216 → headBytes locus h < 2 ^ 64
+  pub head-small : length s ≤ most → headBytes locus h < 2 ^ 64
   head-small l =
       omega (
         arith,
@@ -328,7 +329,7 @@ module _ (s : List ℕ) (at : ℕ) (locus : LocusPlan) (h : Header) (t : Table) 
         source-within s at (t .source) (h .source) (k .source),
       )
 
-  pub text-small : length s ≤ 16777216 → length (headText s locus h) < 2 ^ 64
+  pub text-small : length s ≤ most → length (headText s locus h) < 2 ^ 64
   text-small l = let e : length (headText s locus h) ≡ headBytes locus h = rw (head-text, head-sized) in let n = head-small l in omega (arith, e, n)
 
   header-placed : (place : ℕ) → headerTexts place h ≡ headerOf place t

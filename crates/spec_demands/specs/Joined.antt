@@ -16,6 +16,7 @@ use Rattle.spec_contracts.specs.Reads.{Answered, RowRooms, flatRooms}
 use Rattle.spec_contracts.specs.Writes.{WriteAnswered}
 use Rattle.spec_contracts.specs.Equal.{rooms-after}
 use Rattle.spec_demands.specs.Writing.{keepingly, written-comes-back}
+use Rattle.spec_format.specs.Record.{most}
 
 -- A call of the reader is done at place k, and the head that it answers and the rooms that it leaves hold the table of r and h.
 pub record Same (r : Rooms) (h : Head) (k : ℕ) (after : Rooms) (a : ReadAnswer) : Type 0 where
@@ -28,7 +29,7 @@ pub record Same (r : Rooms) (h : Head) (k : ℕ) (after : Rooms) (a : ReadAnswer
 pub still-the-same :
     (W : ℕ) (truncate escape : Bool) (r : RowRooms) (h : Head) (old new : List ℕ) (k : ℕ) →
     WriteAnswered (keepingly W truncate escape) (flatRooms r) h old new (written.Done k) →
-    ((n : ℕ) → h .length ≡ given.Bases n → n < 4294967296) → k ≤ 16777216 → (before after : RowRooms) (a : ReadAnswer) →
+    ((n : ℕ) → h .length ≡ given.Bases n → n < 4294967296) → k ≤ most → (before after : RowRooms) (a : ReadAnswer) →
     fits (sizes (tableOf (flatRooms r) h)) (flatRooms before) ≡ true → Answered (take k new) 0 (flatRooms before) (flatRooms after) a →
     Same (flatRooms r) h k (flatRooms after) a
 still-the-same W truncate escape r h old new k p n m before after a f q =

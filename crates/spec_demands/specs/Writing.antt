@@ -20,6 +20,7 @@ use Rattle.spec_format.specs.declared.WriteAnswer.{WriteAnswer}
 use Rattle.spec_format.specs.declared.WriteAnswer.the-variants as answer
 use Rattle.spec_promise.specs.Promise.{plain-agrees, keeping-agrees, thirteen-exactly, kept-as-plain, done-like-plain, Back, rooms-come-back}
 use Rattle.spec_contracts.specs.Writes.{AnsweredBy, WriteAnswered}
+use Rattle.spec_format.specs.Record.{most}
 
 -- ---- the count with answers 0 and 6
 
@@ -120,7 +121,7 @@ module _ (W : ℕ) (truncate escape : Bool) (r : Rooms) (h : Head) (old : List �
   -- what is written by the keeping rules comes back, through any rooms that the table fits
   pub written-comes-back :
       (k : ℕ) (new : List ℕ) → WriteAnswered (keepingly W truncate escape) r h old new (answer.Done k) → ((n : ℕ) → h .length ≡ given.Bases n → n < 4294967296) →
-      k ≤ 16777216 → (to : Rooms) → fits (sizes (tableOf r h)) to ≡ true → Back r h (take k new) k to
+      k ≤ most → (to : Rooms) → fits (sizes (tableOf r h)) to ≡ true → Back r h (take k new) k to
   written-comes-back k new p =
       rooms-come-back W truncate escape r h old new k (sym (p .is))
       (p .slice ∙ ap (λ (w : WriteAnswer). sliceAfter w (written W truncate escape (tableOf r h)) old) (p .is))

@@ -192,7 +192,7 @@ module _ (s : List ℕ) (at : ℕ) (q : Rooms) (h : Head) (place : ℕ) where
 
 module _
     (W : ℕ) (truncate escape : Bool) (r : Rooms) (h : Head) (old : List ℕ) (k : ℕ) (e : keepingAnswer W truncate escape r h (length old) ≡ answer.Done k)
-    (n : lengthFits (tableOf r h) ≡ true) (m : k ≤ 16777216) (q : Rooms) (f : fits (sizes (tableOf r h)) q ≡ true) (new : List ℕ)
+    (n : lengthFits (tableOf r h) ≡ true) (m : k ≤ most) (q : Rooms) (f : fits (sizes (tableOf r h)) q ≡ true) (new : List ℕ)
     (is-new : new ≡ sliceAfter (keepingAnswer W truncate escape r h (length old)) (written W truncate escape (tableOf r h)) old) where
   text-is : take k new ≡ take k (sliceAfter (answer.Done k) (written W truncate escape (tableOf r h)) old)
   text-is = ap (take k) is-new ∙ ap (λ a. take k (sliceAfter a (written W truncate escape (tableOf r h)) old)) e

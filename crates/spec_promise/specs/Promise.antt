@@ -94,11 +94,11 @@ pub rooms-come-back :
     (W : ℕ) (truncate escape : Bool) (r : Rooms) (h : Head) (old new : List ℕ) (k : ℕ) →
     keepingAnswer W truncate escape r h (length old) ≡ answer.Done k →
     new ≡ sliceAfter (keepingAnswer W truncate escape r h (length old)) (written W truncate escape (tableOf r h)) old →
-    ((n : ℕ) → h .length ≡ given.Bases n → n < 4294967296) → k ≤ 16777216 →
+    ((n : ℕ) → h .length ≡ given.Bases n → n < 4294967296) → k ≤ most →
     (q : Rooms) → fits (sizes (tableOf r h)) q ≡ true → Back r h (take k new) k q
 rooms-come-back W truncate escape r h old new k e s n m q f =
     let l = head-length-fits r h (λ j d. omega (arith, n j d)) in
-    let u : k ≤ 16777216 = omega (arith, m) in
+    let u : k ≤ most = omega (arith, m) in
     record {
       head = headOf (tableOf r h);
       done = read-done W truncate escape r h old k e l u q f new s;

@@ -17,6 +17,7 @@ ghost use Rattle.spec_format.specs.Wrap.{wrapLocation};
 ghost use Rattle.spec_format.specs.Write.{keyText, valueLines};
 ghost use Rattle.base_pen.specs.Pen.{Writes};
 ghost use Rattle.write_feature.specs.Lines.{featureStart};
+ghost use Rattle.spec_format.specs.Record.{most};
 
 fn put_key(out: &mut [u8], at: usize, k: &[u8]) -> usize
     ensures { λ r. ⌜ Writes (now (out .entry)) at (keyText (now (k .entry))) (now (out .exit)) r ⌝ }
@@ -36,7 +37,7 @@ pub fn put_flag(out: &mut [u8], at: usize, k: &[u8]) -> usize
 
 // A qualifier with a value.
 pub fn put_value(out: &mut [u8], at: usize, k: &[u8], v: &[u8], width: usize) -> usize
-    requires { ⌜ (length (now k) ≤ 16777216) × (length (now v) ≤ 16777216) × (60 ≤ width) × (width ≤ 132) ⌝ }
+    requires { ⌜ (length (now k) ≤ most) × (length (now v) ≤ most) × (60 ≤ width) × (width ≤ 132) ⌝ }
     ensures { λ r. ⌜ Writes (now (out .entry)) at (valueLines width (now (k .entry)) (now (v .entry))) (now (out .exit)) r ⌝ }
 {
     let a = put_key(out, at, k);
@@ -54,7 +55,7 @@ pub fn put_value(out: &mut [u8], at: usize, k: &[u8], v: &[u8], width: usize) ->
 
 // A feature's kind and its location.
 pub fn put_feature(out: &mut [u8], at: usize, kind: &[u8], location: &[u8], width: usize) -> usize
-    requires { ⌜ (length (now kind) ≤ 16777216) × (length (now location) ≤ 16777216) × (60 ≤ width) × (width ≤ 132) ⌝ }
+    requires { ⌜ (length (now kind) ≤ most) × (length (now location) ≤ most) × (60 ≤ width) × (width ≤ 132) ⌝ }
     ensures { λ r. ⌜ Writes (now (out .entry)) at (wrapLocation width (featureStart (now (kind .entry))) 21 (now (location .entry))) (now (out .exit)) r ⌝ }
 {
     let a = put_spaces(out, at, 5);
@@ -65,7 +66,7 @@ pub fn put_feature(out: &mut [u8], at: usize, kind: &[u8], location: &[u8], widt
 }
 
 pub fn put_contig(out: &mut [u8], at: usize, contig: &[u8], width: usize) -> usize
-    requires { ⌜ (length (now contig) ≤ 16777216) × (60 ≤ width) × (width ≤ 132) ⌝ }
+    requires { ⌜ (length (now contig) ≤ most) × (60 ≤ width) × (width ≤ 132) ⌝ }
     ensures { λ r. ⌜ Writes (now (out .entry)) at (wrapLocation width (bytes "CONTIG      ") 12 (now (contig .entry))) (now (out .exit)) r ⌝ }
 {
     let next = put_bytes(out, at, b"CONTIG      ");

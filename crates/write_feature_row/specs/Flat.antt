@@ -12,6 +12,7 @@ use Rattle.base_rows.specs.declared.Feature.{Feature}
 use Rattle.base_rows.specs.declared.Fetched.the-variants.{Row}
 use Rattle.judge_rooms.specs.Facts.{FeatureIn}
 use Rattle.judge_rooms.specs.Parts.{featureRooms, featureNext}
+use Rattle.spec_format.specs.Record.{most}
 
 pub rows-in : (rows : List Feature) → length (flat rows) / 6 ≡ length rows
 rows-in rows = omega (arith, flat-length rows)
@@ -34,7 +35,7 @@ module _ (t q : List ℕ) (rows : List Feature) (i : ℕ) (f : Feature) (e : row
       rw (s .kind, s .kind-length, s .location, location-length, s .first, s .count)
 
   -- what is known of a row among the numbers is known of the struct
-  pub row-known : length t ≤ 16777216 → FeatureIn (featureRooms t (flat rows) q) (6 * i) → FeatureKnown t (numbers f) q 0
+  pub row-known : length t ≤ most → FeatureIn (featureRooms t (flat rows) q) (6 * i) → FeatureKnown t (numbers f) q 0
   row-known small k =
       let s = fetched-stands rows i f e in
       record {

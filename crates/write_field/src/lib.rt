@@ -8,6 +8,7 @@ ghost use Prim.Native.Nat.{_-_, _≤_};
 ghost use lib.ListN.{length};
 ghost use Rattle.spec_format.specs.Write.{padded, fieldLines};
 ghost use Rattle.base_pen.specs.Pen.{Writes};
+ghost use Rattle.spec_format.specs.Record.{most};
 
 // A word, with spaces up to n columns.
 pub fn put_padded(out: &mut [u8], at: usize, word: &[u8], n: usize) -> usize
@@ -18,7 +19,7 @@ pub fn put_padded(out: &mut [u8], at: usize, word: &[u8], n: usize) -> usize
 }
 
 pub fn put_field(out: &mut [u8], at: usize, word: &[u8], text: &[u8], width: usize) -> usize
-    requires { ⌜ (length (now word) ≤ 12) × (length (now text) ≤ 16777216) × (60 ≤ width) × (width ≤ 132) ⌝ }
+    requires { ⌜ (length (now word) ≤ 12) × (length (now text) ≤ most) × (60 ≤ width) × (width ≤ 132) ⌝ }
     ensures { λ r. ⌜ Writes (now (out .entry)) at (fieldLines width (now (word .entry)) (now (text .entry))) (now (out .exit)) r ⌝ }
 {
     let next = put_padded(out, at, word, 12);

@@ -13,6 +13,7 @@ use Rattle.spec_format.specs.declared.Text.the-variants as text
 use Rattle.spec_format.specs.declared.SourceText.{SourceText}
 use Rattle.spec_format.specs.declared.SourceText.the-variants as source
 use Rattle.write_field.specs.Field.{field-length}
+use Rattle.spec_format.specs.Record.{most}
 
 pub record AtMost (x : List ℕ) (n : ℕ) : Type 0 where
   pub is : length x ≤ n
@@ -35,7 +36,7 @@ each-most f g w i (suc n) c h =
 pub cut-most : (store : List ℕ) (start n : ℕ) → length (cut store start n) ≤ length store
 cut-most store start n = simp (length-take, length-drop) (omega arith)
 
-module _ (W : ℕ) (store : List ℕ) (small : length store ≤ 16777216) where
+module _ (W : ℕ) (store : List ℕ) (small : length store ≤ most) where
   -- 24 * 16,777,216 + 37
   span-most : (word : List ℕ) (start n : ℕ) → length word ≤ 12 → AtMost (fieldLines W word (cut store start n)) 402653221
   span-most word start n h = record { is = omega (arith, field-length W word (cut store start n) h, cut-most store start n) }
@@ -60,7 +61,7 @@ module _ (W : ℕ) (store : List ℕ) (small : length store ≤ 16777216) where
   row-may-most : (word rows : List ℕ) (at : ℕ) → length word ≤ 12 → AtMost (maybeLines W word (perhapsIn store rows at)) 402653221
   row-may-most word rows at h = perhaps-most word (getD rows at 0) (getD rows (at + 1) 0) h
 
-module _ (W : ℕ) (r : Rooms) (small : length (r .texts) ≤ 16777216) where
+module _ (W : ℕ) (r : Rooms) (small : length (r .texts) ≤ most) where
   abbrev row : (word : List ℕ) (at : ℕ) → length word ≤ 12 → AtMost (fieldLines W word (textIn (r .texts) (r .references) at)) 402653221
   row word at h = row-most W (r .texts) small word (r .references) at h
 

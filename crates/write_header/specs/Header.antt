@@ -7,6 +7,7 @@ use Rattle.spec_format.specs.Table.{Reference, Table}
 use Rattle.spec_format.specs.Write.{fieldLines, maybeLines}
 use Rattle.spec_format.specs.declared.Head.{Head}
 use Rattle.judge_rooms.specs.Facts.{TextIn}
+use Rattle.spec_format.specs.Record.{most}
 
 -- what stands before SOURCE
 unfoldable pub firstTexts : ℕ → Table → List ℕ
@@ -20,7 +21,7 @@ referenceStart W r =
     fieldLines W (bytes "REFERENCE") (r .text) ++ maybeLines W (bytes "  AUTHORS") (r .authors) ++ maybeLines W (bytes "  CONSRTM") (r .consrtm)
 
 pub record FirstKnown (texts : List ℕ) (h : Head) : Type 0 where
-  pub small : length texts ≤ 16777216
+  pub small : length texts ≤ most
   pub definition : TextIn texts (h .definition)
   pub accession : TextIn texts (h .accession)
   pub version : TextIn texts (h .version)

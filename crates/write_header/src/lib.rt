@@ -14,6 +14,7 @@ ghost use Rattle.judge_rooms.specs.Parts.{referenceRooms, commentRooms};
 ghost use Rattle.judge_rooms.specs.Facts.{TextIn, SourceIn, ReferenceIn};
 ghost use Rattle.judge_header.specs.Rules.{Known, RowKnown, PerhapsKnown, ReferencesKnown, CommentsKnown, HeaderKnown};
 ghost use Rattle.write_header.specs.Header.{FirstKnown, firstTexts, referenceStart};
+ghost use Rattle.spec_format.specs.Record.{most};
 
 // A text of the store, after its word.
 fn put_span(
@@ -41,7 +42,7 @@ fn put_maybe(
     text: Text,
     width: usize,
 ) -> usize
-    requires { ⌜ (length (now word) ≤ 12) × (length (now texts) ≤ 16777216) × TextIn (now texts) text × (60 ≤ width) × (width ≤ 132) ⌝ }
+    requires { ⌜ (length (now word) ≤ 12) × (length (now texts) ≤ most) × TextIn (now texts) text × (60 ≤ width) × (width ≤ 132) ⌝ }
     ensures { λ r. ⌜ Writes (now (out .entry)) at (maybeLines width (now (word .entry)) (mayText (now (texts .entry)) text)) (now (out .exit)) r ⌝ }
 {
     match text {
@@ -51,7 +52,7 @@ fn put_maybe(
 }
 
 fn put_source(out: &mut [u8], at: usize, texts: &[u8], source: SourceText, width: usize) -> usize
-    requires { ⌜ (length (now texts) ≤ 16777216) × SourceIn (now texts) source × (60 ≤ width) × (width ≤ 132) ⌝ }
+    requires { ⌜ (length (now texts) ≤ most) × SourceIn (now texts) source × (60 ≤ width) × (width ≤ 132) ⌝ }
     ensures { λ r. ⌜ Writes (now (out .entry)) at (sourceLines width (maySource (now (texts .entry)) source)) (now (out .exit)) r ⌝ }
 {
     match source {
@@ -108,7 +109,7 @@ fn put_reference_start(
     place: usize,
     width: usize,
 ) -> usize
-    requires { ⌜ (length (now texts) ≤ 16777216) × (place + 13 < length (now references)) × ReferenceIn (now texts) (now references) place × (60 ≤ width) × (width ≤ 132) ⌝ }
+    requires { ⌜ (length (now texts) ≤ most) × (place + 13 < length (now references)) × ReferenceIn (now texts) (now references) place × (60 ≤ width) × (width ≤ 132) ⌝ }
     ensures { λ r. ⌜ Writes (now (out .entry)) at (referenceStart width (referenceIn (referenceRooms (now (texts .entry)) (now (references .entry))) place)) (now (out .exit)) r ⌝ }
 {
     let a = put_row_text(out, at, b"REFERENCE", texts, references, place, width);
@@ -124,7 +125,7 @@ fn put_reference(
     place: usize,
     width: usize,
 ) -> usize
-    requires { ⌜ (length (now texts) ≤ 16777216) × (place + 13 < length (now references)) × ReferenceIn (now texts) (now references) place × (60 ≤ width) × (width ≤ 132) ⌝ }
+    requires { ⌜ (length (now texts) ≤ most) × (place + 13 < length (now references)) × ReferenceIn (now texts) (now references) place × (60 ≤ width) × (width ≤ 132) ⌝ }
     ensures { λ r. ⌜ Writes (now (out .entry)) at (referenceLines width (referenceIn (referenceRooms (now (texts .entry)) (now (references .entry))) place)) (now (out .exit)) r ⌝ }
 {
     let a = put_reference_start(out, at, texts, references, place, width);

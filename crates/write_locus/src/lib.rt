@@ -27,10 +27,11 @@ ghost use Rattle.base_pen.specs.Pen.{Writes};
 ghost use Rattle.judge_rooms.specs.Facts.{SpanIn, TextIn, HeadIn};
 ghost use Rattle.judge_rooms.specs.Parts.{referenceRooms};
 ghost use Rattle.write_locus.specs.Line.{orUntitled, nameWith, lineStart, lineMiddle, lineEnd, lineWith};
+ghost use Rattle.spec_format.specs.Record.{most};
 
 // The length that is printed: LOCUS's, else the letter count.
 fn printed_length(bases: Length, letters: usize) -> u32
-    requires { ⌜ letters ≤ 16777216 ⌝ }
+    requires { ⌜ letters ≤ most ⌝ }
     ensures { λ r. ⌜ r ≡ lengthOr (mayLength bases) letters ⌝ }
 {
     match bases {
@@ -49,7 +50,7 @@ fn put_span_name(
     truncate: bool,
     escape: bool,
 ) -> usize
-    requires { ⌜ (length (now texts) ≤ 16777216) × SpanIn (now texts) name ⌝ }
+    requires { ⌜ (length (now texts) ≤ most) × SpanIn (now texts) name ⌝ }
     ensures { λ r. ⌜ Writes (now (out .entry)) at (nameAndLength (printedOf truncate escape (decimal n) (spanText (now (texts .entry)) name)) (decimal n)) (now (out .exit)) r ⌝ }
 {
     let start = name.start;
@@ -67,7 +68,7 @@ fn put_name(
     truncate: bool,
     escape: bool,
 ) -> usize
-    requires { ⌜ (length (now texts) ≤ 16777216) × TextIn (now texts) name ⌝ }
+    requires { ⌜ (length (now texts) ≤ most) × TextIn (now texts) name ⌝ }
     ensures { λ r. ⌜ Writes (now (out .entry)) at (nameAndLength (printedOf truncate escape (decimal n) (orUntitled (mayText (now (texts .entry)) name))) (decimal n)) (now (out .exit)) r ⌝ }
 {
     match name {
@@ -78,7 +79,7 @@ fn put_name(
 
 // Number 11's test of the printed name of a text that is there.
 fn span_fine(texts: &[u8], name: Span, n: u32, truncate: bool, escape: bool) -> bool
-    requires { ⌜ (length (now texts) ≤ 16777216) × SpanIn (now texts) name ⌝ }
+    requires { ⌜ (length (now texts) ≤ most) × SpanIn (now texts) name ⌝ }
     ensures { λ r. ⌜ r ≡ nameTest (printedOf truncate escape (decimal n) (spanText (now (texts .entry)) name)) ⌝ }
 {
     let start = name.start;
@@ -88,7 +89,7 @@ fn span_fine(texts: &[u8], name: Span, n: u32, truncate: bool, escape: bool) -> 
 
 // Number 11's test of the printed name of a text.
 fn text_fine(texts: &[u8], name: Text, n: u32, truncate: bool, escape: bool) -> bool
-    requires { ⌜ (length (now texts) ≤ 16777216) × TextIn (now texts) name ⌝ }
+    requires { ⌜ (length (now texts) ≤ most) × TextIn (now texts) name ⌝ }
     ensures { λ r. ⌜ r ≡ nameTest (printedOf truncate escape (decimal n) (orUntitled (mayText (now (texts .entry)) name))) ⌝ }
 {
     match name {
@@ -99,7 +100,7 @@ fn text_fine(texts: &[u8], name: Text, n: u32, truncate: bool, escape: bool) -> 
 
 // Number 11's test of the printed name.
 pub fn name_fine(texts: &[u8], head: Head, truncate: bool, escape: bool) -> bool
-    requires { ⌜ HeadIn (now texts) head × (length (now texts) ≤ 16777216) × (head .letters ≤ 16777216) ⌝ }
+    requires { ⌜ HeadIn (now texts) head × (length (now texts) ≤ most) × (head .letters ≤ most) ⌝ }
     ensures { λ r. ⌜ r ≡ nameTest (nameWith truncate escape (lengthOr (mayLength (head .length)) (head .letters)) (tableOf (referenceRooms (now (texts .entry)) []) head)) ⌝ }
 {
     let name = head.name;
@@ -151,7 +152,7 @@ fn put_start(
     truncate: bool,
     escape: bool,
 ) -> usize
-    requires { ⌜ HeadIn (now texts) head × (length (now texts) ≤ 16777216) × (head .letters ≤ 16777216) ⌝ }
+    requires { ⌜ HeadIn (now texts) head × (length (now texts) ≤ most) × (head .letters ≤ most) ⌝ }
     ensures { λ r. ⌜ Writes (now (out .entry)) at (lineStart truncate escape (lengthOr (mayLength (head .length)) (head .letters)) (tableOf (referenceRooms (now (texts .entry)) []) head)) (now (out .exit)) r ⌝ }
 {
     let name = head.name;
@@ -210,7 +211,7 @@ pub fn put_locus(
     truncate: bool,
     escape: bool,
 ) -> usize
-    requires { ⌜ HeadIn (now texts) head × (length (now texts) ≤ 16777216) × (head .letters ≤ 16777216) ⌝ }
+    requires { ⌜ HeadIn (now texts) head × (length (now texts) ≤ most) × (head .letters ≤ most) ⌝ }
     ensures { λ r. ⌜ Writes (now (out .entry)) at (lineWith truncate escape (lengthOr (mayLength (head .length)) (head .letters)) (tableOf (referenceRooms (now (texts .entry)) []) head)) (now (out .exit)) r ⌝ }
 {
     let molecule = head.molecule;

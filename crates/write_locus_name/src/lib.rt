@@ -17,6 +17,7 @@ ghost use Rattle.spec_format.specs.Bytes.{decimal};
 ghost use Rattle.spec_format.specs.Write.{escapedName, nameAndLength};
 ghost use Rattle.base_pen.specs.Pen.{Writes};
 ghost use Rattle.write_locus_name.specs.Names.{Kept, chosen, nameTest, printedOf};
+ghost use Rattle.spec_format.specs.Record.{most};
 
 // LOCUS's name, else ACCESSION.
 pub fn chosen_name(name: Text, accession: Text) -> Text
@@ -30,7 +31,7 @@ pub fn chosen_name(name: Text, accession: Text) -> Text
 
 // A name as it is, or its words joined by `_` where that is asked for and there are two or more.
 fn put_escaped_name(out: &mut [u8], at: usize, name: &[u8], escape: bool) -> usize
-    requires { ⌜ length (now name) ≤ 16777216 ⌝ }
+    requires { ⌜ length (now name) ≤ most ⌝ }
     ensures { λ r. ⌜ Writes (now (out .entry)) at (escapedName escape (now (name .entry))) (now (out .exit)) r ⌝ }
 {
     if both(escape, two_words(name)) {
@@ -41,7 +42,7 @@ fn put_escaped_name(out: &mut [u8], at: usize, name: &[u8], escape: bool) -> usi
 
 // The escaped name is not empty, and its bytes are 32 to 126.
 fn escaped_name_fine(name: &[u8], escape: bool) -> bool
-    requires { ⌜ length (now name) ≤ 16777216 ⌝ }
+    requires { ⌜ length (now name) ≤ most ⌝ }
     ensures { λ r. ⌜ r ≡ nameTest (escapedName escape (now (name .entry))) ⌝ }
 {
     if both(escape, two_words(name)) {
@@ -63,7 +64,7 @@ fn gap(used: usize, d: usize) -> usize
 
 // An escaped name and a length, apart by one space at least, over 28 columns.
 fn put_name_length(out: &mut [u8], at: usize, name: &[u8], n: u32, escape: bool) -> usize
-    requires { ⌜ length (now name) ≤ 16777216 ⌝ }
+    requires { ⌜ length (now name) ≤ most ⌝ }
     ensures { λ r. ⌜ Writes (now (out .entry)) at (nameAndLength (escapedName escape (now (name .entry))) (decimal n)) (now (out .exit)) r ⌝ }
 {
     let a = put_escaped_name(out, at, name, escape);
@@ -73,7 +74,7 @@ fn put_name_length(out: &mut [u8], at: usize, name: &[u8], n: u32, escape: bool)
 
 // How much of a name is printed beside a length of d digits.
 fn kept(name: &[u8], d: usize, truncate: bool) -> usize
-    requires { ⌜ (length (now name) ≤ 16777216) × (d ≤ 10) ⌝ }
+    requires { ⌜ (length (now name) ≤ most) × (d ≤ 10) ⌝ }
     ensures { λ r. ⌜ Kept truncate d (now (name .entry)) r ⌝ }
 {
     if truncate {
@@ -94,7 +95,7 @@ pub fn put_printed_name(
     truncate: bool,
     escape: bool,
 ) -> usize
-    requires { ⌜ length (now name) ≤ 16777216 ⌝ }
+    requires { ⌜ length (now name) ≤ most ⌝ }
     ensures { λ r. ⌜ Writes (now (out .entry)) at (nameAndLength (printedOf truncate escape (decimal n) (now (name .entry))) (decimal n)) (now (out .exit)) r ⌝ }
 {
     let from = 0;
@@ -104,7 +105,7 @@ pub fn put_printed_name(
 
 // Number 11's test of the printed name.
 pub fn printed_name_fine(name: &[u8], n: u32, truncate: bool, escape: bool) -> bool
-    requires { ⌜ length (now name) ≤ 16777216 ⌝ }
+    requires { ⌜ length (now name) ≤ most ⌝ }
     ensures { λ r. ⌜ r ≡ nameTest (printedOf truncate escape (decimal n) (now (name .entry))) ⌝ }
 {
     let from = 0;

@@ -13,6 +13,7 @@ ghost use Rattle.spec_format.specs.Bytes.{all, between, printing};
 ghost use Rattle.spec_format.specs.Write.{white, words, joined};
 ghost use Rattle.base_pen.specs.Pen.{Writes};
 ghost use Rattle.write_locus_words.specs.Words.{whiteOne, whiteTwo, whiteThree, whiteFrom, shown, closed, ended, nextPlace, cap, second};
+ghost use Rattle.spec_format.specs.Record.{most};
 
 fn either(a: bool, b: bool) -> bool
     ensures { λ r. ⌜ r ≡ (a || b) ⌝ }
@@ -90,7 +91,7 @@ fn byte_at(s: &[u8], i: usize) -> u8
 
 // How many bytes of white space come from i on, of which n are known already.
 fn white_from(s: &[u8], i: usize, n: usize) -> usize
-    requires { ⌜ (i < length (now s)) × (length (now s) ≤ 16777216) ⌝ }
+    requires { ⌜ (i < length (now s)) × (length (now s) ≤ most) ⌝ }
     ensures { λ r. ⌜ r ≡ whiteFrom n (drop i (now (s .entry))) ⌝ }
 {
     if 0 < n {
@@ -167,7 +168,7 @@ fn put_next(out: &mut [u8], at: usize, place: Place, b: u8) -> usize
 
 // The words, joined by `_`.
 pub fn put_joined(out: &mut [u8], at: usize, name: &[u8]) -> usize
-    requires { ⌜ length (now name) ≤ 16777216 ⌝ }
+    requires { ⌜ length (now name) ≤ most ⌝ }
     ensures { λ r. ⌜ Writes (now (out .entry)) at (joined (words (now (name .entry)))) (now (out .exit)) r ⌝ }
 {
     let mut p = at;
@@ -187,7 +188,7 @@ pub fn put_joined(out: &mut [u8], at: usize, name: &[u8]) -> usize
 
 // There are two words or more.
 pub fn two_words(name: &[u8]) -> bool
-    requires { ⌜ length (now name) ≤ 16777216 ⌝ }
+    requires { ⌜ length (now name) ≤ most ⌝ }
     ensures { λ r. ⌜ r ≡ ltb 1 (length (words (now (name .entry)))) ⌝ }
 {
     let mut place = Place::Before;
@@ -208,7 +209,7 @@ pub fn two_words(name: &[u8]) -> bool
 
 // All bytes of the words are 32 to 126.
 pub fn words_print(name: &[u8]) -> bool
-    requires { ⌜ length (now name) ≤ 16777216 ⌝ }
+    requires { ⌜ length (now name) ≤ most ⌝ }
     ensures { λ r. ⌜ r ≡ all printing (joined (words (now (name .entry)))) ⌝ }
 {
     let mut white = 0;

@@ -11,11 +11,12 @@ use borrow.Author.Tests.{eqb-true, eqb-false}
 use Rattle.spec_format.specs.Bytes.{pick, decimal}
 use Rattle.spec_format.specs.Write.{rightAligned, lineStart, tenStart, letterLines}
 use Rattle.write_origin.specs.Number.{nine-length}
+use Rattle.spec_format.specs.Record.{most}
 
 abbrev pub lettersLength : ℕ → ℕ
 lettersLength n = n + (n + 9) / 10 + 10 * ((n + 59) / 60) + 1
 
-start-by : (i : ℕ) → i < 16777216 → (x : Bool) → eqb (i % 60) 0 ≡ x
+start-by : (i : ℕ) → i < most → (x : Bool) → eqb (i % 60) 0 ≡ x
     → length (pick x (10 ∷ [] ++ rightAligned 9 (decimal (suc i))) []) + 10 * ((i + 59) / 60) ≡ 10 * ((suc i + 59) / 60)
 start-by i h true e =
     omega (
@@ -34,7 +35,7 @@ space-by i false e = omega (arith, eqb-false (i % 10) 0 e)
 one-more : (x s k r i a b a′ b′ m : ℕ) → x ≡ s + k + 1 + r → s + 10 * b ≡ 10 * b′ → k + a ≡ a′ → r + (suc i + a′ + 10 * b′ + 1) ≡ m → x + (i + a + 10 * b + 1) ≡ m
 one-more x s k r i a b a′ b′ m e f g h = omega arith
 
-measured : (i : ℕ) (t : List ℕ) → i + length t ≤ 16777216 → length (letterLines i t) + lettersLength i ≡ lettersLength (i + length t) + 1
+measured : (i : ℕ) (t : List ℕ) → i + length t ≤ most → length (letterLines i t) + lettersLength i ≡ lettersLength (i + length t) + 1
 unfolding letterLines
 measured i [] h = rw (add-zero i) (omega arith)
 measured i (b ∷ t) h =
@@ -44,5 +45,5 @@ measured i (b ∷ t) h =
     rw e (one-more _ (length (lineStart i)) (length (tenStart i)) _ i _ _ _ _ _ l (start-by i (omega arith) (eqb (i % 60) 0) refl)
     (space-by i (eqb (i % 10) 0) refl) (measured (suc i) t (omega arith)))
 
-pub letters-measured : (t : List ℕ) → length t ≤ 16777216 → length (letterLines 0 t) ≡ lettersLength (length t)
+pub letters-measured : (t : List ℕ) → length t ≤ most → length (letterLines 0 t) ≡ lettersLength (length t)
 letters-measured t h = omega (arith, measured 0 t (omega arith))

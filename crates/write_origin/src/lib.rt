@@ -16,10 +16,11 @@ ghost use Rattle.write_origin.specs.Origin.{Ten};
 ghost use Rattle.write_origin.specs.Number.{column};
 ghost use Rattle.write_origin.specs.Measure.{lettersLength};
 ghost use Rattle.write_origin.specs.Whole.{spaced, thirty, sixty, Lines};
+ghost use Rattle.spec_format.specs.Record.{most};
 
 // What stands before letter i, counted from 0.
 fn put_mark(out: &mut [u8], at: usize, i: usize) -> usize
-    requires { ⌜ i < 16777216 ⌝ }
+    requires { ⌜ i < most ⌝ }
     ensures { λ r. ⌜ Writes (now (out .entry)) at (lineStart i ++ tenStart i) (now (out .exit)) r ⌝ }
 {
     if i % 60 == 0 {
@@ -43,7 +44,7 @@ fn ten_end(i: usize, n: usize) -> usize
 
 // The letters from a ten's start on, whatever room there is.
 fn put_tens(out: &mut [u8], at: usize, letters: &[u8], from: usize) -> usize
-    requires { ⌜ (length (now letters) ≤ 16777216) × (from ≤ length (now letters)) × (from % 10 ≡ 0) ⌝ }
+    requires { ⌜ (length (now letters) ≤ most) × (from ≤ length (now letters)) × (from % 10 ≡ 0) ⌝ }
     ensures { λ r. ⌜ Writes (now (out .entry)) at (letterLines from (drop from (now (letters .entry)))) (now (out .exit)) r ⌝ }
 {
     let mut p = at;
@@ -139,7 +140,7 @@ fn store_thirty(out: &mut [u8], at: usize, letters: &[u8], i: usize)
 
 // A line of sixty letters, which fits.
 fn store_line(out: &mut [u8], at: usize, letters: &[u8], i: usize)
-    requires { ⌜ (at + 76 ≤ length (now out)) × (i + 60 ≤ length (now letters)) × (i < 16777216) ⌝ }
+    requires { ⌜ (at + 76 ≤ length (now out)) × (i + 60 ≤ length (now letters)) × (i < most) ⌝ }
     ensures { λ r. ⌜ Wrote (now (out .entry)) at (sixty (now (letters .entry)) i) (now (out .exit)) (at + 76) ⌝ }
 {
     let number = number_of((i + 1) as u32);
@@ -150,7 +151,7 @@ fn store_line(out: &mut [u8], at: usize, letters: &[u8], i: usize)
 
 // The whole lines that fit, one after the other; how many they are.
 fn put_lines(out: &mut [u8], at: usize, letters: &[u8]) -> usize
-    requires { ⌜ (length (now letters) ≤ 16777216) × (at ≤ length (now out)) ⌝ }
+    requires { ⌜ (length (now letters) ≤ most) × (at ≤ length (now out)) ⌝ }
     ensures { λ r. ⌜ Lines (now (out .entry)) at (now (letters .entry)) (now (out .exit)) r ⌝ }
 {
     let mut k = 0;
@@ -170,14 +171,14 @@ fn put_lines(out: &mut [u8], at: usize, letters: &[u8]) -> usize
 
 // How many bytes n letters take.
 fn letters_length(n: usize) -> usize
-    requires { ⌜ n ≤ 16777216 ⌝ }
+    requires { ⌜ n ≤ most ⌝ }
     ensures { λ r. ⌜ r ≡ lettersLength n ⌝ }
 {
     n + (n + 9) / 10 + 10 * ((n + 59) / 60) + 1
 }
 
 fn put_letters(out: &mut [u8], at: usize, letters: &[u8]) -> usize
-    requires { ⌜ length (now letters) ≤ 16777216 ⌝ }
+    requires { ⌜ length (now letters) ≤ most ⌝ }
     ensures { λ r. ⌜ Writes (now (out .entry)) at (letterLines 0 (now (letters .entry))) (now (out .exit)) r ⌝ }
 {
     let n = letters_length(letters.len());
@@ -193,7 +194,7 @@ fn put_letters(out: &mut [u8], at: usize, letters: &[u8]) -> usize
 
 // The whole block; nothing where there are no letters.
 pub fn put_origin(out: &mut [u8], at: usize, letters: &[u8]) -> usize
-    requires { ⌜ length (now letters) ≤ 16777216 ⌝ }
+    requires { ⌜ length (now letters) ≤ most ⌝ }
     ensures { λ r. ⌜ Writes (now (out .entry)) at (originLines (now (letters .entry))) (now (out .exit)) r ⌝ }
 {
     if letters.len() < 1 {

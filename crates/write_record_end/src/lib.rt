@@ -11,10 +11,11 @@ ghost use Rattle.spec_format.specs.Rooms.{mayText};
 ghost use Rattle.spec_format.specs.Write.{contigLines, originLines};
 ghost use Rattle.base_pen.specs.Pen.{Writes};
 ghost use Rattle.judge_rooms.specs.Facts.{TextIn};
+ghost use Rattle.spec_format.specs.Record.{most};
 
 // CONTIG; nothing where it is absent.
 pub fn put_contig_text(out: &mut [u8], at: usize, texts: &[u8], contig: Text, width: usize) -> usize
-    requires { ⌜ (length (now texts) ≤ 16777216) × TextIn (now texts) contig × (60 ≤ width) × (width ≤ 132) ⌝ }
+    requires { ⌜ (length (now texts) ≤ most) × TextIn (now texts) contig × (60 ≤ width) × (width ≤ 132) ⌝ }
     ensures { λ r. ⌜ Writes (now (out .entry)) at (contigLines width (mayText (now (texts .entry)) contig)) (now (out .exit)) r ⌝ }
 {
     match contig {
@@ -29,7 +30,7 @@ pub fn put_contig_text(out: &mut [u8], at: usize, texts: &[u8], contig: Text, wi
 
 // The first n letters of their room, and the record's end.
 pub fn put_end(out: &mut [u8], at: usize, letters: &[u8], n: usize) -> usize
-    requires { ⌜ (n ≤ length (now letters)) × (length (now letters) ≤ 16777216) ⌝ }
+    requires { ⌜ (n ≤ length (now letters)) × (length (now letters) ≤ most) ⌝ }
     ensures { λ r. ⌜ Writes (now (out .entry)) at (originLines (take n (now (letters .entry))) ++ bytes "//\n") (now (out .exit)) r ⌝ }
 {
     let start = 0;

@@ -17,17 +17,18 @@ use Rattle.judge_rooms.specs.Facts.{RoomsIn, rooms-in}
 use Rattle.write_header.specs.Bound.{AtMost, none-most, both-most, cut-most, header-most}
 use Rattle.write_locus.specs.Bound.{locus-length}
 use Rattle.write_record_parts.specs.FeatureBound.{features-most}
+use Rattle.spec_format.specs.Record.{most}
 
 ruleset parts = (and-left, and-right)
 
 -- 23 * 16,777,216 + 13
-contig-most : (W : ℕ) (store : List ℕ) (t : Text) → length store ≤ 16777216 → AtMost (contigLines W (mayText store t)) 385875981
+contig-most : (W : ℕ) (store : List ℕ) (t : Text) → length store ≤ most → AtMost (contigLines W (mayText store t)) 385875981
 contig-most W store text.Absent h = none-most
 contig-most W store (text.At s) h =
     record { is = omega (arith, contig-length W (cut store (s .start) (s .length)), cut-most store (s .start) (s .length)) }
 
 -- 22 * 16,777,216 + 13
-origin-most : (letters : List ℕ) (n : ℕ) → length letters ≤ 16777216 → AtMost (originLines (take n letters)) 369098765
+origin-most : (letters : List ℕ) (n : ℕ) → length letters ≤ most → AtMost (originLines (take n letters)) 369098765
 origin-most letters n h = let e : length (take n letters) ≤ length letters = simp length-take (omega arith) in record { is = omega (arith, origin-length (take n letters)) }
 
 features-fine : (r : Rooms) (h : Head) → roomsFine r h ≡ true → featuresFine r 0 0 (h .features) ≡ true

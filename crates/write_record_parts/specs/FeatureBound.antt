@@ -18,6 +18,7 @@ use Rattle.judge_rooms.specs.Steps.{and-left, and-right, span-within, features-
 use Rattle.judge_rooms.specs.declared.Next.{Next}
 use Rattle.judge_rooms.specs.declared.Next.the-variants as next
 use Rattle.spec_format.specs.Impossible.{impossible}
+use Rattle.spec_format.specs.Record.{most}
 
 ruleset parts = (and-left, and-right)
 
@@ -45,9 +46,9 @@ next-after r at from f h l = go _ refl _ refl _ refl
         let b : getD (r .features) (at + 4) 0 + getD (r .features) (at + 5) 0 ≤ length (r .qualifiers) / 4 = span-within _ _ _ (search parts depth 12) in
         (omega arith, omega arith)
 
-module _ (W : ℕ) (r : Rooms) (small : length (r .texts) ≤ 16777216) where
+module _ (W : ℕ) (r : Rooms) (small : length (r .texts) ≤ most) where
   -- 25 * 16,777,216 + 48
-  value-most : (k : List ℕ) (start n : ℕ) → length k ≤ 16777216 → AtMost (qualifierText W k (perhapsText (r .texts) start n)) 419430448
+  value-most : (k : List ℕ) (start n : ℕ) → length k ≤ most → AtMost (qualifierText W k (perhapsText (r .texts) start n)) 419430448
   value-most k start zero h =
       record { is = omega (arith, length-append (keyText k) (bytes "\n"), length-append (spaces 21 ++ bytes "/") k) }
   value-most k start (suc n) h = record { is = omega (arith, value-length W k (cut (r .texts) start n), cut-most (r .texts) start n) }
@@ -59,7 +60,7 @@ module _ (W : ℕ) (r : Rooms) (small : length (r .texts) ≤ 16777216) where
       (omega (arith, cut-most (r .texts) (getD (r .qualifiers) at 0) (getD (r .qualifiers) (at + 1) 0)))
 
   -- 24 * 16,777,216 + 22
-  first-most : (kind location : List ℕ) → length kind ≤ 16777216 → length location ≤ 16777216
+  first-most : (kind location : List ℕ) → length kind ≤ most → length location ≤ most
       → AtMost (wrapLocation W (featureStart kind) 21 location) 402653206
   first-most kind location a b = record { is = omega (arith, feature-length W kind location) }
 

@@ -14,6 +14,7 @@ use Rattle.judge_rooms.specs.Facts.{HeadIn, TextIn, rooms-in}
 use Rattle.judge_rooms.specs.Parts.{referenceRooms}
 use Rattle.judge_record.specs.Rest.{Passed}
 use Rattle.spec_format.specs.declared.How.{How}
+use Rattle.spec_format.specs.Record.{most}
 
 -- the line of FEATURES stands only where there is a feature
 abbrev pub title : ℕ → List ℕ
@@ -40,19 +41,19 @@ afterParts t l h W = contigLines W (mayText t (h .contig)) ++ (originLines (take
 -- what is known where they are put
 pub record BeforeKnown (t rf cm : List ℕ) (h : Head) (W : ℕ) : Type 0 where
   pub head : HeadIn t h
-  pub small : length t ≤ 16777216
-  pub letters : h .letters ≤ 16777216
+  pub small : length t ≤ most
+  pub letters : h .letters ≤ most
   pub header : HeaderKnown t rf cm h
   pub narrowest : 60 ≤ W
   pub widest : W ≤ 132
 
 pub record AfterKnown (t l : List ℕ) (h : Head) (W : ℕ) : Type 0 where
-  pub small : length t ≤ 16777216
+  pub small : length t ≤ most
   pub contig : TextIn t (h .contig)
   pub narrowest : 60 ≤ W
   pub widest : W ≤ 132
   pub letters : h .letters ≤ length l
-  pub few : length l ≤ 16777216
+  pub few : length l ≤ most
 
 pub before-known : (W : ℕ) (r : Rooms) (h : Head) → Passed W r h → BeforeKnown (r .texts) (r .references) (r .comments) h W
 before-known W r h p =

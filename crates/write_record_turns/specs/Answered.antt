@@ -27,6 +27,7 @@ use Rattle.judge_record.specs.declared.Verdict.the-variants as verdict
 use Rattle.write_record_parts.specs.RestVerdict.{verdictBy, tableFine, tableKept}
 use Rattle.spec_format.specs.Impossible.{impossible}
 use Rattle.spec_contracts.specs.Writes.{AnsweredBy, WriteAnswered}
+use Rattle.spec_format.specs.Record.{most}
 
 -- ---- a call but for its rows
 
@@ -97,7 +98,7 @@ module _ (a : Asking) (rows : List Feature) (n : ℕ) where
   unfolding due
   due-rooms w e = rw (w, e)
 
-  rooms-are : (x y z f : Bool) → roomsFine (restOf a) (noRows (a .head)) ≡ x → leb (length rows) 16777216 ≡ y → leb (a .head .features) (length rows) ≡ z
+  rooms-are : (x y z f : Bool) → roomsFine (restOf a) (noRows (a .head)) ≡ x → leb (length rows) most ≡ y → leb (a .head .features) (length rows) ≡ z
       → featuresFine (rowsOf a rows) 0 0 (a .head .features) ≡ f → roomsFine (rowsOf a rows) (a .head) ≡ (x && (y && (z && f)))
   rooms-are x y z f e g i j =
       rooms-split (a .texts) (a .references) (a .comments) (a .qualifiers) (a .letters) rows (a .head) ∙ rw (e, g, i, j)
@@ -108,11 +109,11 @@ module _ (a : Asking) (rows : List Feature) (n : ℕ) where
   due-rest b c e t f u = due-rooms (sym e ∙ not-false b t) (rooms-are false _ _ _ (sym f ∙ not-true c u) refl refl refl)
 
   pub due-many : (b c d : Bool) → b ≡ widthFine (a .how .width) → not b ≡ false → c ≡ roomsFine (restOf a) (noRows (a .head)) → not c ≡ false
-      → d ≡ (leb (length rows) 16777216 && leb (a .head .features) (length rows)) → not d ≡ true
+      → d ≡ (leb (length rows) most && leb (a .head .features) (length rows)) → not d ≡ true
       → answer.Refused unwritten.BadRooms ≡ due a rows n
   due-many b c d e t f u g v =
       due-rooms (sym e ∙ not-false b t)
-      (rooms-are true _ _ _ (sym f ∙ not-false c u) refl refl refl ∙ go (leb (length rows) 16777216) (leb (a .head .features) (length rows)) _ (sym g ∙ not-true d v))
+      (rooms-are true _ _ _ (sym f ∙ not-false c u) refl refl refl ∙ go (leb (length rows) most) (leb (a .head .features) (length rows)) _ (sym g ∙ not-true d v))
     where
       go : (y z w : Bool) → (y && z) ≡ false → (y && (z && w)) ≡ false
       go true true w h = absurd (true-false h)
@@ -126,7 +127,7 @@ module _ (a : Asking) (rows : List Feature) (n : ℕ) where
 
 pub record Asked (a : Asking) (rows : List Feature) : Type 0 where
   pub passed : Passed (a .how .width) (restOf a) (noRows (a .head))
-  pub few : length rows ≤ 16777216
+  pub few : length rows ≤ most
   pub enough : a .head .features ≤ length rows
 
 width-is : (W : ℕ) → 60 ≤ W → W ≤ 132 → widthFine W ≡ true
@@ -135,7 +136,7 @@ width-is W l u = rw (le-leb 60 W l, le-leb W 132 u)
 module _ (a : Asking) (rows : List Feature) (k : Asked a rows) where
   rooms-by-rows : (f : Bool) → featuresFine (rowsOf a rows) 0 0 (a .head .features) ≡ f → roomsFine (rowsOf a rows) (a .head) ≡ f
   rooms-by-rows f e =
-      rooms-are a rows 0 true true true f (k .passed .rooms) (le-leb (length rows) 16777216 (k .few)) (le-leb (a .head .features) (length rows) (k .enough)) e
+      rooms-are a rows 0 true true true f (k .passed .rooms) (le-leb (length rows) most (k .few)) (le-leb (a .head .features) (length rows) (k .enough)) e
 
   pub asked-rooms : featuresFine (rowsOf a rows) 0 0 (a .head .features) ≡ true → roomsFine (rowsOf a rows) (a .head) ≡ true
   asked-rooms e = rooms-by-rows true e

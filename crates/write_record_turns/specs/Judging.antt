@@ -34,6 +34,7 @@ use Rattle.write_record_turns.specs.Answered.{Asking, asking, rowsOf, re
 use Rattle.write_record_turns.specs.declared.State.{State}
 use Rattle.write_record_turns.specs.States.{endedState, stagedState, rowKept, pass, Starts, Judges}
 use Rattle.write_record_turns.specs.RowLaws.{nowhere, text-more, pass-more, and-assoc}
+use Rattle.spec_format.specs.Record.{most}
 
 -- ---- start
 
@@ -45,7 +46,7 @@ module _ (a : Asking) (b : Bool) (e : b ≡ widthFine (a .how .width)) where
     pub start-rooms : (n : ℕ) → not c ≡ true → Starts n a (endedState (answer.Refused unwritten.BadRooms))
     start-rooms n u = record { by = λ rows old m. answers a rows old old _ (due-rest a rows (length old) b c e t f u) refl }
 
-    module _ (u : not c ≡ false) (n : ℕ) (d : Bool) (g : d ≡ (leb n 16777216 && leb (a .head .features) n)) where
+    module _ (u : not c ≡ false) (n : ℕ) (d : Bool) (g : d ≡ (leb n most && leb (a .head .features) n)) where
       pub start-rows : not d ≡ true → Starts n a (endedState (answer.Refused unwritten.BadRooms))
       start-rows v = record { by = λ rows old m. answers a rows old old _ (due-many a rows (length old) b c d e t f u (rw m at g) v) refl }
 
@@ -56,9 +57,9 @@ module _ (a : Asking) (b : Bool) (e : b ≡ widthFine (a .how .width)) where
           record {
             by = λ rows old m.
                 let p : Passed (a .how .width) (restOf a) (noRows (a .head)) = passed-two (a .how .width) (restOf a) (noRows (a .head)) b c e t f u in
-                let y : (leb n 16777216 && leb (a .head .features) n) ≡ true = sym g ∙ not-false d v in
-                let few : n ≤ 16777216 = leb-true _ _ (and-left _ _ y) in
-                let enough : a .head .features ≤ n = leb-true _ _ (and-right (leb n 16777216) _ y) in
+                let y : (leb n most && leb (a .head .features) n) ≡ true = sym g ∙ not-false d v in
+                let few : n ≤ most = leb-true _ _ (and-left _ _ y) in
+                let enough : a .head .features ≤ n = leb-true _ _ (and-right (leb n most) _ y) in
                 let z : a .head .features - 0 ≡ a .head .features = sub-zero (a .head .features) in
                 record {
                   asked = record { passed = p; few = omega arith; enough = omega arith };
@@ -80,7 +81,7 @@ module _ (a : Asking) (b : Bool) (e : b ≡ widthFine (a .how .width)) where
 -- ---- a row is judged
 
 -- a row after which another may stand lies in its rooms
-pub row-fit : (t q : List ℕ) (f : Feature) (from m : ℕ) (o : Next) → length t ≤ 16777216 → o ≡ featureNext (featureRooms t (numbers f) q) 0 from → o ≡ next.From m
+pub row-fit : (t q : List ℕ) (f : Feature) (from m : ℕ) (o : Next) → length t ≤ most → o ≡ featureNext (featureRooms t (numbers f) q) 0 from → o ≡ next.From m
     → FeatureKnown t (numbers f) q 0
 row-fit t q f from m o small e g = record { small = small; row = omega arith; inside = feature-in (featureRooms t (numbers f) q) 0 from m (sym e ∙ g) }
 

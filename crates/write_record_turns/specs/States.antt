@@ -25,6 +25,7 @@ use Rattle.judge_record.specs.Rest.{Passed}
 use Rattle.write_record_turns.specs.Answered.{Asking, asking, rowsOf, restOf, textOf, textFrom, due, Asked}
 use Rattle.write_record_turns.specs.declared.State.{State}
 use Rattle.spec_contracts.specs.Writes.{WriteAnswered}
+use Rattle.spec_format.specs.Record.{most}
 
 -- ---- states
 
@@ -107,7 +108,7 @@ pub record Ends (t l : List ℕ) (h : Head) (how : How) (s : State) (out : List 
 -- what a turn asks: that the rest of the table passed, and of a row that is put that it lies in its rooms
 pub record Steady (a : Asking) (s : State) (f : Fetched) : Type 0 where
   pub passed : Passed (a .how .width) (restOf a) (noRows (a .head))
-  pub few : s .row ≤ 16777216
+  pub few : s .row ≤ most
   pub row : s .putting ≡ true → s .row < a .head .features → (x : Feature) → f ≡ fetched.Row x → FeatureKnown (a .texts) (numbers x) (a .qualifiers) 0
 
 pub record Steps (a : Asking) (s : State) (f : Fetched) (out : List ℕ) (r : State) (new : List ℕ) : Type 0 where

@@ -34,6 +34,7 @@ ghost use Rattle.write_record_parts.specs.Parts.{AfterKnown};
 ghost use Rattle.write_record_turns.specs.Answered.{asking};
 ghost use Rattle.write_record_turns.specs.States.{endedState, stagedState, Starts, Judges, Decides, Puts, Ends, Steady, Steps};
 ghost use Rattle.spec_format.specs.Rooms.{roomsIn};
+ghost use Rattle.spec_format.specs.Record.{most};
 
 // How far the work has come.
 pub struct State {
@@ -127,7 +128,7 @@ pub fn start(
 
 // A row is judged and measured.
 fn judge_row(s: State, row: Feature, texts: &[u8], qualifiers: &[usize], how: How) -> State
-    requires { ⌜ (length (now texts) ≤ 16777216) × (60 ≤ how .width) × (how .width ≤ 132) × (s .row ≤ 16777216) ⌝ }
+    requires { ⌜ (length (now texts) ≤ most) × (60 ≤ how .width) × (how .width ≤ 132) × (s .row ≤ most) ⌝ }
     ensures { λ r. ⌜ Judges (now (texts .entry)) (now (qualifiers .entry)) how s (Fetched.Row row) r ⌝ }
 {
     let width = how.width;
@@ -144,7 +145,7 @@ fn judge_row(s: State, row: Feature, texts: &[u8], qualifiers: &[usize], how: Ho
 }
 
 fn judge_fetched(s: State, fetched: Fetched, texts: &[u8], qualifiers: &[usize], how: How) -> State
-    requires { ⌜ (length (now texts) ≤ 16777216) × (60 ≤ how .width) × (how .width ≤ 132) × (s .row ≤ 16777216) ⌝ }
+    requires { ⌜ (length (now texts) ≤ most) × (60 ≤ how .width) × (how .width ≤ 132) × (s .row ≤ most) ⌝ }
     ensures { λ r. ⌜ Judges (now (texts .entry)) (now (qualifiers .entry)) how s fetched r ⌝ }
 {
     match fetched {
@@ -161,7 +162,7 @@ fn put_fetched(
     qualifiers: &[usize],
     how: How,
 ) -> State
-    requires { ⌜ ((x : Feature) → fetched ≡ Fetched.Row x → FeatureKnown (now texts) (numbers x) (now qualifiers) 0) × (60 ≤ how .width) × (how .width ≤ 132) × (s .row ≤ 16777216) ⌝ }
+    requires { ⌜ ((x : Feature) → fetched ≡ Fetched.Row x → FeatureKnown (now texts) (numbers x) (now qualifiers) 0) × (60 ≤ how .width) × (how .width ≤ 132) × (s .row ≤ most) ⌝ }
     ensures { λ r. ⌜ Puts (now (texts .entry)) (now (qualifiers .entry)) how s fetched (now (out .entry)) r (now (out .exit)) ⌝ }
 {
     match fetched {

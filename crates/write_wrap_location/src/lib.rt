@@ -11,6 +11,7 @@ ghost use Rattle.spec_format.specs.Bytes.{spaces};
 ghost use Rattle.spec_format.specs.Wrap.{commaLines};
 ghost use Rattle.base_pen.specs.Pen.{Writes};
 ghost use Rattle.write_wrap_location.specs.Commas.{Broke};
+ghost use Rattle.spec_format.specs.Record.{most};
 
 // Where a text of more than n bytes breaks.
 fn comma_break(text: &[u8], n: usize) -> usize
@@ -45,7 +46,7 @@ fn put_lines(
     indent: usize,
     width: usize,
 ) -> usize
-    requires { ⌜ (1 ≤ length (now text)) × (length (now text) ≤ 16777216) × (taken ≤ 33554432) × (indent + 2 ≤ width) × (width ≤ 132) ⌝ }
+    requires { ⌜ (1 ≤ length (now text)) × (length (now text) ≤ most) × (taken ≤ 33554432) × (indent + 2 ≤ width) × (width ≤ 132) ⌝ }
     ensures { λ r. ⌜ Writes (now (out .entry)) at (commaLines (length (now (text .entry))) width indent taken (now (text .entry))) (now (out .exit)) r ⌝ }
 {
     let mut p = at;
@@ -70,7 +71,7 @@ pub fn put_commas(
     indent: usize,
     width: usize,
 ) -> usize
-    requires { ⌜ (length (now text) ≤ 16777216) × (taken ≤ 33554432) × (indent + 2 ≤ width) × (width ≤ 132) ⌝ }
+    requires { ⌜ (length (now text) ≤ most) × (taken ≤ 33554432) × (indent + 2 ≤ width) × (width ≤ 132) ⌝ }
     ensures { λ r. ⌜ Writes (now (out .entry)) at (commaLines (length (now (text .entry))) width indent taken (now (text .entry))) (now (out .exit)) r ⌝ }
 {
     if text.len() < 1 {

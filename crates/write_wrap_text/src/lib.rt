@@ -14,6 +14,7 @@ ghost use Rattle.spec_format.specs.Wrap.{wrapped};
 ghost use Rattle.base_pen.specs.Pen.{Writes};
 ghost use Rattle.write_wrap_text.specs.Plain.{plain, plainTo, PlainRun, lastTo, LastTo, FindsLine};
 ghost use Rattle.write_wrap_text.specs.Line.{Breaks, Columns, LastSpace, stops, full, shown, escape, closed};
+ghost use Rattle.spec_format.specs.Record.{most};
 
 // Where a line ends in its text, and where the next one starts.
 pub struct Break {
@@ -58,7 +59,7 @@ fn stops(b: u8, width: usize, w: usize) -> bool
 
 // The place after the last space, 0 where there is none.
 fn last_space(b: u8, i: usize, space: usize) -> usize
-    requires { ⌜ (i < 16777216) × (space ≤ i) ⌝ }
+    requires { ⌜ (i < most) × (space ≤ i) ⌝ }
     ensures { λ r. ⌜ LastSpace b i space r ⌝ }
 {
     if b == b' ' {
@@ -69,7 +70,7 @@ fn last_space(b: u8, i: usize, space: usize) -> usize
 
 // The break of a full line before the byte b at i, which is left out if it is a space or LF.
 fn full(b: u8, i: usize, space: usize) -> Break
-    requires { ⌜ (i < 16777216) × (space ≤ i) ⌝ }
+    requires { ⌜ (i < most) × (space ≤ i) ⌝ }
     ensures { λ r. ⌜ r ≡ full b i space ⌝ }
 {
     if b == b' ' {
@@ -95,7 +96,7 @@ fn full(b: u8, i: usize, space: usize) -> Break
 
 // The first line of the text, where `taken` columns are taken, byte by byte.
 fn line_scan(text: &[u8], taken: usize, width: usize, quote: bool) -> Break
-    requires { ⌜ (length (now text) ≤ 16777216) × (taken ≤ 33554432) ⌝ }
+    requires { ⌜ (length (now text) ≤ most) × (taken ≤ 33554432) ⌝ }
     ensures { λ r. ⌜ Breaks quote width taken (now (text .entry)) r ⌝ }
 {
     let mut i = 0;
@@ -232,7 +233,7 @@ fn last_to(text: &[u8], n: usize) -> usize
 
 // The first line, where the bytes before k are plain and k is not: it ends there if that is LF.
 fn fed_break(text: &[u8], k: usize, taken: usize, width: usize, quote: bool) -> Found
-    requires { ⌜ (length (now text) ≤ 16777216) × (taken + k < width) × (k < length (now text)) × (width ≤ 33554432) × (plainTo k (now text) ≡ true) ⌝ }
+    requires { ⌜ (length (now text) ≤ most) × (taken + k < width) × (k < length (now text)) × (width ≤ 33554432) × (plainTo k (now text) ≡ true) ⌝ }
     ensures { λ r. ⌜ FindsLine quote width taken (now (text .entry)) r ⌝ }
 {
     if text[k] == b'\n' {
@@ -253,7 +254,7 @@ fn fed_break(text: &[u8], k: usize, taken: usize, width: usize, quote: bool) -> 
 
 // The first line of the text, where `taken` columns are taken. Most lines are plain up to their end and need no scan.
 fn line_break(text: &[u8], taken: usize, width: usize, quote: bool) -> Found
-    requires { ⌜ (length (now text) ≤ 16777216) × (taken ≤ 33554432) × (width ≤ 132) ⌝ }
+    requires { ⌜ (length (now text) ≤ most) × (taken ≤ 33554432) × (width ≤ 132) ⌝ }
     ensures { λ r. ⌜ FindsLine quote width taken (now (text .entry)) r ⌝ }
 {
     if width < taken {
@@ -373,7 +374,7 @@ pub fn put_wrapped(
     quote: bool,
     width: usize,
 ) -> usize
-    requires { ⌜ (length (now text) ≤ 16777216) × (taken ≤ 33554432) × (indent + 2 ≤ width) × (width ≤ 132) ⌝ }
+    requires { ⌜ (length (now text) ≤ most) × (taken ≤ 33554432) × (indent + 2 ≤ width) × (width ≤ 132) ⌝ }
     ensures { λ r. ⌜ Writes (now (out .entry)) at (wrapped quote width indent taken (now (text .entry))) (now (out .exit)) r ⌝ }
 {
     let mut p = at;
