@@ -93,12 +93,9 @@ Feature-val = LL.val Feature-is.the-type Feature-has.the-laws
 abbrev ReadAnswer-val : ReadAnswer → Val
 ReadAnswer-val = EL.val ReadAnswer-is.the-type ReadAnswer-has.the-laws
 
--- the machine values of a slice and of its pointer
+-- the machine value of a slice
 abbrev v : {X : Type 0} → RefT (List X) → Val
 v r = sliceVal (r .ptr) (length (r .now))
-
-abbrev p : {X : Type 0} → RefT (List X) → Val
-p r = vptr (r .ptr .0) (r .ptr .1)
 
 module _ {M : Type 1} (𝓤 : URA M) (H : Heap 𝓤) (A : Atoms 𝓤) (mem : Memory → SProp 𝓤) (run : Routine → Fun 𝓤) where
   -- the contracts that the proof cites
@@ -169,11 +166,9 @@ module _ {M : Type 1} (𝓤 : URA M) (H : Heap 𝓤) (A : Atoms 𝓤) (W : Given
   Had Γ = (‵ (flft κ₀ q₀) ⊛ ‵ (flft κ₁ q₁) ⊛ ‵ (flft κ₂ q₂) ⊛ ‵ (flft κ₃ q₃) ⊛ ‵ (flft κ₄ q₄) ⊛ ‵ (flft κ₅ q₅) ⊛ ‵ (flft κ₆ q₆) ⊛ ‵ ftrue) ∷ ‵
       (owns (ShrSlice (named 0) κ₀ u8 ∷ usize ∷ MutSlice (named 1) κ₁ u8 ∷ MutSlice (named 2) κ₂ usize ∷ MutSlice (named 3) κ₃ usize ∷ (Many 42) ∷ usize ∷ MutSlice (named 4) κ₄ usize ∷ MutSlice (named 5) κ₅ usize ∷ MutSlice (named 6) κ₆ u8 ∷ []) a at-entry) ∷ Γ
 
-  abbrev has-first : List (Item 𝓤) → List (Item 𝓤)
-  has-first Γ = ‵ (flft κ₀ q₀) ∷ ‵ (flft κ₁ q₁) ∷ ‵ (flft κ₂ q₂) ∷ ‵ (flft κ₃ q₃) ∷ ‵ (flft κ₄ q₄) ∷ ‵ (flft κ₅ q₅) ∷ ‵ (flft κ₆ q₆) ∷ ‵ s-own ∷ ‵ (texts-own (texts .now)) ∷ ‵ (references-own (references .now)) ∷ ‵ (comments-own (comments .now)) ∷ ‵ (features-own (features .now)) ∷ ‵ (qualifiers-own (qualifiers .now)) ∷ ‵
-      (letters-own (letters .now)) ∷ Γ
-
-  opened : {K : Type 0} {Γ : List (Item 𝓤)} {G : Goal 𝓤 H} → K → Seq K W (has-first Γ) G → Seq K W (Had Γ) G
+  opened : {K : Type 0} {Γ : List (Item 𝓤)} {G : Goal 𝓤 H} → K → Seq K W
+      (‵ (flft κ₀ q₀) ∷ ‵ (flft κ₁ q₁) ∷ ‵ (flft κ₂ q₂) ∷ ‵ (flft κ₃ q₃) ∷ ‵ (flft κ₄ q₄) ∷ ‵ (flft κ₅ q₅) ∷ ‵ (flft κ₆ q₆) ∷ ‵ s-own ∷ ‵ (texts-own (texts .now)) ∷ ‵ (references-own (references .now)) ∷ ‵ (comments-own (comments .now)) ∷ ‵ (features-own (features .now)) ∷ ‵ (qualifiers-own (qualifiers .now)) ∷ ‵ (letters-own (letters .now)) ∷ Γ) G
+      → Seq K W (Had Γ) G
   opened t then =
       splits t (‵ (flft κ₀ q₀) ∷ ‵ (flft κ₁ q₁) ∷ ‵ (flft κ₂ q₂) ∷ ‵ (flft κ₃ q₃) ∷ ‵ (flft κ₄ q₄) ∷ ‵ (flft κ₅ q₅) ∷ ‵ (flft κ₆ q₆) ∷ []) (id⊢ 𝓤 _) $
       move t (7 ∷ []) $
@@ -303,10 +298,6 @@ module _ {M : Type 1} (𝓤 : URA M) (H : Heap 𝓤) (A : Atoms 𝓤) (W : Given
     module _ (r-read : ReadAnswer) (r-read-is : Is ReadAnswer-is.the-row r-read ((ReadAnswer-val r-read) ∷ [])) (texts-read : List ℕ) (references-read : List ℕ) (comments-read : List ℕ) (array-read : List Feature) (qualifiers-read : List ℕ) (letters-read : List ℕ) (texts-read-long : length texts-read ≡ length (texts .now))
         (references-read-long : length references-read ≡ length (references .now)) (comments-read-long : length comments-read ≡ length (comments .now)) (array-read-is : Is (Many 42) (laid n array-read rows) (array-vals (LL.vals Feature-is.the-type Feature-has.the-laws) (laid n array-read rows)))
         (qualifiers-read-long : length qualifiers-read ≡ length (qualifiers .now)) (letters-read-long : length letters-read ≡ length (letters .now)) (said-read : Said-read r-read texts-read references-read comments-read array-read qualifiers-read letters-read) where
-      abbrev has-read : List (Item 𝓤) → List (Item 𝓤)
-      has-read Γ = ‵ (fat fullShare (tyArray Feature-has.mir 42) l₁₁ 0 (many-val (laid n array-read rows))) ∷ ‵ (flft κ₀ q₀) ∷ ‵ (flft κ₁ q₁) ∷ ‵ (flft κ₂ q₂) ∷ ‵ (flft κ₃ q₃) ∷ ‵ (flft κ₄ q₄) ∷ ‵ (flft κ₅ q₅) ∷ ‵ (flft κ₆ q₆) ∷ ‵ (texts-last texts-read) ∷ ‵ (references-last references-read) ∷ ‵ (comments-last comments-read) ∷ ‵
-          (features-own (features .now)) ∷ ‵ (qualifiers-last qualifiers-read) ∷ ‵ (letters-last letters-read) ∷ Γ
-
       -- the call of `put_rows`
       abbrev lfts-put-rows : Lft × Unit {0}
       lfts-put-rows = (κ₄, tt)
@@ -331,7 +322,9 @@ module _ {M : Type 1} (𝓤 : URA M) (H : Heap 𝓤) (A : Atoms 𝓤) (W : Given
 
       lends-put-rows : {K : Type 0} {Γ : List (Item 𝓤)} {G : Goal 𝓤 H} → K → Soaks G →
           (Seq K W (raw (put-rows-contract 𝓤 H A mem run .pre to-put-rows) ∷ ‵ (fat fullShare (tyArray Feature-has.mir 42) l₁₁ 0 (many-val (laid n array-read rows))) ∷ ‵ (flft κ₀ q₀) ∷ ‵ (flft κ₁ q₁) ∷ ‵ (flft κ₂ q₂) ∷ ‵ (flft κ₃ q₃) ∷ ‵ (flft κ₅ q₅) ∷ ‵ (flft κ₆ q₆) ∷ ‵ (texts-last texts-read) ∷ ‵ (references-last references-read) ∷ ‵
-          (comments-last comments-read) ∷ ‵ (qualifiers-last qualifiers-read) ∷ ‵ (letters-last letters-read) ∷ Γ) G) → Seq K W (has-read Γ) G
+          (comments-last comments-read) ∷ ‵ (qualifiers-last qualifiers-read) ∷ ‵ (letters-last letters-read) ∷ Γ) G) → Seq K W
+          (‵ (fat fullShare (tyArray Feature-has.mir 42) l₁₁ 0 (many-val (laid n array-read rows))) ∷ ‵ (flft κ₀ q₀) ∷ ‵ (flft κ₁ q₁) ∷ ‵ (flft κ₂ q₂) ∷ ‵ (flft κ₃ q₃) ∷ ‵ (flft κ₄ q₄) ∷ ‵ (flft κ₅ q₅) ∷ ‵ (flft κ₆ q₆) ∷ ‵ (texts-last texts-read) ∷ ‵ (references-last references-read) ∷ ‵ (comments-last comments-read) ∷ ‵
+          (features-own (features .now)) ∷ ‵ (qualifiers-last qualifiers-read) ∷ ‵ (letters-last letters-read) ∷ Γ) G
       lends-put-rows t z next =
           move t (5 ∷ 11 ∷ []) $
           group t 2 $
@@ -368,22 +361,17 @@ module _ {M : Type 1} (𝓤 : URA M) (H : Heap 𝓤) (A : Atoms 𝓤) (W : Given
           next r-put-rows r-put-rows-is (ws .1 .1 .0) features-long said-put-rows)))))
 
       module _ (r-put-rows : Unit {0}) (r-put-rows-is : Is unit r-put-rows (vunit ∷ [])) (features-put-rows : List ℕ) (features-put-rows-long : length features-put-rows ≡ length (features .now)) (said-put-rows : Said-put-rows r-put-rows features-put-rows) where
-        abbrev has-put-rows : List (Item 𝓤) → List (Item 𝓤)
-        has-put-rows Γ = ‵ (fat fullShare (tyArray Feature-has.mir 42) l₁₁ 0 (many-val (laid n array-read rows))) ∷ ‵ (flft κ₀ q₀) ∷ ‵ (flft κ₁ q₁) ∷ ‵ (flft κ₂ q₂) ∷ ‵ (flft κ₃ q₃) ∷ ‵ (flft κ₄ q₄) ∷ ‵ (flft κ₅ q₅) ∷ ‵ (flft κ₆ q₆) ∷ ‵ (texts-last texts-read) ∷ ‵ (references-last references-read) ∷ ‵ (comments-last comments-read) ∷ ‵
-            (features-last features-put-rows) ∷ ‵ (qualifiers-last qualifiers-read) ∷ ‵ (letters-last letters-read) ∷ Γ
-
-        abbrev has-at-last : List (Item 𝓤) → List (Item 𝓤)
-        has-at-last Γ = ‵ (flft κ₀ q₀) ∷ ‵ (flft κ₁ q₁) ∷ ‵ (flft κ₂ q₂) ∷ ‵ (flft κ₃ q₃) ∷ ‵ (flft κ₄ q₄) ∷ ‵ (flft κ₅ q₅) ∷ ‵ (flft κ₆ q₆) ∷ ‵ (texts-last texts-read) ∷ ‵ (references-last references-read) ∷ ‵ (comments-last comments-read) ∷ ‵ (features-last features-put-rows) ∷ ‵ (qualifiers-last qualifiers-read) ∷ ‵ (letters-last letters-read) ∷
-            Γ
-
         -- the law, and the end
         ended : Through (s .now) at′ (6 * n) (roomsIn (texts .now) (references .now) (comments .now) (features .now) (qualifiers .now) (letters .now)) (roomsIn (texts-read) (references-read) (comments-read) (features-put-rows) (qualifiers-read) (letters-read)) r-read
         ended = through (s .now) at′ n rows array-read (roomsIn (texts .now) (references .now) (comments .now) (features .now) (qualifiers .now) (letters .now)) (roomsIn texts-read references-read comments-read features-put-rows qualifiers-read letters-read) r-read (rows-is .1 .0 .1) (required .0) (required .1) (required .2)
             (array-read-is .1 .0 .1) said-read said-put-rows
 
-        exits : ent 𝓤 (⋆ 𝓤 H A (has-at-last [])) (Post (ReadAnswer-val r-read))
+        abbrev at-last : List (Item 𝓤)
+        at-last = ‵ (flft κ₀ q₀) ∷ ‵ (flft κ₁ q₁) ∷ ‵ (flft κ₂ q₂) ∷ ‵ (flft κ₃ q₃) ∷ ‵ (flft κ₄ q₄) ∷ ‵ (flft κ₅ q₅) ∷ ‵ (flft κ₆ q₆) ∷ ‵ (texts-last texts-read) ∷ ‵ (references-last references-read) ∷ ‵ (comments-last comments-read) ∷ ‵ (features-last features-put-rows) ∷ ‵ (qualifiers-last qualifiers-read) ∷ ‵ (letters-last letters-read) ∷ []
+
+        exits : ent 𝓤 (⋆ 𝓤 H A at-last) (Post (ReadAnswer-val r-read))
         exits =
-            qed W (has-at-last []) ∵
+            qed W at-last ∵
             suffices ! _ (ends-at 𝓤 H A f.ended stayed (f.clauses 𝓤 H A mem run) W bound (ReadAnswer-val r-read) r-read (tt, (tt, (texts-read, (references-read, (comments-read, (tt, (tt, (features-put-rows, (qualifiers-read, (letters-read, tt))))))))))
             (tt, (tt, (texts-read-long, (references-read-long, (comments-read-long, (tt, (tt, (features-put-rows-long, (qualifiers-read-long, (letters-read-long, tt))))))))))) $ says ! ended $
             owned ! ReadAnswer-is.the-row (Is ReadAnswer-is.the-row) (EL.makes ReadAnswer-is.the-type ReadAnswer-has.the-plain 𝓤 H A) r-read ((ReadAnswer-val r-read) ∷ []) r-read-is $
@@ -392,45 +380,57 @@ module _ {M : Type 1} (𝓤 : URA M) (H : Heap 𝓤) (A : Atoms 𝓤) (W : Given
             group ! 8 $ frame ! $ group ! 11 $
             done !
 
-        abbrev part-4-holds : List Cell
-        part-4-holds = vacant ∷ holds (v s) ∷ holds (vint w64 at′) ∷ holds (v texts) ∷ holds (v references) ∷ holds (v comments) ∷ holds (many-val rows) ∷ holds (vint w64 n) ∷ holds (v features) ∷ holds (v qualifiers) ∷ holds (v letters) ∷ away ∷ holds (ReadAnswer-val r-read) ∷ holds (p texts) ∷ holds (v texts) ∷ holds (p references) ∷ holds
-            (v references) ∷ holds (p comments) ∷ holds (v comments) ∷ holds (vptr l₁₁ 0) ∷ holds (sliceVal (l₁₁, 0) n) ∷ holds (p qualifiers) ∷ holds (v qualifiers) ∷ holds (p letters) ∷ holds (v letters) ∷ holds vunit ∷ holds (many-val (laid n array-read rows)) ∷ holds (p features) ∷ holds (v features) ∷ []
+        abbrev part-7-holds : List Cell
+        part-7-holds = vacant ∷ holds (v s) ∷ holds (vint w64 at′) ∷ holds (v texts) ∷ holds (v references) ∷ holds (v comments) ∷ holds (many-val rows) ∷ holds (vint w64 n) ∷ holds (v features) ∷ holds (v qualifiers) ∷ holds (v letters) ∷ away ∷ holds (ReadAnswer-val r-read) ∷ holds (vptr (texts .ptr .0) (texts .ptr .1)) ∷ holds (v texts) ∷ holds
+            (vptr (references .ptr .0) (references .ptr .1)) ∷ holds (v references) ∷ holds (vptr (comments .ptr .0) (comments .ptr .1)) ∷ holds (v comments) ∷ holds (vptr l₁₁ 0) ∷ holds (sliceVal (l₁₁, 0) n) ∷ holds (vptr (qualifiers .ptr .0) (qualifiers .ptr .1)) ∷ holds (v qualifiers) ∷ holds (vptr (letters .ptr .0) (letters .ptr .1)) ∷ holds
+            (v letters) ∷ holds vunit ∷ holds (many-val (laid n array-read rows)) ∷ holds (vptr (features .ptr .0) (features .ptr .1)) ∷ holds (v features) ∷ []
 
-        part-4 : Sq W (has-put-rows (standing part-4-holds)) (runs C Λ E body.t-19 (atRet E Post))
-        part-4 =
+        part-7 : Sq W (‵ (fat fullShare (tyArray Feature-has.mir 42) l₁₁ 0 (many-val (laid n array-read rows))) ∷ ‵ (flft κ₀ q₀) ∷ ‵ (flft κ₁ q₁) ∷ ‵ (flft κ₂ q₂) ∷ ‵ (flft κ₃ q₃) ∷ ‵ (flft κ₄ q₄) ∷ ‵ (flft κ₅ q₅) ∷ ‵ (flft κ₆ q₆) ∷ ‵ (texts-last texts-read) ∷ ‵ (references-last references-read) ∷ ‵ (comments-last comments-read) ∷ ‵
+            (features-last features-put-rows) ∷ ‵ (qualifiers-last qualifiers-read) ∷ ‵ (letters-last letters-read) ∷ standing part-7-holds) (runs C Λ E body.t-19 (atRet E Post))
+        part-7 =
             assigns ! (of-opd ! (load ! (from ! (stop !)) (look ! 25 refl))) (from ! (stop !)) (init ! 14 refl (EL.lawful ReadAnswer-is.the-type ReadAnswer-has.the-laws 𝓤 H A W tt .typed r-read ((ReadAnswer-val r-read) ∷ []) r-read-is .0)) $
             move ! (1 ∷ 2 ∷ 3 ∷ 4 ∷ 5 ∷ 6 ∷ 7 ∷ 8 ∷ 9 ∷ 10 ∷ 11 ∷ 12 ∷ 13 ∷ 14 ∷ 15 ∷ 16 ∷ 17 ∷ 18 ∷ 19 ∷ 20 ∷ 21 ∷ 22 ∷ 23 ∷ 24 ∷ 0 ∷ []) $
-            returns ! (look ! 13 refl) $ frees-all ! (has-at-last [])
-            (holds (ReadAnswer-val r-read) ∷ holds (v s) ∷ holds (vint w64 at′) ∷ holds (v texts) ∷ holds (v references) ∷ holds (v comments) ∷ holds (many-val rows) ∷ holds (vint w64 n) ∷ holds (v features) ∷ holds (v qualifiers) ∷ holds (v letters) ∷ holds (many-val (laid n array-read rows)) ∷ holds (ReadAnswer-val r-read) ∷ holds (p texts) ∷
-            holds (v texts) ∷ holds (p references) ∷ holds (v references) ∷ holds (p comments) ∷ holds (v comments) ∷ holds (vptr l₁₁ 0) ∷ holds (sliceVal (l₁₁, 0) n) ∷ holds (p qualifiers) ∷ holds (v qualifiers) ∷ holds (p letters) ∷ holds (v letters) ∷ holds vunit ∷ holds (many-val (laid n array-read rows)) ∷ holds (p features) ∷ holds
-            (v features) ∷ []) tt exits
+            returns ! (look ! 13 refl) $ frees-all ! at-last
+            (holds (ReadAnswer-val r-read) ∷ holds (v s) ∷ holds (vint w64 at′) ∷ holds (v texts) ∷ holds (v references) ∷ holds (v comments) ∷ holds (many-val rows) ∷ holds (vint w64 n) ∷ holds (v features) ∷ holds (v qualifiers) ∷ holds (v letters) ∷ holds (many-val (laid n array-read rows)) ∷ holds (ReadAnswer-val r-read) ∷ holds
+            (vptr (texts .ptr .0) (texts .ptr .1)) ∷ holds (v texts) ∷ holds (vptr (references .ptr .0) (references .ptr .1)) ∷ holds (v references) ∷ holds (vptr (comments .ptr .0) (comments .ptr .1)) ∷ holds (v comments) ∷ holds (vptr l₁₁ 0) ∷ holds (sliceVal (l₁₁, 0) n) ∷ holds (vptr (qualifiers .ptr .0) (qualifiers .ptr .1)) ∷ holds
+            (v qualifiers) ∷ holds (vptr (letters .ptr .0) (letters .ptr .1)) ∷ holds (v letters) ∷ holds vunit ∷ holds (many-val (laid n array-read rows)) ∷ holds (vptr (features .ptr .0) (features .ptr .1)) ∷ holds (v features) ∷ []) tt exits
 
-      abbrev part-3-holds : List Cell
-      part-3-holds = vacant ∷ holds (v s) ∷ holds (vint w64 at′) ∷ holds (v texts) ∷ holds (v references) ∷ holds (v comments) ∷ holds (many-val rows) ∷ holds (vint w64 n) ∷ holds (v features) ∷ holds (v qualifiers) ∷ holds (v letters) ∷ away ∷ holds (ReadAnswer-val r-read) ∷ holds (p texts) ∷ holds (v texts) ∷ holds (p references) ∷ holds
-          (v references) ∷ holds (p comments) ∷ holds (v comments) ∷ holds (vptr l₁₁ 0) ∷ holds (sliceVal (l₁₁, 0) n) ∷ holds (p qualifiers) ∷ holds (v qualifiers) ∷ holds (p letters) ∷ holds (v letters) ∷ vacant ∷ vacant ∷ vacant ∷ vacant ∷ []
+      abbrev part-6-holds : List Cell
+      part-6-holds = vacant ∷ holds (v s) ∷ holds (vint w64 at′) ∷ holds (v texts) ∷ holds (v references) ∷ holds (v comments) ∷ holds (many-val rows) ∷ holds (vint w64 n) ∷ holds (v features) ∷ holds (v qualifiers) ∷ holds (v letters) ∷ away ∷ holds (ReadAnswer-val r-read) ∷ holds (vptr (texts .ptr .0) (texts .ptr .1)) ∷ holds (v texts) ∷ holds
+          (vptr (references .ptr .0) (references .ptr .1)) ∷ holds (v references) ∷ holds (vptr (comments .ptr .0) (comments .ptr .1)) ∷ holds (v comments) ∷ holds (vptr l₁₁ 0) ∷ holds (sliceVal (l₁₁, 0) n) ∷ holds (vptr (qualifiers .ptr .0) (qualifiers .ptr .1)) ∷ holds (v qualifiers) ∷ holds (vptr (letters .ptr .0) (letters .ptr .1)) ∷ holds
+          (v letters) ∷ vacant ∷ holds (many-val (laid n array-read rows)) ∷ holds (vptr (features .ptr .0) (features .ptr .1)) ∷ holds (v features) ∷ []
 
-      part-3 : Sq W (has-read (standing part-3-holds)) (runs C Λ E body.t-15 (atRet E Post))
-      part-3 =
-          assigns ! (of-opd ! (load ! (from ! (stop !)) (look ! 0 refl))) (from ! (stop !))
-          (init ! 39 refl (array-lawful 𝓤 H A W Feature-is.the-row (LL.lawful Feature-is.the-type Feature-has.the-laws 𝓤 H A W) 42 .typed (laid n array-read rows) (array-vals (LL.vals Feature-is.the-type Feature-has.the-laws) (laid n array-read rows)) array-read-is .0)) $
-          assigns ! (addr ! (from ! (fld ! refl (hop ! (look-in ! 22 (sub ! 0 refl (whole !))) (stop !))))) (from ! (stop !)) (init ! 40 refl (tt, tt)) $
-          assigns ! (agg ! (and-then ! (load ! (from ! (stop !)) (look ! 40 refl)) (and-then ! (load ! (from ! (fld ! refl (stop !))) (look-in ! 22 (sub ! 1 refl (whole !)))) (no-more !)))) (from ! (stop !)) (init ! 41 refl (tt, (tt, (record { fits = features-room .0 }, tt)))) $
+      part-6 : Sq W (‵ (fat fullShare (tyArray Feature-has.mir 42) l₁₁ 0 (many-val (laid n array-read rows))) ∷ ‵ (flft κ₀ q₀) ∷ ‵ (flft κ₁ q₁) ∷ ‵ (flft κ₂ q₂) ∷ ‵ (flft κ₃ q₃) ∷ ‵ (flft κ₄ q₄) ∷ ‵ (flft κ₅ q₅) ∷ ‵ (flft κ₆ q₆) ∷ ‵ (texts-last texts-read) ∷ ‵ (references-last references-read) ∷ ‵ (comments-last comments-read) ∷ ‵
+          (features-own (features .now)) ∷ ‵ (qualifiers-last qualifiers-read) ∷ ‵ (letters-last letters-read) ∷ standing part-6-holds) (runs C Λ E body.t-18 (atRet E Post))
+      part-6 =
           lends-put-rows ! tt (
           calls-at ! fm (put-rows-contract 𝓤 H A mem run) known-put-rows to-put-rows (and-then ! (load ! (from ! (stop !)) (look ! 38 refl)) (and-then ! (load ! (from ! (stop !)) (look ! 20 refl)) (and-then ! (load ! (from ! (stop !)) (look ! 40 refl)) (no-more !))))
           (back-put-rows ! (λ r-put-rows r-put-rows-is features-put-rows features-put-rows-long said-put-rows.
           land ! (from ! (stop !)) (init ! 38 refl (nothing-lawful 𝓤 H A W .typed r-put-rows (vunit ∷ []) r-put-rows-is .0)) $
-          part-4 r-put-rows r-put-rows-is features-put-rows features-put-rows-long said-put-rows)))
+          part-7 r-put-rows r-put-rows-is features-put-rows features-put-rows-long said-put-rows)))
 
-    abbrev part-2-holds : List Cell
-    part-2-holds = vacant ∷ holds (v s) ∷ holds (vint w64 at′) ∷ holds (v texts) ∷ holds (v references) ∷ holds (v comments) ∷ holds (many-val rows) ∷ holds (vint w64 n) ∷ holds (v features) ∷ holds (v qualifiers) ∷ holds (v letters) ∷ holds (many-val rows) ∷ vacant ∷ holds (p texts) ∷ holds (v texts) ∷ holds (p references) ∷ holds (v references) ∷
-        holds (p comments) ∷ holds (v comments) ∷ holds (vptr l₁₁ 0) ∷ vacant ∷ vacant ∷ vacant ∷ vacant ∷ vacant ∷ vacant ∷ vacant ∷ vacant ∷ vacant ∷ []
+      abbrev part-5-holds : List Cell
+      part-5-holds = vacant ∷ holds (v s) ∷ holds (vint w64 at′) ∷ holds (v texts) ∷ holds (v references) ∷ holds (v comments) ∷ holds (many-val rows) ∷ holds (vint w64 n) ∷ holds (v features) ∷ holds (v qualifiers) ∷ holds (v letters) ∷ away ∷ holds (ReadAnswer-val r-read) ∷ holds (vptr (texts .ptr .0) (texts .ptr .1)) ∷ holds (v texts) ∷ holds
+          (vptr (references .ptr .0) (references .ptr .1)) ∷ holds (v references) ∷ holds (vptr (comments .ptr .0) (comments .ptr .1)) ∷ holds (v comments) ∷ holds (vptr l₁₁ 0) ∷ holds (sliceVal (l₁₁, 0) n) ∷ holds (vptr (qualifiers .ptr .0) (qualifiers .ptr .1)) ∷ holds (v qualifiers) ∷ holds (vptr (letters .ptr .0) (letters .ptr .1)) ∷ holds
+          (v letters) ∷ vacant ∷ vacant ∷ vacant ∷ vacant ∷ []
 
-    part-2 : Sq W (has-first (standing part-2-holds)) (runs C Λ E body.t-9 (atRet E Post))
-    part-2 =
-        assigns ! (agg ! (and-then ! (load ! (from ! (stop !)) (look ! 33 refl)) (and-then ! (load ! (from ! (stop !)) (look ! 21 refl)) (no-more !)))) (from ! (stop !)) (init ! 34 refl (tt, (tt, (record { fits = n-is .1 }, tt)))) $
-        assigns ! (addr ! (from ! (fld ! refl (hop ! (look-in ! 23 (sub ! 0 refl (whole !))) (stop !))))) (from ! (stop !)) (init ! 35 refl (tt, tt)) $
-        assigns ! (agg ! (and-then ! (load ! (from ! (stop !)) (look ! 35 refl)) (and-then ! (load ! (from ! (fld ! refl (stop !))) (look-in ! 23 (sub ! 1 refl (whole !)))) (no-more !)))) (from ! (stop !)) (init ! 36 refl (tt, (tt, (record { fits = qualifiers-room .0 }, tt)))) $
-        assigns ! (addr ! (from ! (fld ! refl (hop ! (look-in ! 24 (sub ! 0 refl (whole !))) (stop !))))) (from ! (stop !)) (init ! 37 refl (tt, tt)) $
+      part-5 : Sq W (‵ (fat fullShare (tyArray Feature-has.mir 42) l₁₁ 0 (many-val (laid n array-read rows))) ∷ ‵ (flft κ₀ q₀) ∷ ‵ (flft κ₁ q₁) ∷ ‵ (flft κ₂ q₂) ∷ ‵ (flft κ₃ q₃) ∷ ‵ (flft κ₄ q₄) ∷ ‵ (flft κ₅ q₅) ∷ ‵ (flft κ₆ q₆) ∷ ‵ (texts-last texts-read) ∷ ‵ (references-last references-read) ∷ ‵ (comments-last comments-read) ∷ ‵
+          (features-own (features .now)) ∷ ‵ (qualifiers-last qualifiers-read) ∷ ‵ (letters-last letters-read) ∷ standing part-5-holds) (runs C Λ E body.t-15 (atRet E Post))
+      part-5 =
+          assigns ! (of-opd ! (load ! (from ! (stop !)) (look ! 0 refl))) (from ! (stop !))
+          (init ! 39 refl (array-lawful 𝓤 H A W Feature-is.the-row (LL.lawful Feature-is.the-type Feature-has.the-laws 𝓤 H A W) 42 .typed (laid n array-read rows) (array-vals (LL.vals Feature-is.the-type Feature-has.the-laws) (laid n array-read rows)) array-read-is .0)) $
+          assigns ! (addr ! (from ! (fld ! refl (hop ! (look-in ! 22 (sub ! 0 refl (whole !))) (stop !))))) (from ! (stop !)) (init ! 40 refl (tt, tt)) $
+          assigns ! (agg ! (and-then ! (load ! (from ! (stop !)) (look ! 40 refl)) (and-then ! (load ! (from ! (fld ! refl (stop !))) (look-in ! 22 (sub ! 1 refl (whole !)))) (no-more !)))) (from ! (stop !)) (init ! 41 refl (tt, (tt, (record { fits = features-room .0 }, tt)))) $
+          part-6
+
+    abbrev part-4-holds : List Cell
+    part-4-holds = vacant ∷ holds (v s) ∷ holds (vint w64 at′) ∷ holds (v texts) ∷ holds (v references) ∷ holds (v comments) ∷ holds (many-val rows) ∷ holds (vint w64 n) ∷ holds (v features) ∷ holds (v qualifiers) ∷ holds (v letters) ∷ holds (many-val rows) ∷ vacant ∷ holds (vptr (texts .ptr .0) (texts .ptr .1)) ∷ holds (v texts) ∷ holds
+        (vptr (references .ptr .0) (references .ptr .1)) ∷ holds (v references) ∷ holds (vptr (comments .ptr .0) (comments .ptr .1)) ∷ holds (v comments) ∷ holds (vptr l₁₁ 0) ∷ holds (sliceVal (l₁₁, 0) n) ∷ holds (vptr (qualifiers .ptr .0) (qualifiers .ptr .1)) ∷ holds (v qualifiers) ∷ holds (vptr (letters .ptr .0) (letters .ptr .1)) ∷ vacant ∷
+        vacant ∷ vacant ∷ vacant ∷ vacant ∷ []
+
+    part-4 : Sq W (‵ (flft κ₀ q₀) ∷ ‵ (flft κ₁ q₁) ∷ ‵ (flft κ₂ q₂) ∷ ‵ (flft κ₃ q₃) ∷ ‵ (flft κ₄ q₄) ∷ ‵ (flft κ₅ q₅) ∷ ‵ (flft κ₆ q₆) ∷ ‵ s-own ∷ ‵ (texts-own (texts .now)) ∷ ‵ (references-own (references .now)) ∷ ‵ (comments-own (comments .now)) ∷ ‵ (features-own (features .now)) ∷ ‵ (qualifiers-own (qualifiers .now)) ∷ ‵
+        (letters-own (letters .now)) ∷ standing part-4-holds) (runs C Λ E body.t-13 (atRet E Post))
+    part-4 =
         assigns ! (agg ! (and-then ! (load ! (from ! (stop !)) (look ! 37 refl)) (and-then ! (load ! (from ! (fld ! refl (stop !))) (look-in ! 24 (sub ! 1 refl (whole !)))) (no-more !)))) (from ! (stop !)) (init ! 38 refl (tt, (tt, (record { fits = letters-room .0 }, tt)))) $
         move ! (25 ∷ 0 ∷ 1 ∷ 2 ∷ 3 ∷ 4 ∷ 5 ∷ 6 ∷ 7 ∷ 8 ∷ 9 ∷ 10 ∷ 11 ∷ 12 ∷ 13 ∷ []) $
         lends-read ! tt (λ full-array k-array.
@@ -441,22 +441,45 @@ module _ {M : Type 1} (𝓤 : URA M) (H : Heap 𝓤) (A : Atoms 𝓤) (W : Given
         (and-then ! (load ! (from ! (stop !)) (look ! 20 refl)) (and-then ! (load ! (from ! (stop !)) (look ! 22 refl)) (and-then ! (load ! (from ! (stop !)) (look ! 24 refl)) (and-then ! (load ! (from ! (stop !)) (look ! 26 refl)) (and-then ! (load ! (from ! (stop !)) (look ! 28 refl)) (no-more !)))))))))
         (back-read ! full-array k-array (λ r-read r-read-is texts-read references-read comments-read array-read qualifiers-read letters-read texts-read-long references-read-long comments-read-long array-read-is qualifiers-read-long letters-read-long said-read.
         land ! (from ! (stop !)) (init ! 25 refl (EL.lawful ReadAnswer-is.the-type ReadAnswer-has.the-laws 𝓤 H A W tt .typed r-read ((ReadAnswer-val r-read) ∷ []) r-read-is .0)) $
-        part-3 r-read r-read-is texts-read references-read comments-read array-read qualifiers-read letters-read texts-read-long references-read-long comments-read-long array-read-is qualifiers-read-long letters-read-long said-read)))
+        part-5 r-read r-read-is texts-read references-read comments-read array-read qualifiers-read letters-read texts-read-long references-read-long comments-read-long array-read-is qualifiers-read-long letters-read-long said-read)))
+
+    abbrev part-3-holds : List Cell
+    part-3-holds = vacant ∷ holds (v s) ∷ holds (vint w64 at′) ∷ holds (v texts) ∷ holds (v references) ∷ holds (v comments) ∷ holds (many-val rows) ∷ holds (vint w64 n) ∷ holds (v features) ∷ holds (v qualifiers) ∷ holds (v letters) ∷ holds (many-val rows) ∷ vacant ∷ holds (vptr (texts .ptr .0) (texts .ptr .1)) ∷ holds (v texts) ∷ holds
+        (vptr (references .ptr .0) (references .ptr .1)) ∷ holds (v references) ∷ holds (vptr (comments .ptr .0) (comments .ptr .1)) ∷ holds (v comments) ∷ holds (vptr l₁₁ 0) ∷ vacant ∷ vacant ∷ vacant ∷ vacant ∷ vacant ∷ vacant ∷ vacant ∷ vacant ∷ vacant ∷ []
+
+    part-3 : Sq W (‵ (flft κ₀ q₀) ∷ ‵ (flft κ₁ q₁) ∷ ‵ (flft κ₂ q₂) ∷ ‵ (flft κ₃ q₃) ∷ ‵ (flft κ₄ q₄) ∷ ‵ (flft κ₅ q₅) ∷ ‵ (flft κ₆ q₆) ∷ ‵ s-own ∷ ‵ (texts-own (texts .now)) ∷ ‵ (references-own (references .now)) ∷ ‵ (comments-own (comments .now)) ∷ ‵ (features-own (features .now)) ∷ ‵ (qualifiers-own (qualifiers .now)) ∷ ‵
+        (letters-own (letters .now)) ∷ standing part-3-holds) (runs C Λ E body.t-9 (atRet E Post))
+    part-3 =
+        assigns ! (agg ! (and-then ! (load ! (from ! (stop !)) (look ! 33 refl)) (and-then ! (load ! (from ! (stop !)) (look ! 21 refl)) (no-more !)))) (from ! (stop !)) (init ! 34 refl (tt, (tt, (record { fits = n-is .1 }, tt)))) $
+        assigns ! (addr ! (from ! (fld ! refl (hop ! (look-in ! 23 (sub ! 0 refl (whole !))) (stop !))))) (from ! (stop !)) (init ! 35 refl (tt, tt)) $
+        assigns ! (agg ! (and-then ! (load ! (from ! (stop !)) (look ! 35 refl)) (and-then ! (load ! (from ! (fld ! refl (stop !))) (look-in ! 23 (sub ! 1 refl (whole !)))) (no-more !)))) (from ! (stop !)) (init ! 36 refl (tt, (tt, (record { fits = qualifiers-room .0 }, tt)))) $
+        assigns ! (addr ! (from ! (fld ! refl (hop ! (look-in ! 24 (sub ! 0 refl (whole !))) (stop !))))) (from ! (stop !)) (init ! 37 refl (tt, tt)) $
+        part-4
+
+    abbrev part-2-holds : List Cell
+    part-2-holds = vacant ∷ holds (v s) ∷ holds (vint w64 at′) ∷ holds (v texts) ∷ holds (v references) ∷ holds (v comments) ∷ holds (many-val rows) ∷ holds (vint w64 n) ∷ holds (v features) ∷ holds (v qualifiers) ∷ holds (v letters) ∷ holds (many-val rows) ∷ vacant ∷ holds (vptr (texts .ptr .0) (texts .ptr .1)) ∷ holds (v texts) ∷ holds
+        (vptr (references .ptr .0) (references .ptr .1)) ∷ vacant ∷ vacant ∷ vacant ∷ vacant ∷ vacant ∷ vacant ∷ vacant ∷ vacant ∷ vacant ∷ vacant ∷ vacant ∷ vacant ∷ vacant ∷ []
+
+    part-2 : Sq W (‵ (flft κ₀ q₀) ∷ ‵ (flft κ₁ q₁) ∷ ‵ (flft κ₂ q₂) ∷ ‵ (flft κ₃ q₃) ∷ ‵ (flft κ₄ q₄) ∷ ‵ (flft κ₅ q₅) ∷ ‵ (flft κ₆ q₆) ∷ ‵ s-own ∷ ‵ (texts-own (texts .now)) ∷ ‵ (references-own (references .now)) ∷ ‵ (comments-own (comments .now)) ∷ ‵ (features-own (features .now)) ∷ ‵ (qualifiers-own (qualifiers .now)) ∷ ‵
+        (letters-own (letters .now)) ∷ standing part-2-holds) (runs C Λ E body.t-5 (atRet E Post))
+    part-2 =
+        assigns ! (agg ! (and-then ! (load ! (from ! (stop !)) (look ! 29 refl)) (and-then ! (load ! (from ! (fld ! refl (stop !))) (look-in ! 18 (sub ! 1 refl (whole !)))) (no-more !)))) (from ! (stop !)) (init ! 30 refl (tt, (tt, (record { fits = references-room .0 }, tt)))) $
+        assigns ! (addr ! (from ! (fld ! refl (hop ! (look-in ! 19 (sub ! 0 refl (whole !))) (stop !))))) (from ! (stop !)) (init ! 31 refl (tt, tt)) $
+        assigns ! (agg ! (and-then ! (load ! (from ! (stop !)) (look ! 31 refl)) (and-then ! (load ! (from ! (fld ! refl (stop !))) (look-in ! 19 (sub ! 1 refl (whole !)))) (no-more !)))) (from ! (stop !)) (init ! 32 refl (tt, (tt, (record { fits = comments-room .0 }, tt)))) $
+        assigns ! (addr ! (from ! (stop !))) (from ! (stop !)) (init ! 33 refl (tt, tt)) $
+        part-3
 
     abbrev part-1-holds : List Cell
     part-1-holds = vacant ∷ holds (v s) ∷ holds (vint w64 at′) ∷ holds (v texts) ∷ holds (v references) ∷ holds (v comments) ∷ holds (many-val rows) ∷ holds (vint w64 n) ∷ holds (v features) ∷ holds (v qualifiers) ∷ holds (v letters) ∷ vacant ∷ vacant ∷ vacant ∷ vacant ∷ vacant ∷ vacant ∷ vacant ∷ vacant ∷ vacant ∷ vacant ∷ vacant ∷ vacant ∷ vacant
         ∷ vacant ∷ vacant ∷ vacant ∷ vacant ∷ vacant ∷ []
 
-    part-1 : Sq W (has-first (standing part-1-holds)) (runs C Λ E body.t-1 (atRet E Post))
+    part-1 : Sq W (‵ (flft κ₀ q₀) ∷ ‵ (flft κ₁ q₁) ∷ ‵ (flft κ₂ q₂) ∷ ‵ (flft κ₃ q₃) ∷ ‵ (flft κ₄ q₄) ∷ ‵ (flft κ₅ q₅) ∷ ‵ (flft κ₆ q₆) ∷ ‵ s-own ∷ ‵ (texts-own (texts .now)) ∷ ‵ (references-own (references .now)) ∷ ‵ (comments-own (comments .now)) ∷ ‵ (features-own (features .now)) ∷ ‵ (qualifiers-own (qualifiers .now)) ∷ ‵
+        (letters-own (letters .now)) ∷ standing part-1-holds) (runs C Λ E body.t-1 (atRet E Post))
     part-1 =
         assigns ! (of-opd ! (load ! (from ! (stop !)) (look ! 20 refl))) (from ! (stop !)) (init ! 25 refl (array-lawful 𝓤 H A W Feature-is.the-row (LL.lawful Feature-is.the-type Feature-has.the-laws 𝓤 H A W) 42 .typed rows (array-vals (LL.vals Feature-is.the-type Feature-has.the-laws) rows) rows-is .0)) $
         assigns ! (addr ! (from ! (fld ! refl (hop ! (look-in ! 17 (sub ! 0 refl (whole !))) (stop !))))) (from ! (stop !)) (init ! 27 refl (tt, tt)) $
         assigns ! (agg ! (and-then ! (load ! (from ! (stop !)) (look ! 27 refl)) (and-then ! (load ! (from ! (fld ! refl (stop !))) (look-in ! 17 (sub ! 1 refl (whole !)))) (no-more !)))) (from ! (stop !)) (init ! 28 refl (tt, (tt, (record { fits = texts-room .0 }, tt)))) $
         assigns ! (addr ! (from ! (fld ! refl (hop ! (look-in ! 18 (sub ! 0 refl (whole !))) (stop !))))) (from ! (stop !)) (init ! 29 refl (tt, tt)) $
-        assigns ! (agg ! (and-then ! (load ! (from ! (stop !)) (look ! 29 refl)) (and-then ! (load ! (from ! (fld ! refl (stop !))) (look-in ! 18 (sub ! 1 refl (whole !)))) (no-more !)))) (from ! (stop !)) (init ! 30 refl (tt, (tt, (record { fits = references-room .0 }, tt)))) $
-        assigns ! (addr ! (from ! (fld ! refl (hop ! (look-in ! 19 (sub ! 0 refl (whole !))) (stop !))))) (from ! (stop !)) (init ! 31 refl (tt, tt)) $
-        assigns ! (agg ! (and-then ! (load ! (from ! (stop !)) (look ! 31 refl)) (and-then ! (load ! (from ! (fld ! refl (stop !))) (look-in ! 19 (sub ! 1 refl (whole !)))) (no-more !)))) (from ! (stop !)) (init ! 32 refl (tt, (tt, (record { fits = comments-room .0 }, tt)))) $
-        assigns ! (addr ! (from ! (stop !))) (from ! (stop !)) (init ! 33 refl (tt, tt)) $
         part-2
 
     begins : Sq W (locals 𝓤 H A E (vacant ∷ vacant ∷ vacant ∷ vacant ∷ vacant ∷ vacant ∷ vacant ∷ vacant ∷ vacant ∷ vacant ∷ vacant ∷ vacant ∷ vacant ∷ vacant ∷ vacant ∷ vacant ∷ vacant ∷ vacant ∷ vacant ∷ vacant ∷ vacant ∷ vacant ∷ vacant ∷ vacant ∷ vacant ∷ vacant ∷ vacant ∷ vacant ∷ vacant ∷ []) (raw (Dies 𝓤 H A E) ∷ Had []))

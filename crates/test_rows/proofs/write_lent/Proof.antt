@@ -102,12 +102,9 @@ How-val = LL.val How-is.the-type How-has.the-laws
 abbrev WriteAnswer-val : WriteAnswer → Val
 WriteAnswer-val = EL.val WriteAnswer-is.the-type WriteAnswer-has.the-laws
 
--- the machine values of a slice and of its pointer
+-- the machine value of a slice
 abbrev v : {X : Type 0} → RefT (List X) → Val
 v r = sliceVal (r .ptr) (length (r .now))
-
-abbrev p : {X : Type 0} → RefT (List X) → Val
-p r = vptr (r .ptr .0) (r .ptr .1)
 
 module _ {M : Type 1} (𝓤 : URA M) (H : Heap 𝓤) (A : Atoms 𝓤) (mem : Memory → SProp 𝓤) (run : Routine → Fun 𝓤) where
   -- the contracts that the proof cites
@@ -157,10 +154,7 @@ module _ {M : Type 1} (𝓤 : URA M) (H : Heap 𝓤) (A : Atoms 𝓤) (W : Given
   Had Γ = (‵ (flft κ₀ q₀) ⊛ ‵ (flft κ₁ q₁) ⊛ ‵ (flft κ₂ q₂) ⊛ ‵ (flft κ₃ q₃) ⊛ ‵ (flft κ₄ q₄) ⊛ ‵ (flft κ₅ q₅) ⊛ ‵ ftrue) ∷ ‵
       (owns (MutSlice (named 0) κ₀ u8 ∷ ShrSlice (named 1) κ₁ u8 ∷ ShrSlice (named 2) κ₂ usize ∷ ShrSlice (named 3) κ₃ usize ∷ (Many 42) ∷ usize ∷ ShrSlice (named 4) κ₄ usize ∷ ShrSlice (named 5) κ₅ u8 ∷ Head-is.the-row ∷ How-is.the-row ∷ []) a at-entry) ∷ Γ
 
-  abbrev has-first : List (Item 𝓤) → List (Item 𝓤)
-  has-first Γ = ‵ (flft κ₀ q₀) ∷ ‵ (flft κ₁ q₁) ∷ ‵ (flft κ₂ q₂) ∷ ‵ (flft κ₃ q₃) ∷ ‵ (flft κ₄ q₄) ∷ ‵ (flft κ₅ q₅) ∷ ‵ (out-own (out .now)) ∷ ‵ texts-own ∷ ‵ references-own ∷ ‵ comments-own ∷ ‵ qualifiers-own ∷ ‵ letters-own ∷ Γ
-
-  opened : {K : Type 0} {Γ : List (Item 𝓤)} {G : Goal 𝓤 H} → K → Seq K W (has-first Γ) G → Seq K W (Had Γ) G
+  opened : {K : Type 0} {Γ : List (Item 𝓤)} {G : Goal 𝓤 H} → K → Seq K W (‵ (flft κ₀ q₀) ∷ ‵ (flft κ₁ q₁) ∷ ‵ (flft κ₂ q₂) ∷ ‵ (flft κ₃ q₃) ∷ ‵ (flft κ₄ q₄) ∷ ‵ (flft κ₅ q₅) ∷ ‵ (out-own (out .now)) ∷ ‵ texts-own ∷ ‵ references-own ∷ ‵ comments-own ∷ ‵ qualifiers-own ∷ ‵ letters-own ∷ Γ) G → Seq K W (Had Γ) G
   opened t then =
       splits t (‵ (flft κ₀ q₀) ∷ ‵ (flft κ₁ q₁) ∷ ‵ (flft κ₂ q₂) ∷ ‵ (flft κ₃ q₃) ∷ ‵ (flft κ₄ q₄) ∷ ‵ (flft κ₅ q₅) ∷ []) (id⊢ 𝓤 _) $
       move t (6 ∷ []) $
@@ -263,19 +257,16 @@ module _ {M : Type 1} (𝓤 : URA M) (H : Heap 𝓤) (A : Atoms 𝓤) (W : Given
         next r-write r-write-is (ws .0) out-long said-write))))))
 
     module _ (r-write : WriteAnswer) (r-write-is : Is WriteAnswer-is.the-row r-write ((WriteAnswer-val r-write) ∷ [])) (out-write : List ℕ) (out-write-long : length out-write ≡ length (out .now)) (said-write : Said-write r-write out-write) where
-      abbrev has-write : List (Item 𝓤) → List (Item 𝓤)
-      has-write Γ = ‵ (fat fullShare (tyArray Feature-has.mir 42) l₁₁ 0 (many-val rows)) ∷ ‵ (flft κ₀ q₀) ∷ ‵ (flft κ₁ q₁) ∷ ‵ (flft κ₂ q₂) ∷ ‵ (flft κ₃ q₃) ∷ ‵ (flft κ₄ q₄) ∷ ‵ (flft κ₅ q₅) ∷ ‵ (out-last out-write) ∷ Γ
-
-      abbrev has-at-last : List (Item 𝓤) → List (Item 𝓤)
-      has-at-last Γ = ‵ (flft κ₀ q₀) ∷ ‵ (flft κ₁ q₁) ∷ ‵ (flft κ₂ q₂) ∷ ‵ (flft κ₃ q₃) ∷ ‵ (flft κ₄ q₄) ∷ ‵ (flft κ₅ q₅) ∷ ‵ (out-last out-write) ∷ Γ
-
       -- the law, and the end
       ended : WriteAnswered how (roomsIn (texts .now) (references .now) (comments .now) (flat (take n rows)) (qualifiers .now) (letters .now)) head (out .now) (out-write) r-write
       ended = said-write
 
-      exits : ent 𝓤 (⋆ 𝓤 H A (has-at-last [])) (Post (WriteAnswer-val r-write))
+      abbrev at-last : List (Item 𝓤)
+      at-last = ‵ (flft κ₀ q₀) ∷ ‵ (flft κ₁ q₁) ∷ ‵ (flft κ₂ q₂) ∷ ‵ (flft κ₃ q₃) ∷ ‵ (flft κ₄ q₄) ∷ ‵ (flft κ₅ q₅) ∷ ‵ (out-last out-write) ∷ []
+
+      exits : ent 𝓤 (⋆ 𝓤 H A at-last) (Post (WriteAnswer-val r-write))
       exits =
-          qed W (has-at-last []) ∵
+          qed W at-last ∵
           suffices ! _ (ends-at 𝓤 H A f.ended stayed (f.clauses 𝓤 H A mem run) W bound (WriteAnswer-val r-write) r-write (out-write, (tt, (tt, (tt, (tt, (tt, (tt, (tt, (tt, (tt, tt)))))))))) (out-write-long, (tt, (tt, (tt, (tt, (tt, (tt, (tt, (tt, (tt, tt))))))))))) $ says ! ended $
           owned ! WriteAnswer-is.the-row (Is WriteAnswer-is.the-row) (EL.makes WriteAnswer-is.the-type WriteAnswer-has.the-plain 𝓤 H A) r-write ((WriteAnswer-val r-write) ∷ []) r-write-is $
           nothing ! $ nothing ! $ nothing ! $ nothing ! $ nothing ! $ nothing ! $ nothing ! $ nothing ! $ nothing ! $ nothing ! $ nothing ! $
@@ -283,26 +274,23 @@ module _ {M : Type 1} (𝓤 : URA M) (H : Heap 𝓤) (A : Atoms 𝓤) (W : Given
           group ! 7 $ frame ! $ group ! 11 $
           done !
 
-      abbrev part-2-holds : List Cell
-      part-2-holds = holds (WriteAnswer-val r-write) ∷ holds (v out) ∷ holds (v texts) ∷ holds (v references) ∷ holds (v comments) ∷ holds (many-val rows) ∷ holds (vint w64 n) ∷ holds (v qualifiers) ∷ holds (v letters) ∷ holds (Head-val head) ∷ holds (How-val how) ∷ away ∷ holds (p out) ∷ holds (v out) ∷ holds (vptr l₁₁ 0) ∷ holds
-          (sliceVal (l₁₁, 0) n) ∷ []
+      abbrev part-3-holds : List Cell
+      part-3-holds = holds (WriteAnswer-val r-write) ∷ holds (v out) ∷ holds (v texts) ∷ holds (v references) ∷ holds (v comments) ∷ holds (many-val rows) ∷ holds (vint w64 n) ∷ holds (v qualifiers) ∷ holds (v letters) ∷ holds (Head-val head) ∷ holds (How-val how) ∷ away ∷ holds (vptr (out .ptr .0) (out .ptr .1)) ∷ holds (v out) ∷ holds
+          (vptr l₁₁ 0) ∷ holds (sliceVal (l₁₁, 0) n) ∷ []
 
-      part-2 : Sq W (has-write (standing part-2-holds)) (runs C Λ E body.t-7 (atRet E Post))
-      part-2 =
+      part-3 : Sq W (‵ (fat fullShare (tyArray Feature-has.mir 42) l₁₁ 0 (many-val rows)) ∷ ‵ (flft κ₀ q₀) ∷ ‵ (flft κ₁ q₁) ∷ ‵ (flft κ₂ q₂) ∷ ‵ (flft κ₃ q₃) ∷ ‵ (flft κ₄ q₄) ∷ ‵ (flft κ₅ q₅) ∷ ‵ (out-last out-write) ∷ standing part-3-holds) (runs C Λ E body.t-7 (atRet E Post))
+      part-3 =
           move ! (1 ∷ 2 ∷ 3 ∷ 4 ∷ 5 ∷ 6 ∷ 7 ∷ 8 ∷ 9 ∷ 10 ∷ 11 ∷ 12 ∷ 13 ∷ 14 ∷ 15 ∷ 16 ∷ 17 ∷ 18 ∷ 0 ∷ []) $
-          returns ! (look ! 7 refl) $ frees-all ! (has-at-last [])
-          (holds (WriteAnswer-val r-write) ∷ holds (v out) ∷ holds (v texts) ∷ holds (v references) ∷ holds (v comments) ∷ holds (many-val rows) ∷ holds (vint w64 n) ∷ holds (v qualifiers) ∷ holds (v letters) ∷ holds (Head-val head) ∷ holds (How-val how) ∷ holds (many-val rows) ∷ holds (p out) ∷ holds (v out) ∷ holds (vptr l₁₁ 0) ∷ holds
-          (sliceVal (l₁₁, 0) n) ∷ []) tt exits
+          returns ! (look ! 7 refl) $ frees-all ! at-last
+          (holds (WriteAnswer-val r-write) ∷ holds (v out) ∷ holds (v texts) ∷ holds (v references) ∷ holds (v comments) ∷ holds (many-val rows) ∷ holds (vint w64 n) ∷ holds (v qualifiers) ∷ holds (v letters) ∷ holds (Head-val head) ∷ holds (How-val how) ∷ holds (many-val rows) ∷ holds (vptr (out .ptr .0) (out .ptr .1)) ∷ holds (v out) ∷ holds
+          (vptr l₁₁ 0) ∷ holds (sliceVal (l₁₁, 0) n) ∷ []) tt exits
 
-    abbrev part-1-holds : List Cell
-    part-1-holds = vacant ∷ holds (v out) ∷ holds (v texts) ∷ holds (v references) ∷ holds (v comments) ∷ holds (many-val rows) ∷ holds (vint w64 n) ∷ holds (v qualifiers) ∷ holds (v letters) ∷ holds (Head-val head) ∷ holds (How-val how) ∷ vacant ∷ vacant ∷ vacant ∷ vacant ∷ vacant ∷ []
+    abbrev part-2-holds : List Cell
+    part-2-holds = vacant ∷ holds (v out) ∷ holds (v texts) ∷ holds (v references) ∷ holds (v comments) ∷ holds (many-val rows) ∷ holds (vint w64 n) ∷ holds (v qualifiers) ∷ holds (v letters) ∷ holds (Head-val head) ∷ holds (How-val how) ∷ holds (many-val rows) ∷ holds (vptr (out .ptr .0) (out .ptr .1)) ∷ holds (v out) ∷ holds (vptr l₁₁ 0) ∷ vacant
+        ∷ []
 
-    part-1 : Sq W (has-first (standing part-1-holds)) (runs C Λ E body.t-1 (atRet E Post))
-    part-1 =
-        assigns ! (of-opd ! (load ! (from ! (stop !)) (look ! 17 refl))) (from ! (stop !)) (init ! 23 refl (array-lawful 𝓤 H A W Feature-is.the-row (LL.lawful Feature-is.the-type Feature-has.the-laws 𝓤 H A W) 42 .typed rows (array-vals (LL.vals Feature-is.the-type Feature-has.the-laws) rows) rows-is .0)) $
-        assigns ! (addr ! (from ! (fld ! refl (hop ! (look-in ! 13 (sub ! 0 refl (whole !))) (stop !))))) (from ! (stop !)) (init ! 24 refl (tt, tt)) $
-        assigns ! (agg ! (and-then ! (load ! (from ! (stop !)) (look ! 24 refl)) (and-then ! (load ! (from ! (fld ! refl (stop !))) (look-in ! 13 (sub ! 1 refl (whole !)))) (no-more !)))) (from ! (stop !)) (init ! 25 refl (tt, (tt, (record { fits = out-room .0 }, tt)))) $
-        assigns ! (addr ! (from ! (stop !))) (from ! (stop !)) (init ! 26 refl (tt, tt)) $
+    part-2 : Sq W (‵ (flft κ₀ q₀) ∷ ‵ (flft κ₁ q₁) ∷ ‵ (flft κ₂ q₂) ∷ ‵ (flft κ₃ q₃) ∷ ‵ (flft κ₄ q₄) ∷ ‵ (flft κ₅ q₅) ∷ ‵ (out-own (out .now)) ∷ ‵ texts-own ∷ ‵ references-own ∷ ‵ comments-own ∷ ‵ qualifiers-own ∷ ‵ letters-own ∷ standing part-2-holds) (runs C Λ E body.t-5 (atRet E Post))
+    part-2 =
         assigns ! (agg ! (and-then ! (load ! (from ! (stop !)) (look ! 26 refl)) (and-then ! (load ! (from ! (stop !)) (look ! 18 refl)) (no-more !)))) (from ! (stop !)) (init ! 27 refl (tt, (tt, (record { fits = n-is .1 }, tt)))) $
         move ! (23 ∷ 0 ∷ 1 ∷ 2 ∷ 3 ∷ 4 ∷ 5 ∷ 6 ∷ 7 ∷ 8 ∷ 9 ∷ 10 ∷ 11 ∷ []) $
         lends-write ! tt (λ full-array k-array.
@@ -314,7 +302,18 @@ module _ {M : Type 1} (𝓤 : URA M) (H : Heap 𝓤) (A : Atoms 𝓤) (W : Given
         (and-then ! (load ! (from ! (stop !)) (look ! 17 refl)) (and-then ! (load ! (from ! (stop !)) (look ! 10 refl)) (and-then ! (load ! (from ! (stop !)) (look ! 11 refl)) (and-then ! (load ! (from ! (stop !)) (look ! 12 refl)) (and-then ! (load ! (from ! (stop !)) (look ! 13 refl)) (no-more !))))))))))
         (back-write ! full-array k-array (λ r-write r-write-is out-write out-write-long said-write.
         land ! (from ! (stop !)) (init ! 8 refl (EL.lawful WriteAnswer-is.the-type WriteAnswer-has.the-laws 𝓤 H A W tt .typed r-write ((WriteAnswer-val r-write) ∷ []) r-write-is .0)) $
-        part-2 r-write r-write-is out-write out-write-long said-write)))
+        part-3 r-write r-write-is out-write out-write-long said-write)))
+
+    abbrev part-1-holds : List Cell
+    part-1-holds = vacant ∷ holds (v out) ∷ holds (v texts) ∷ holds (v references) ∷ holds (v comments) ∷ holds (many-val rows) ∷ holds (vint w64 n) ∷ holds (v qualifiers) ∷ holds (v letters) ∷ holds (Head-val head) ∷ holds (How-val how) ∷ vacant ∷ vacant ∷ vacant ∷ vacant ∷ vacant ∷ []
+
+    part-1 : Sq W (‵ (flft κ₀ q₀) ∷ ‵ (flft κ₁ q₁) ∷ ‵ (flft κ₂ q₂) ∷ ‵ (flft κ₃ q₃) ∷ ‵ (flft κ₄ q₄) ∷ ‵ (flft κ₅ q₅) ∷ ‵ (out-own (out .now)) ∷ ‵ texts-own ∷ ‵ references-own ∷ ‵ comments-own ∷ ‵ qualifiers-own ∷ ‵ letters-own ∷ standing part-1-holds) (runs C Λ E body.t-1 (atRet E Post))
+    part-1 =
+        assigns ! (of-opd ! (load ! (from ! (stop !)) (look ! 17 refl))) (from ! (stop !)) (init ! 23 refl (array-lawful 𝓤 H A W Feature-is.the-row (LL.lawful Feature-is.the-type Feature-has.the-laws 𝓤 H A W) 42 .typed rows (array-vals (LL.vals Feature-is.the-type Feature-has.the-laws) rows) rows-is .0)) $
+        assigns ! (addr ! (from ! (fld ! refl (hop ! (look-in ! 13 (sub ! 0 refl (whole !))) (stop !))))) (from ! (stop !)) (init ! 24 refl (tt, tt)) $
+        assigns ! (agg ! (and-then ! (load ! (from ! (stop !)) (look ! 24 refl)) (and-then ! (load ! (from ! (fld ! refl (stop !))) (look-in ! 13 (sub ! 1 refl (whole !)))) (no-more !)))) (from ! (stop !)) (init ! 25 refl (tt, (tt, (record { fits = out-room .0 }, tt)))) $
+        assigns ! (addr ! (from ! (stop !))) (from ! (stop !)) (init ! 26 refl (tt, tt)) $
+        part-2
 
     begins : Sq W (locals 𝓤 H A E (vacant ∷ vacant ∷ vacant ∷ vacant ∷ vacant ∷ vacant ∷ vacant ∷ vacant ∷ vacant ∷ vacant ∷ vacant ∷ vacant ∷ vacant ∷ vacant ∷ vacant ∷ vacant ∷ []) (raw (Dies 𝓤 H A E) ∷ Had []))
         (params′ E ((v out) ∷ (v texts) ∷ (v references) ∷ (v comments) ∷ (many-val rows) ∷ (vint w64 n) ∷ (v qualifiers) ∷ (v letters) ∷ (Head-val head) ∷ (How-val how) ∷ []) (runs C Λ E body.t-1 (atRet E Post)))
