@@ -7,7 +7,7 @@ use Rattle.spec_format.specs.Rooms.{Rooms}
 use Rattle.spec_format.specs.declared.Head.{Head}
 use Rattle.spec_format.specs.declared.ReadAnswer.{ReadAnswer}
 use Rattle.spec_format.specs.declared.WriteAnswer.{WriteAnswer}
-use Rattle.api_head.specs.Numbers.{headFrom}
+use Rattle.spec_contracts.specs.Numbers.{headFrom}
 use Rattle.api_told.specs.Telling.{readNumber, Tells, Returns}
 use Rattle.api_boundary.specs.Told.{ReadTold, WriteTold}
 use Rattle.spec_contracts.specs.Reads.{Answered}

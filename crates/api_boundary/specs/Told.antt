@@ -11,7 +11,7 @@ use Rattle.spec_format.specs.Rooms.{Rooms, tableOf, readAnswer, roomsAfter}
 use Rattle.spec_format.specs.Write.{written}
 use Rattle.spec_format.specs.declared.Head.{Head}
 use Rattle.spec_format.specs.declared.WriteAnswer.{WriteAnswer}
-use Rattle.api_head.specs.Numbers.{headFrom}
+use Rattle.spec_contracts.specs.Numbers.{headFrom}
 use Rattle.api_told.specs.Telling.{readNumber, readNumbers}
 
 -- ---- reading

@@ -19,8 +19,8 @@ use Rattle.spec_format.specs.declared.Dated.{Dated}
 use Rattle.spec_format.specs.declared.Dated.the-variants as dated
 use Rattle.spec_format.specs.declared.Head.{Head}
 use Rattle.base_pen.specs.Pen.{Writes, writes-append}
-use Rattle.api_head.specs.Numbers.{largest, textNumbers, sourceNumbers, lengthNumbers, dateNumbers, above, lower, textFrom, sourceFrom, lengthFrom}
-use Rattle.api_head.specs.Numbers.{onDate, dateFrom, textIn, spanIn, sourceIn, dateIn, headIn, outside, headFrom}
+use Rattle.spec_contracts.specs.Numbers.{largest, textNumbers, sourceNumbers, lengthNumbers, dateNumbers, above, lower, textFrom, sourceFrom, lengthFrom}
+use Rattle.spec_contracts.specs.Numbers.{onDate, dateFrom, textIn, spanIn, sourceIn, dateIn, headIn, outside, headFrom}
 
 pub above-less : (n : ℕ) → n < largest → n + 1 ≡ above n
 above-less n h = rw (lt-ltb n largest h)

@@ -19,8 +19,8 @@ use Rattle.spec_format.specs.declared.Dated.{Dated}
 use Rattle.spec_format.specs.declared.Dated.the-variants as dated
 use Rattle.spec_format.specs.declared.Head.{Head}
 use Rattle.judge_rooms.specs.Steps.{and-left}
-use Rattle.api_head.specs.Numbers.{largest, above, flag, textNumbers, sourceNumbers, lengthNumbers, dateNumbers, locusNumbers, fieldNumbers}
-use Rattle.api_head.specs.Numbers.{restNumbers, headNumbers, textFrom, sourceFrom, lengthFrom, dateFrom, headIn, outside, headFrom}
+use Rattle.spec_contracts.specs.Numbers.{largest, above, flag, textNumbers, sourceNumbers, lengthNumbers, dateNumbers, locusNumbers, fieldNumbers}
+use Rattle.spec_contracts.specs.Numbers.{restNumbers, headNumbers, textFrom, sourceFrom, lengthFrom, dateFrom, headIn, outside, headFrom}
 
 -- ---- how many numbers
 

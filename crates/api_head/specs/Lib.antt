@@ -1,3 +1,2 @@
 -- A head as numbers, and back.
-pub mod Numbers
 pub mod Back

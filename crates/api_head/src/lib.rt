@@ -15,8 +15,8 @@ ghost use mathlib.Core.List.{[], _∷_};
 ghost use Prim.Native.Nat.{_≤_};
 ghost use lib.ListN.{getD};
 ghost use Rattle.base_pen.specs.Pen.{Writes};
-ghost use Rattle.api_head.specs.Numbers.{above, flag, textNumbers, sourceNumbers, lengthNumbers, dateNumbers, locusNumbers, fieldNumbers, restNumbers, headNumbers, lower, textFrom};
-ghost use Rattle.api_head.specs.Numbers.{textIn, spanIn, sourceFrom, sourceIn, lengthFrom, onDate, dateFrom, dateIn, headIn, outside, headFrom};
+ghost use Rattle.spec_contracts.specs.Numbers.{above, flag, textNumbers, sourceNumbers, lengthNumbers, dateNumbers, locusNumbers, fieldNumbers, restNumbers, headNumbers, lower, textFrom};
+ghost use Rattle.spec_contracts.specs.Numbers.{textIn, spanIn, sourceFrom, sourceIn, lengthFrom, onDate, dateFrom, dateIn, headIn, outside, headFrom};
 
 // ---- to numbers
 

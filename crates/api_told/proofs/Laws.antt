@@ -13,7 +13,7 @@ use Rattle.spec_format.specs.declared.Unread.{Unread}
 use Rattle.spec_format.specs.declared.ReadAnswer.{ReadAnswer}
 use Rattle.spec_format.specs.declared.ReadAnswer.the-variants as answer
 use Rattle.spec_format.specs.declared.WriteAnswer.{WriteAnswer}
-use Rattle.api_head.specs.Numbers.{headNumbers}
+use Rattle.spec_contracts.specs.Numbers.{headNumbers}
 use Rattle.api_head.specs.Back.{head-length}
 use Rattle.base_pen.specs.Pen.{Writes}
 use Rattle.api_told.specs.Telling.{sizeNumbers, Tells, Returns}

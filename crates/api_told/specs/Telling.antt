@@ -10,7 +10,7 @@ use Rattle.spec_format.specs.declared.Sizes.{Sizes}
 use Rattle.spec_format.specs.declared.ReadAnswer.{ReadAnswer}
 use Rattle.spec_format.specs.declared.ReadAnswer.the-variants as answer
 use Rattle.spec_format.specs.declared.WriteAnswer.{WriteAnswer}
-use Rattle.api_head.specs.Numbers.{headNumbers}
+use Rattle.spec_contracts.specs.Numbers.{headNumbers}
 
 -- document 01's number of the reader's answer
 abbrev pub readNumber : ReadAnswer → ℕ

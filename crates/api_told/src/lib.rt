@@ -12,7 +12,7 @@ use spec_format::ReadAnswer;
 use spec_format::Sizes;
 use spec_format::WriteAnswer;
 ghost use mathlib.Core.List.{[], _∷_, _++_};
-ghost use Rattle.api_head.specs.Numbers.{headNumbers};
+ghost use Rattle.spec_contracts.specs.Numbers.{headNumbers};
 ghost use Rattle.base_pen.specs.Pen.{Writes};
 ghost use Rattle.api_told.specs.Telling.{sizeNumbers, Tells, Returns};
 

@@ -26,50 +26,6 @@ use Rattle.spec_contracts.specs.Reads.{Answered}
 use Rattle.spec_contracts.specs.Writes.{AnsweredBy, WriteAnswered}
 use Rattle.spec_contracts.specs.Equal.{rooms-after}
 
--- the rows before anything is read into them: no proof writes them out
-abbrev pub emptyRow : Feature
-emptyRow = record { kind = record { start = 0; length = 0 }; location = record { start = 0; length = 0 }; first = 0; count = 0 }
-
-unfoldable pub emptyRows : List Feature
-emptyRows = replicate 8192 emptyRow
-
--- a head without anything
-abbrev pub emptyHead : Head
-emptyHead =
-    record {
-      name = text.Absent;
-      length = bases.Absent;
-      molecule = text.Absent;
-      circular = false;
-      division = record { start = 0; length = 0 };
-      date = date.Absent;
-      definition = text.Absent;
-      accession = text.Absent;
-      version = text.Absent;
-      dblink = text.Absent;
-      keywords = text.Absent;
-      source = source.Absent;
-      references = 0;
-      comments = 0;
-      features = 0;
-      contig = text.Absent;
-      letters = 0;
-    }
-
--- what is written of what was read: its head, as asked; or nothing, since no writer takes a width of 0
-abbrev pub headOf : ReadAnswer → Head
-headOf (read.Done h at) = h
-headOf (read.Refused why) = emptyHead
-headOf (read.Room sizes) = emptyHead
-
-abbrev pub notAtAll : How → How
-notAtAll how = record { keeping = how .keeping; width = 0; truncate = how .truncate; escape = how .escape }
-
-abbrev pub howAfter : ReadAnswer → How → How
-howAfter (read.Done h at) how = how
-howAfter (read.Refused why) how = notAtAll how
-howAfter (read.Room sizes) how = notAtAll how
-
 pub head-done : (a : ReadAnswer) (h : Head) (place : ℕ) → a ≡ read.Done h place → h ≡ headOf a
 head-done a h place e = rw e
 
@@ -84,16 +40,6 @@ how-refused a why how e = rw e
 
 pub how-room : (a : ReadAnswer) (sizes : Sizes) (how : How) → a ≡ read.Room sizes → notAtAll how ≡ howAfter a how
 how-room a sizes how e = rw e
-
--- THE ANSWERS AND THE ROOMS AFTERWARDS, of a record at a place of s, read into the rooms `old` and written to the slice `before`
-pub record Rounds (s : List ℕ) (at : ℕ) (old : Rooms) (how : How) (texts references comments qualifiers letters before after : List ℕ) (r : ReadAnswer) (w : WriteAnswer) : Type 0 where
-  pub is : r ≡ readAnswer s at old
-  pub texts-are : texts ≡ roomsAfter s at old .texts
-  pub references-are : references ≡ roomsAfter s at old .references
-  pub comments-are : comments ≡ roomsAfter s at old .comments
-  pub qualifiers-are : qualifiers ≡ roomsAfter s at old .qualifiers
-  pub letters-are : letters ≡ roomsAfter s at old .letters
-  pub wrote : WriteAnswered (howAfter r how) (roomsAfter s at old) (headOf r) before after w
 
 module _ (s : List ℕ) (at : ℕ) (old : Rooms) (how : How) (t rf cm : List ℕ) (rows : List Feature) (q l before after : List ℕ) (r : ReadAnswer) (w : WriteAnswer) where
   -- the reader's contract and then the writer's

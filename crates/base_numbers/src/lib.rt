@@ -3,14 +3,11 @@ use spec_format::Unread;
 use spec_format::Unwritten;
 use spec_format::WriteAnswer;
 ghost use mathlib.Core.Path.{_≡_};
-ghost use Rattle.spec_format.specs.Record.{number, placeWith};
-ghost use Rattle.spec_format.specs.Answers.{valueWith};
-ghost use Rattle.spec_format.specs.Answers as write;
-ghost use Rattle.spec_format.specs.declared.WriteAnswer.the-variants as answered;
+ghost use Rattle.spec_format.specs.Numbers.{unreadNumber, unreadPlace, unwrittenNumber, writeNumber, writeValue};
 
 // The number of a refusal to read.
 pub fn unread_number(why: Unread) -> usize
-    ensures { λ r. ⌜ r ≡ number why ⌝ }
+    ensures { λ r. ⌜ r ≡ unreadNumber why ⌝ }
 {
     match why {
         Unread::AtEnd => 1,
@@ -26,7 +23,7 @@ pub fn unread_number(why: Unread) -> usize
 
 // What is returned with it, where `at` was the place given.
 pub fn unread_place(why: Unread, at: usize) -> usize
-    ensures { λ r. ⌜ r ≡ placeWith why at ⌝ }
+    ensures { λ r. ⌜ r ≡ unreadPlace why at ⌝ }
 {
     match why {
         Unread::AtEnd => at,
@@ -42,7 +39,7 @@ pub fn unread_place(why: Unread, at: usize) -> usize
 
 // The number of a refusal to write.
 fn unwritten_number(why: Unwritten) -> usize
-    ensures { λ r. ⌜ r ≡ write.number (answered.Refused why) ⌝ }
+    ensures { λ r. ⌜ r ≡ unwrittenNumber why ⌝ }
 {
     match why {
         Unwritten::BadRooms => 10,
@@ -54,7 +51,7 @@ fn unwritten_number(why: Unwritten) -> usize
 
 // The number of a writer's answer.
 pub fn write_number(answer: WriteAnswer) -> usize
-    ensures { λ r. ⌜ r ≡ write.number answer ⌝ }
+    ensures { λ r. ⌜ r ≡ writeNumber answer ⌝ }
 {
     match answer {
         WriteAnswer::Done(_) => 0,
@@ -65,7 +62,7 @@ pub fn write_number(answer: WriteAnswer) -> usize
 
 // What is returned with it.
 pub fn write_value(answer: WriteAnswer) -> usize
-    ensures { λ r. ⌜ r ≡ valueWith answer ⌝ }
+    ensures { λ r. ⌜ r ≡ writeValue answer ⌝ }
 {
     match answer {
         WriteAnswer::Done(n) => n,

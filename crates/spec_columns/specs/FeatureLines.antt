@@ -11,7 +11,7 @@ use Rattle.spec_format.specs.Bytes.{May, absent, is, bytes, spaces, each, conca
 use Rattle.spec_format.specs.Table.{Feature, Qualifier}
 use Rattle.spec_format.specs.Wrap.{breakAt, commaLines, wrapLocation, wrapped, wrapText}
 use Rattle.spec_format.specs.Write.{padded, commaKey, keyText, quotes, valueLines, qualifierText, qualifierLines, featureLines}
-use Rattle.spec_format.specs.Public.{columns, fromLeft, featureColumns, qualifierColumns}
+use Rattle.spec_public.specs.Public.{columns, fromLeft, featureColumns, qualifierColumns}
 use Rattle.spec_columns.specs.Parts.{same-as, part, padded-more, padded-length}
 
 -- a text that fits its line stands there whole

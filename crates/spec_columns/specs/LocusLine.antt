@@ -9,7 +9,7 @@ use Rattle.spec_format.specs.Bytes.{bytes, spaces, same}
 use Rattle.spec_format.specs.Dates.{dateText, printedDate}
 use Rattle.spec_format.specs.Table.{Table}
 use Rattle.spec_format.specs.Write.{padded, printedName, lengthText, moleculeText, topologyText, nameAndLength, locusText}
-use Rattle.spec_format.specs.Public.{columns, fromLeft, locusColumns}
+use Rattle.spec_public.specs.Public.{columns, fromLeft, locusColumns}
 use Rattle.spec_columns.specs.Parts.{same-as, Part, part, padded-more, padded-length}
 
 -- name and length in 28 columns

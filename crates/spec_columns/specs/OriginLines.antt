@@ -11,7 +11,7 @@ use lib.Dec.{eqb}
 use borrow.Author.Tests.{eq-eqb, ne-eqb}
 use Rattle.spec_format.specs.Bytes.{pick, bytes, spaces, decimal}
 use Rattle.spec_format.specs.Write.{rightAligned, lineStart, tenStart, letterLines, originLines}
-use Rattle.spec_format.specs.Public.{columns, fromRight, blocks, originColumns}
+use Rattle.spec_public.specs.Public.{columns, fromRight, blocks, originColumns}
 use Rattle.spec_columns.specs.Parts.{same-as, part}
 
 both : (a b : Bool) → a ≡ true → b ≡ true → (a && b) ≡ true

@@ -12,7 +12,7 @@ use borrow.Author.Tests.{eqb-true, lt-ltb}
 use Rattle.spec_format.specs.Bytes.{bytes, spaces, pick}
 use Rattle.spec_format.specs.Wrap.{Line, Fits, Over, lineText, lineRest, put, putSpace, inner, fill, closing, linesAfter, wrapped, wrapText}
 use Rattle.spec_format.specs.Write.{commaKey, bareKey, keyText, quotes, valueLines}
-use Rattle.spec_format.specs.Public.{doubled, presentedLines, presented}
+use Rattle.spec_public.specs.Public.{doubled, presentedLines, presented}
 
 -- the text v is the line l and then r, with one space or LF between them at most
 pub data Split (v l r : List ℕ) : Type 0 where

@@ -3,3 +3,6 @@ pub mod Lent
 pub mod Reads
 pub mod Writes
 pub mod Equal
+pub mod Numbers
+pub mod Told
+pub mod Rounds

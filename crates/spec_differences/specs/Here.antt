@@ -12,8 +12,8 @@ use Rattle.spec_format.specs.Header.{fieldText, fieldBytes, field, reference, s
 use Rattle.spec_format.specs.Locus.{preamble, tokens, dateOf, dateToken, locusFrom, locusOf, locusLine, locus}
 use Rattle.spec_format.specs.Origin.{originTag, letters}
 use Rattle.spec_format.specs.Readers.{tag, until, line, lineEnd, membersUpTo, endUpTo, members, end}
-use Rattle.spec_format.specs.Record as read
-use Rattle.spec_format.specs.Record.{Outcome, Read, Not, placeWith, features, slashesLater, middle, tableFrom, readRecord, readAt}
+use Rattle.spec_format.specs.Numbers.{unreadNumber, unreadPlace}
+use Rattle.spec_format.specs.Record.{Outcome, Read, Not, features, slashesLater, middle, tableFrom, readRecord, readAt}
 use Rattle.spec_format.specs.Table.{Locus, Source, Reference, Qualifier, Feature, Table}
 use Rattle.spec_format.specs.Utf8.{chars, utf8}
 use Rattle.spec_format.specs.WellFormed.{referenceTexts, headerTexts, locusFine, qualifierFine, featureFine, lettersFine, wellFormed}
@@ -33,7 +33,7 @@ pub record Answer : Type 0 where
 -- number and place
 told : List ℕ → Outcome → List ℕ
 told s (Read t rest) = 0 ∷ (length s - length rest) ∷ []
-told s (Not why) = read.number why ∷ placeWith why 0 ∷ []
+told s (Not why) = unreadNumber why ∷ unreadPlace why 0 ∷ []
 
 answer : List ℕ → List ℕ
 answer s = told s (readAt s 0)
@@ -55,7 +55,7 @@ locus-values : Outcome → List ℕ
 locus-values (Read t rest) =
     may-text (t .locus .name) ++ bytes " " ++ may-number (t .locus .length) ++ bytes " " ++ may-text (t .locus .molecule) ++ bytes " " ++
     cond (t .locus .circular) (bytes "circular") (bytes "linear") ++ bytes " " ++ t .locus .division ++ bytes " " ++ may-date (t .locus .date)
-locus-values (Not why) = read.number why ∷ []
+locus-values (Not why) = unreadNumber why ∷ []
 
 locus-read : List ℕ → List ℕ
 locus-read l = locus-values (readAt (l ++ bytes "\nORIGIN\n//\n") 0)
@@ -70,7 +70,7 @@ first-location (f ∷ fs) = f .location
 
 location-values : Outcome → List ℕ
 location-values (Read t rest) = first-location (t .features)
-location-values (Not why) = read.number why ∷ []
+location-values (Not why) = unreadNumber why ∷ []
 
 location-read : List ℕ → List ℕ
 location-read s = location-values (readAt (bytes "LOCUS x\nFEATURES  Location/Qualifiers\n" ++ s) 0)

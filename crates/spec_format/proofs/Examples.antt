@@ -16,7 +16,7 @@ use Rattle.spec_format.specs.Write.{lengthText, white, blanked, words, p
 use Rattle.spec_format.specs.WellFormed.{headerTexts, locusFine, qualifierFine, featureFine, lettersFine, wellFormed}
 use Rattle.spec_format.specs.Keeping.{locusKept, linesKept, valueKept, qualifierKept, featureKept, keeps}
 use Rattle.spec_format.specs.Rooms.{layout, headOf, piecesText, piecesRow, textsOf, rowsOf, featureText, featureRows, qualifierRows, rowsFrom, qualifierIn, featureIn, referenceIn, commentIn, tableOf, rowsFine, referenceRowFine, qualifierRowFine, qualifiersFine, featuresFine, lengthsFine, headFine, countsFine, roomsFine}
-use Rattle.spec_format.specs.Answers as answers
+use Rattle.spec_format.specs.Numbers.{writeNumber}
 use Rattle.spec_format.specs.Answers.{plainAnswer, keepingAnswer}
 use Rattle.spec_format.specs.declared.Dated.the-variants as dated
 
@@ -65,7 +65,7 @@ note-lines n = qualifierLines 80 (record { key = bytes "note"; value = is (repli
 keeping-number : ℕ → ℕ
 keeping-number n =
     let t : Table = record-of (bytes "P318") 12 (replicate n 97) in
-    answers.number (keepingAnswer 80 false false (layout t) (headOf t) 1000)
+    writeNumber (keepingAnswer 80 false false (layout t) (headOf t) 1000)
 
 pub examples : List Example
 examples =

@@ -10,7 +10,6 @@ use Rattle.spec_format.specs.WellFormed.{widthFine, wellFormed}
 use Rattle.spec_format.specs.Keeping.{keeps}
 use Rattle.spec_format.specs.Rooms.{Rooms, tableOf, roomsFine, over}
 use Rattle.spec_format.specs.declared.Head.{Head}
-use Rattle.spec_format.specs.declared.Unwritten.{Unwritten}
 use Rattle.spec_format.specs.declared.Unwritten.the-variants as unwritten
 use Rattle.spec_format.specs.declared.WriteAnswer.{WriteAnswer}
 use Rattle.spec_format.specs.declared.WriteAnswer.the-variants as answer
@@ -44,21 +43,3 @@ abbrev pub sliceAfter : WriteAnswer → List ℕ → List ℕ → List ℕ
 sliceAfter (answer.Done k) new old = over new old
 sliceAfter (answer.Refused why) new old = old
 sliceAfter (answer.Room k) new old = old
-
--- ---- document 01's numbers and values
-
-abbrev pub number : WriteAnswer → ℕ
-number (answer.Done k) = 0
-number (answer.Room k) = 6
-number (answer.Refused why) = numberWhy why
-  where
-    numberWhy : Unwritten → ℕ
-    numberWhy unwritten.BadRooms = 10
-    numberWhy unwritten.NoLayout = 11
-    numberWhy unwritten.BadWidth = 12
-    numberWhy unwritten.NotKept = 13
-
-abbrev pub valueWith : WriteAnswer → ℕ
-valueWith (answer.Done k) = k
-valueWith (answer.Room k) = k
-valueWith (answer.Refused why) = 0

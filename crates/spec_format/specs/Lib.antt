@@ -15,4 +15,4 @@ pub mod Write
 pub mod WellFormed
 pub mod Keeping
 pub mod Answers
-pub mod Public
+pub mod Numbers

@@ -163,26 +163,3 @@ most = 16777216
 unfoldable pub readAt : List ℕ → ℕ → Outcome
 readAt s at =
     pick (leb (length s) most && leb at (length s)) (pick (eqb at (length s)) (Not unread.AtEnd) (readRecord (drop at s))) (Not unread.BadPlace)
-
--- ---- document 01's numbers
-
-abbrev pub number : Unread → ℕ
-number unread.AtEnd = 1
-number unread.Unended = 2
-number unread.BadPlace = 3
-number unread.NoLocus = 4
-number unread.TwoDefinitions = 5
-number unread.NoSlashes = 7
-number unread.OtherLength = 8
-number unread.BadLetter = 9
-
--- what is returned with a number: 0 with 3, else the place given
-abbrev pub placeWith : Unread → ℕ → ℕ
-placeWith unread.AtEnd at = at
-placeWith unread.Unended at = at
-placeWith unread.BadPlace at = 0
-placeWith unread.NoLocus at = at
-placeWith unread.TwoDefinitions at = at
-placeWith unread.NoSlashes at = at
-placeWith unread.OtherLength at = at
-placeWith unread.BadLetter at = at

@@ -115,6 +115,7 @@ pub struct Head {
 }
 
 // How much of each room a table takes: bytes of text, rows, letters.
+#[repr(C)]
 pub struct Sizes {
     pub texts: usize,
     pub references: usize,

@@ -15,7 +15,8 @@ use Rattle.spec_format.specs.Write.{written}
 use Rattle.spec_format.specs.WellFormed.{widthFine, ifIs, wellFormed}
 use Rattle.spec_format.specs.Keeping.{keeps}
 use Rattle.spec_format.specs.Rooms.{Rooms, tableOf, lengthsFine, roomsFine, sizes, fits, headOf, mayLength, layout, overRooms, answerOf, readAnswer, roomsOf, roomsAfter}
-use Rattle.spec_format.specs.Answers.{room, keepingAnswer, plainAnswer, sliceAfter, number, valueWith}
+use Rattle.spec_format.specs.Answers.{room, keepingAnswer, plainAnswer, sliceAfter}
+use Rattle.spec_format.specs.Numbers.{writeNumber, writeValue}
 use Rattle.spec_format.specs.declared.Head.{Head}
 use Rattle.spec_format.specs.declared.Length.{Length}
 use Rattle.spec_format.specs.declared.Length.the-variants as given
@@ -117,10 +118,10 @@ one-answer due text old a b x y e f g i =
 
 -- ---- numbers
 
-pub zero-done : (a : WriteAnswer) (k : ℕ) → ((number a ≡ 0) × (valueWith a ≡ k)) ↔ (a ≡ answer.Done k)
+pub zero-done : (a : WriteAnswer) (k : ℕ) → ((writeNumber a ≡ 0) × (writeValue a ≡ k)) ↔ (a ≡ answer.Done k)
 zero-done a k = (to a, back)
   where
-    to : (a : WriteAnswer) → ((number a ≡ 0) × (valueWith a ≡ k)) → a ≡ answer.Done k
+    to : (a : WriteAnswer) → ((writeNumber a ≡ 0) × (writeValue a ≡ k)) → a ≡ answer.Done k
     to (answer.Done n) h = ap answer.Done (h .1)
     to (answer.Room n) h = let z : _≡_ {A = ℕ} 6 0 = h .0 in absurd (omega arith)
     to (answer.Refused unwritten.BadRooms) h = let z : _≡_ {A = ℕ} 10 0 = h .0 in absurd (omega arith)
@@ -128,13 +129,13 @@ zero-done a k = (to a, back)
     to (answer.Refused unwritten.BadWidth) h = let z : _≡_ {A = ℕ} 12 0 = h .0 in absurd (omega arith)
     to (answer.Refused unwritten.NotKept) h = let z : _≡_ {A = ℕ} 13 0 = h .0 in absurd (omega arith)
 
-    back : a ≡ answer.Done k → (number a ≡ 0) × (valueWith a ≡ k)
-    back e = (ap number e, ap valueWith e)
+    back : a ≡ answer.Done k → (writeNumber a ≡ 0) × (writeValue a ≡ k)
+    back e = (ap writeNumber e, ap writeValue e)
 
-pub thirteen-not-kept : (a : WriteAnswer) → (number a ≡ 13) ↔ (a ≡ answer.Refused unwritten.NotKept)
-thirteen-not-kept a = (to a, λ e. ap number e)
+pub thirteen-not-kept : (a : WriteAnswer) → (writeNumber a ≡ 13) ↔ (a ≡ answer.Refused unwritten.NotKept)
+thirteen-not-kept a = (to a, λ e. ap writeNumber e)
   where
-    to : (a : WriteAnswer) → number a ≡ 13 → a ≡ answer.Refused unwritten.NotKept
+    to : (a : WriteAnswer) → writeNumber a ≡ 13 → a ≡ answer.Refused unwritten.NotKept
     to (answer.Done n) h = let z : _≡_ {A = ℕ} 0 13 = h in absurd (omega arith)
     to (answer.Room n) h = let z : _≡_ {A = ℕ} 6 13 = h in absurd (omega arith)
     to (answer.Refused unwritten.BadRooms) h = let z : _≡_ {A = ℕ} 10 13 = h in absurd (omega arith)

@@ -14,7 +14,8 @@ use Rattle.spec_format.specs.Write.{written}
 use Rattle.spec_format.specs.WellFormed.{wellFormed}
 use Rattle.spec_format.specs.Keeping.{keeps}
 use Rattle.spec_format.specs.Rooms.{Rooms, tableOf, lengthsFine, roomsFine, sizes, fits, headOf, readAnswer, roomsAfter}
-use Rattle.spec_format.specs.Answers.{keepingAnswer, plainAnswer, sliceAfter, number, valueWith}
+use Rattle.spec_format.specs.Answers.{keepingAnswer, plainAnswer, sliceAfter}
+use Rattle.spec_format.specs.Numbers.{writeNumber, writeValue}
 use Rattle.spec_format.specs.declared.Head.{Head}
 use Rattle.spec_format.specs.declared.Length.the-variants as given
 use Rattle.spec_format.specs.declared.ReadAnswer.{ReadAnswer}
@@ -118,7 +119,7 @@ thirteen-exactly W truncate escape r h n l u a b =
 
 -- Number 13 is that answer and no other. Number 0 with a count is the answer that so many bytes are written, and no other.
 pub numbers-name-answers :
-    (a : WriteAnswer) → ((number a ≡ 13) ↔ (a ≡ answer.Refused unwritten.NotKept)) × ((k : ℕ) → ((number a ≡ 0) × (valueWith a ≡ k)) ↔ (a ≡ answer.Done k))
+    (a : WriteAnswer) → ((writeNumber a ≡ 13) ↔ (a ≡ answer.Refused unwritten.NotKept)) × ((k : ℕ) → ((writeNumber a ≡ 0) × (writeValue a ≡ k)) ↔ (a ≡ answer.Done k))
 numbers-name-answers a = (thirteen-not-kept a, zero-done a)
 
 -- Where no keeping rule is broken, the keeping writer answers what the plain one does, whatever that is. So it refuses no more than the plain one,

@@ -10,7 +10,8 @@ use Rattle.spec_format.specs.Table.{Locus, Source, Reference, Qualifier, Featur
 use Rattle.spec_format.specs.Record.{Outcome, Read, Not}
 use Rattle.spec_format.specs.declared.Dated.{Dated}
 use Rattle.spec_format.specs.declared.Dated.the-variants as dated
-use Rattle.spec_format.specs.Answers.{keepingAnswer, number}
+use Rattle.spec_format.specs.Answers.{keepingAnswer}
+use Rattle.spec_format.specs.Numbers.{writeNumber}
 use Rattle.spec_format.specs.Bytes.{digits}
 use Rattle.spec_format.specs.Bytes.{number as decimal}
 use Rattle.spec_format.specs.Dates.{monthName, dateText}
@@ -276,7 +277,7 @@ pub final-feed : Table
 final-feed = with-definition (bytes "a\n")
 
 pub numbers-by-width :
-    map (λ W. number (keepingAnswer W false false (layout final-feed) (headOf final-feed) 0)) (20 ∷ 59 ∷ 60 ∷ 132 ∷ 133 ∷ []) ≡
+    map (λ W. writeNumber (keepingAnswer W false false (layout final-feed) (headOf final-feed) 0)) (20 ∷ 59 ∷ 60 ∷ 132 ∷ 133 ∷ []) ≡
     12 ∷ 12 ∷ 13 ∷ 13 ∷ 12 ∷ []
 unfolding the-reader the-writer the-rules the-tables the-rooms final-feed keepingAnswer
 numbers-by-width = refl

@@ -12,7 +12,7 @@ use Rattle.spec_format.specs.Readers.{Ans, Got, No, bind, mapped, tag, lineEnd,
 use Rattle.spec_format.specs.Features.{escape, escaped, special, quotedTurn, quoted}
 use Rattle.spec_format.specs.Wrap.{Line, Fits, Over, lineText, lineRest, put, inner, fill, closing, linesAfter, wrapped}
 use Rattle.spec_format.specs.Keeping.{linesKept}
-use Rattle.spec_format.specs.Public.{doubled, presentedLines, presented, brokenText}
+use Rattle.spec_public.specs.Public.{doubled, presentedLines, presented, brokenText}
 use Rattle.spec_loops.specs.Shrinks.{quotedTurn-small}
 use Rattle.spec_texts_back.specs.Tests.{and-left, and-right, and-both, all-head, all-tail, all-left, all-right, all-imp, all-and}
 use Rattle.spec_texts_back.specs.Pieces.{tag-back, noEnd, visible-noEnd}

@@ -46,7 +46,7 @@ use Rattle.base_walk.proofs.Calls.{splits, asks-nothing, lands-at}
 use Rattle.base_walk.proofs.Locals.{Cell, vacant, holds, locals, Dies, allocs-all, frees-all}
 use Rattle.base_walk.proofs.Loans.{again as slice-at, Own}
 use Rattle.api_boundary.specs.Told.{WriteTold}
-use Rattle.api_head.specs.Numbers.{headFrom}
+use Rattle.spec_contracts.specs.Numbers.{headFrom}
 use Rattle.api_told.specs.Telling.{Returns}
 use Rattle.base_rows.specs.Rows.{flat}
 use Rattle.spec_contracts.specs.Writes.{WriteAnswered}

@@ -1,6 +1,6 @@
 -- `api_head::no_head` meets its contract.
 use mathlib.Core.Path.{refl}
-use Rattle.api_head.specs.Numbers.{outside}
+use Rattle.spec_contracts.specs.Numbers.{outside}
 use Rattle.api_head.proofs.no_head.Statement.{statement}
 use Rattle.api_head.proofs.no_head.Tie as tie
 

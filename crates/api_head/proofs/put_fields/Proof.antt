@@ -1,7 +1,7 @@
 -- `api_head::put_fields` meets its contract.
 use borrow.Author.Needs.{needs}
 use Rattle.base_pen.specs.Pen.{writes-append}
-use Rattle.api_head.specs.Numbers.{fieldNumbers}
+use Rattle.spec_contracts.specs.Numbers.{fieldNumbers}
 use Rattle.api_head.proofs.put_fields.Statement.{statement}
 use Rattle.api_head.proofs.put_fields.Tie as tie
 

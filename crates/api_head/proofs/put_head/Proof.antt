@@ -1,7 +1,7 @@
 -- `api_head::put_head` meets its contract.
 use borrow.Author.Needs.{needs}
 use Rattle.base_pen.specs.Pen.{writes-append}
-use Rattle.api_head.specs.Numbers.{headNumbers}
+use Rattle.spec_contracts.specs.Numbers.{headNumbers}
 use Rattle.api_head.proofs.put_head.Statement.{statement}
 use Rattle.api_head.proofs.put_head.Tie as tie
 

@@ -1,7 +1,7 @@
 -- `api_head::put_locus` meets its contract.
 use borrow.Author.Needs.{needs}
 use Rattle.base_pen.specs.Pen.{writes-append}
-use Rattle.api_head.specs.Numbers.{locusNumbers}
+use Rattle.spec_contracts.specs.Numbers.{locusNumbers}
 use Rattle.api_head.proofs.put_locus.Statement.{statement}
 use Rattle.api_head.proofs.put_locus.Tie as tie
 

@@ -1,7 +1,7 @@
 -- `api_head::put_rest` meets its contract.
 use borrow.Author.Needs.{needs}
 use Rattle.base_pen.specs.Pen.{writes-append}
-use Rattle.api_head.specs.Numbers.{restNumbers}
+use Rattle.spec_contracts.specs.Numbers.{restNumbers}
 use Rattle.api_head.proofs.put_rest.Statement.{statement}
 use Rattle.api_head.proofs.put_rest.Tie as tie
 

@@ -1,0 +1,1 @@
+// Nothing runs here: specs/ says what the public documents say, apart from the Rust.
