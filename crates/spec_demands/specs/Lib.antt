@@ -1,6 +1,3 @@
--- What holds of every call of the reader, the writers, the boundary and the function behind the programs, by their contracts (crates/spec_contracts) alone: a file for each demand.
-pub mod Demand1
-pub mod Demand2
-pub mod Demand3
+-- tmp
 pub mod Answers
 pub mod HeadSmall
