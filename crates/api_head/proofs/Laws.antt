@@ -1,10 +1,10 @@
 -- The ways out of the functions, each as its test leaves it.
-use Prim.Native.Nat.{ℕ, zero, suc, _+_, _-_, _≤_, _<_}
-use mathlib.Core.Path.{_≡_, refl, sym}
+use Prim.Native.Nat.{ℕ, zero, suc, _+_, _-_, _≤_, _<_, _^_}
+use mathlib.Core.Path.{_≡_, refl, sym, ap, _∙_}
 use mathlib.Core.Bool.{Bool, true, false, _&&_, not}
-use mathlib.Core.List.{List, [], _∷_}
+use mathlib.Core.List.{List, [], _∷_, _++_, append-nil}
 use native.Mathlib.Omega.{arith}
-use lib.ListN.{length, getD, List·getD-eq-default}
+use lib.ListN.{length, getD, drop-of-length-le, List·getD-eq-default}
 use lib.Dec.{eqb}
 use borrow.Author.Tests.{lt-ltb, le-ltb, le-leb, lt-leb}
 use Rattle.spec_format.specs.declared.Text.{Text}
@@ -18,7 +18,7 @@ use Rattle.spec_format.specs.declared.Length.the-variants as bases
 use Rattle.spec_format.specs.declared.Dated.{Dated}
 use Rattle.spec_format.specs.declared.Dated.the-variants as dated
 use Rattle.spec_format.specs.declared.Head.{Head}
-use Rattle.base_pen.specs.Pen.{Writes, writes-append}
+use Rattle.base_pen.specs.Pen.{Writes, writes-append, wrote-eq}
 use Rattle.spec_contracts.specs.Numbers.{largest, textNumbers, sourceNumbers, lengthNumbers, dateNumbers, above, lower, textFrom, sourceFrom, lengthFrom}
 use Rattle.spec_contracts.specs.Numbers.{onDate, dateFrom, textIn, spanIn, sourceIn, dateIn, headIn, outside, headFrom}
 
@@ -101,6 +101,12 @@ module _ (ns : List ℕ) (length : Length) (name molecule definition accession v
   unfolding headIn
   head-is e₁ e₂ e₃ e₄ e₅ e₆ e₇ e₈ e₉ f₁ f₂ f₃ f₄ f₅ f₆ f₇ f₈ =
       rw (e₁, e₂, e₃, e₄, e₅, e₆, e₇, e₈, e₉, f₁, f₂, f₃, f₄, f₅, f₆, f₇, f₈)
+
+-- as many numbers as an array has, put from its start, are what it then holds
+pub filled : (old text new : List ℕ) (k : ℕ) → length text ≡ length old → length old < 2 ^ 64 → Writes old 0 text new k → new ≡ text
+filled old text new k e h w =
+    let past : length old ≤ 0 + length text = omega (arith, e) in
+    wrote-eq (w .fit (omega (arith, e))) (omega (arith, e)) ∙ ap (λ (rest : List ℕ). text ++ rest) (drop-of-length-le old past) ∙ append-nil text
 
 -- what was put, by which value it is
 module _ (l n : List ℕ) (i k : ℕ) where

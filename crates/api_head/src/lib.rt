@@ -1,4 +1,4 @@
-// The head of a table as 31 numbers and back, for callers that pass numbers and slices only. specs/Numbers.antt has the layout.
+// The head of a table as 31 numbers and back, for callers that pass numbers and slices only. specs/Numbers.antt of `spec_contracts` has the layout.
 use base_arith::both;
 use base_pen::put_four;
 use base_pen::put_number;
@@ -133,13 +133,21 @@ fn put_rest(out: &mut [usize], at: usize, head: Head) -> usize
     put_number(out, c, head.letters)
 }
 
-// The numbers of a head; what falls past the end of `out` is lost.
-pub fn put_head(out: &mut [usize], at: usize, head: Head) -> usize
+fn put_head(out: &mut [usize], at: usize, head: Head) -> usize
     ensures { λ r. ⌜ Writes (now (out .entry)) at (headNumbers head) (now (out .exit)) r ⌝ }
 {
     let a = put_locus(out, at, head);
     let b = put_fields(out, a, head);
     put_rest(out, b, head)
+}
+
+// The numbers of a head.
+pub fn head_numbers(head: Head) -> [usize; 31]
+    ensures { λ r. ⌜ r ≡ headNumbers head ⌝ }
+{
+    let mut numbers = [0usize; 31];
+    put_head(&mut numbers, 0, head);
+    numbers
 }
 
 // ---- from numbers

@@ -1,12 +1,8 @@
--- From what was put to what is told.
-use Prim.Native.Nat.{ℕ, _+_, _<_, _^_}
-use mathlib.Core.Path.{_≡_, _∙_}
-use mathlib.Core.List.{List, [], _∷_, _++_}
-use native.Mathlib.Omega.{arith}
-use lib.ListN.{length}
-use Rattle.spec_format.specs.Record.{number, placeWith}
-use Rattle.spec_format.specs.Answers.{valueWith}
-use Rattle.spec_format.specs.Answers as write
+-- What is told, by which answer it is.
+use Prim.Native.Nat.{ℕ}
+use mathlib.Core.Path.{_≡_}
+use mathlib.Core.List.{List}
+use Rattle.spec_format.specs.Numbers.{unreadNumber, unreadPlace, writeNumber, writeValue}
 use Rattle.spec_format.specs.declared.Head.{Head}
 use Rattle.spec_format.specs.declared.Sizes.{Sizes}
 use Rattle.spec_format.specs.declared.Unread.{Unread}
@@ -14,21 +10,19 @@ use Rattle.spec_format.specs.declared.ReadAnswer.{ReadAnswer}
 use Rattle.spec_format.specs.declared.ReadAnswer.the-variants as answer
 use Rattle.spec_format.specs.declared.WriteAnswer.{WriteAnswer}
 use Rattle.spec_contracts.specs.Numbers.{headNumbers}
-use Rattle.api_head.specs.Back.{head-length}
-use Rattle.base_pen.specs.Pen.{Writes}
-use Rattle.api_told.specs.Telling.{sizeNumbers, Tells, Returns}
+use Rattle.spec_contracts.specs.Told.{noHead, noSizes, reading, writing}
 
-module _ (at : ℕ) (a : ReadAnswer) (told told′ : List ℕ) (k : ℕ) where
-  pub done-told : (h : Head) (p : ℕ) → a ≡ answer.Done h p → Writes told 0 (p ∷ [] ++ headNumbers h) told′ k → Tells at a told told′ 0
-  done-told h p e w =
-      let fit : 0 + length (p ∷ [] ++ headNumbers h) < 2 ^ 64 = omega (arith, head-length h) in
-      record { is = rw e; tells = rw e (w .fit fit .is) }
+module _ (at : ℕ) (a : ReadAnswer) where
+  pub done-told : (h : Head) (p : ℕ) (numbers : List ℕ) (none : Sizes) → a ≡ answer.Done h p → numbers ≡ headNumbers h → none ≡ noSizes
+      → record { number = 0; place = p; head = numbers; sizes = none } ≡ reading at a
+  done-told h p numbers none e f g = rw (e, f, g)
 
-  pub refused-told : (why : Unread) (p n : ℕ) → a ≡ answer.Refused why → p ≡ placeWith why at → n ≡ number why → Writes told 0 (p ∷ []) told′ k → Tells at a told told′ n
-  refused-told why p n e f g w = record { is = rw e g; tells = rw (e, ← f) (w .fit (omega arith) .is) }
+  pub refused-told : (why : Unread) (n p : ℕ) (none : Sizes) → a ≡ answer.Refused why → n ≡ unreadNumber why → p ≡ unreadPlace why at → none ≡ noSizes
+      → record { number = n; place = p; head = noHead; sizes = none } ≡ reading at a
+  refused-told why n p none e f g h = rw (e, f, g, h)
 
-  pub room-told : (n : Sizes) → a ≡ answer.Room n → Writes told 0 (at ∷ [] ++ sizeNumbers n) told′ k → Tells at a told told′ 6
-  room-told n e w = record { is = rw e; tells = rw e (w .fit (omega arith) .is) }
+  pub room-told : (n : Sizes) → a ≡ answer.Room n → record { number = 6; place = at; head = noHead; sizes = n } ≡ reading at a
+  room-told n e = rw e
 
-pub value-told : (a : WriteAnswer) (told told′ : List ℕ) (k v n : ℕ) → v ≡ valueWith a → n ≡ write.number a → Writes told 0 (v ∷ []) told′ k → Returns a told told′ n
-value-told a told told′ k v n e f w = record { is = f; tells = w .fit (omega arith) .is ∙ rw e }
+pub value-told : (a : WriteAnswer) (n v : ℕ) → n ≡ writeNumber a → v ≡ writeValue a → record { number = n; count = v } ≡ writing a
+value-told a n v e f = rw (e, f)

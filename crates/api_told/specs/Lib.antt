@@ -1,2 +1,0 @@
--- What is returned and told of an answer.
-pub mod Telling
