@@ -1,4 +1,3 @@
--- What holds of every call of the reader and of the writers, by their contracts alone.
-pub mod Reading
-pub mod Writing
-pub mod Joined
+-- tmp
+pub mod Answers
+pub mod HeadSmall

@@ -85,9 +85,8 @@ what-was-read-can-be-written s at q h place d l = done-fine s at q h place (done
 -- The bytes that the keeping writer counts are read as done, up to their end. The head that is answered and the rooms afterwards hold the table of
 -- the rooms that were written.
 pub record Back (r : Rooms) (h : Head) (text : List ℕ) (k : ℕ) (q : Rooms) : Type 0 where
-  pub head : Head
-  pub done : readAnswer text 0 q ≡ read.Done head k
-  pub same : tableOf (roomsAfter text 0 q) head ≡ tableOf r h
+  pub done : readAnswer text 0 q ≡ read.Done (headOf (tableOf r h)) k
+  pub same : tableOf (roomsAfter text 0 q) (headOf (tableOf r h)) ≡ tableOf r h
 
 -- When the keeping writer answers that k bytes are written, of a table whose LOCUS length is below 2^32, these k bytes come back. They do so
 -- through any rooms that the table fits, whatever those held, if k is at most 16,777,216.
@@ -100,11 +99,7 @@ pub rooms-come-back :
 rooms-come-back W truncate escape r h old new k e s n m q f =
     let l = head-length-fits r h (λ j d. omega (arith, n j d)) in
     let u : k ≤ most = omega (arith, m) in
-    record {
-      head = headOf (tableOf r h);
-      done = read-done W truncate escape r h old k e l u q f new s;
-      same = read-back W truncate escape r h old k e l u q f new s;
-    }
+    record { done = read-done W truncate escape r h old k e l u q f new s; same = read-back W truncate escape r h old k e l u q f new s }
 
 -- ---- number 13
 

@@ -26,7 +26,7 @@ use Rattle.judge_record.specs.declared.Verdict.{Verdict}
 use Rattle.judge_record.specs.declared.Verdict.the-variants as verdict
 use Rattle.write_record_parts.specs.RestVerdict.{verdictBy, tableFine, tableKept}
 use Rattle.spec_format.specs.Impossible.{impossible}
-use Rattle.spec_contracts.specs.Writes.{AnsweredBy, WriteAnswered}
+use Rattle.spec_contracts.specs.Writes.{answerBy, LengthFits, WriteAnswered}
 use Rattle.spec_format.specs.Record.{most}
 
 -- ---- a call but for its rows
@@ -75,17 +75,25 @@ ruleOf false W truncate escape r h = noRule W truncate escape r h
 unfoldable pub due : Asking → List Feature → ℕ → WriteAnswer
 due a rows n = writeAnswer (ruleOf (a .how .keeping)) (a .how .width) (a .how .truncate) (a .how .escape) (rowsOf a rows) (a .head) n
 
-answered-by : (keeping : Bool) (W : ℕ) (truncate escape : Bool) (r : Rooms) (h : Head) (old new : List ℕ) (x : WriteAnswer)
-    → x ≡ writeAnswer (ruleOf keeping) W truncate escape r h (length old) → new ≡ sliceAfter x (written W truncate escape (tableOf r h)) old
-    → AnsweredBy keeping W truncate escape r h old new x
+-- the work has ended with the answer x, and `new` is the slice that was `old`
+pub record Ended (a : Asking) (rows : List Feature) (old new : List ℕ) (x : WriteAnswer) : Type 0 where
+  pub is : x ≡ due a rows (length old)
+  pub slice : new ≡ sliceAfter x (textOf a rows) old
+
+due-by : (keeping : Bool) (W : ℕ) (truncate escape : Bool) (r : Rooms) (h : Head) (n : ℕ) → writeAnswer (ruleOf keeping) W truncate escape r h n ≡ answerBy keeping W truncate escape r h n
 unfolding plainAnswer keepingAnswer
-answered-by true W truncate escape r h old new x e s = record { is = e; slice = s }
-answered-by false W truncate escape r h old new x e s = record { is = e; slice = s }
+due-by true W truncate escape r h n = refl
+due-by false W truncate escape r h n = refl
 
 module _ (a : Asking) (rows : List Feature) (old new : List ℕ) (x : WriteAnswer) where
-  pub answers : x ≡ due a rows (length old) → new ≡ sliceAfter x (textOf a rows) old → WriteAnswered (a .how) (rowsOf a rows) (a .head) old new x
+  -- that is the writer's contract
+  pub ended-well : LengthFits (a .head .length) → Ended a rows old new x → WriteAnswered (a .how) (rowsOf a rows) (a .head) old new x
   unfolding due
-  answers e s = answered-by (a .how .keeping) (a .how .width) (a .how .truncate) (a .how .escape) (rowsOf a rows) (a .head) old new x e s
+  ended-well f e =
+      record { is = e .is ∙ due-by (a .how .keeping) (a .how .width) (a .how .truncate) (a .how .escape) (rowsOf a rows) (a .head) (length old); slice = e .slice; fits = f }
+
+  pub answers : x ≡ due a rows (length old) → new ≡ sliceAfter x (textOf a rows) old → Ended a rows old new x
+  answers e s = record { is = e; slice = s }
 
 -- ---- 12 and 10
 

@@ -22,9 +22,8 @@ use Rattle.write_record_parts.specs.Split.{featureAt}
 use Rattle.spec_format.specs.declared.How.{How}
 use Rattle.judge_rooms.specs.Parts.{noRows}
 use Rattle.judge_record.specs.Rest.{Passed}
-use Rattle.write_record_turns.specs.Answered.{Asking, asking, rowsOf, restOf, textOf, textFrom, due, Asked}
+use Rattle.write_record_turns.specs.Answered.{Asking, asking, rowsOf, restOf, textOf, textFrom, due, Ended, Asked}
 use Rattle.write_record_turns.specs.declared.State.{State}
-use Rattle.spec_contracts.specs.Writes.{WriteAnswered}
 use Rattle.spec_format.specs.Record.{most}
 
 -- ---- states
@@ -64,7 +63,7 @@ pub record Putting (a : Asking) (rows : List Feature) (old : List ℕ) (s : Stat
   pub left : Left old 0 (textOf a rows) out (s .at) (textFrom a rows (s .row))
 
 abbrev pub HeldBy : Bool → Bool → Asking → List Feature → List ℕ → State → List ℕ → Type 0
-HeldBy false p a rows old s out = WriteAnswered (a .how) (rowsOf a rows) (a .head) old out (s .answer)
+HeldBy false p a rows old s out = Ended a rows old out (s .answer)
 HeldBy true false a rows old s out = Judged a rows old s out
 HeldBy true true a rows old s out = Putting a rows old s out
 

@@ -12,10 +12,10 @@ use Rattle.base_rows.specs.declared.Feature.{Feature}
 use Rattle.base_rows.specs.declared.Fetched.{Fetched}
 use Rattle.judge_rooms.specs.Facts.{features-each, rooms-in}
 use Rattle.judge_rooms.specs.Parts.{noRows}
-use Rattle.write_record_turns.specs.Answered.{Asking, rowsOf, restOf, Asked}
+use Rattle.write_record_turns.specs.Answered.{Asking, rowsOf, restOf, Asked, ended-well}
 use Rattle.write_record_turns.specs.declared.State.{State}
 use Rattle.spec_format.specs.Impossible.{impossible}
-use Rattle.spec_contracts.specs.Writes.{WriteAnswered}
+use Rattle.spec_contracts.specs.Writes.{LengthFits, WriteAnswered}
 use Rattle.write_record_turns.specs.States.{Judged, Putting, HeldBy, Held, Judges, Decides, Puts, Ends, Steady, Steps}
 
 module _ (a : Asking) (rows : List Feature) (old : List ℕ) (s : State) (out : List ℕ) (g : s .going ≡ true) (k : Held a rows old s out) where
@@ -69,6 +69,6 @@ steady a rows old s out f g k e = go (s .putting) refl
     go true p = let j : Putting a rows old s out = putting-of a rows old s out g k p in asked-steady a rows s f (j .asked) (j .order) (λ y. j .rooms) e
 
 -- where nothing is left to do, the answer stands
-pub ended-answer : (a : Asking) (rows : List Feature) (old : List ℕ) (s : State) (out : List ℕ) → s .going ≡ false → Held a rows old s out
+pub ended-answer : (a : Asking) (rows : List Feature) (old : List ℕ) (s : State) (out : List ℕ) → LengthFits (a .head .length) → s .going ≡ false → Held a rows old s out
     → WriteAnswered (a .how) (rowsOf a rows) (a .head) old out (s .answer)
-ended-answer a rows old s out g k = subst (λ (b : Bool). HeldBy b (s .putting) a rows old s out) g k
+ended-answer a rows old s out f g k = ended-well a rows old out (s .answer) f (subst (λ (b : Bool). HeldBy b (s .putting) a rows old s out) g k)

@@ -54,6 +54,7 @@ use Rattle.spec_format.specs.Rooms.{roomsIn}
 use Rattle.write_record_turns.specs.Answered.{asking, Asking}
 use Rattle.write_record_turns.specs.States.{Starts, Steady, Steps, Held, turnsLeft}
 use Rattle.write_record_turns.specs.Turns.{steady, ended-answer}
+use Rattle.write_record.proofs.Typed.{length-fits}
 use Rattle.base_rows.specs.declared.Feature.{Feature}
 use Rattle.base_rows.proofs.Feature as Feature-is
 use Rattle.base_rows.proofs.Feature.Laws as Feature-has
@@ -514,7 +515,7 @@ module _ {M : Type 1} (𝓤 : URA M) (H : Heap 𝓤) (A : Atoms 𝓤) (W : Given
         module _ (test : ((i .state) .going) ≡ false) where
           -- the law, and the end
           ended : WriteAnswered how (roomsIn (texts .now) (references .now) (comments .now) (flat (rows .now)) (qualifiers .now) (letters .now)) head (out .now) (i .out-now) ((i .state) .answer)
-          ended = ended-answer call-of (rows .now) (out .now) (i .state) (i .out-now) test (i .holds-on)
+          ended = ended-answer call-of (rows .now) (out .now) (i .state) (i .out-now) (length-fits (head .length) _ (head-is .1 .1 .1 .0)) test (i .holds-on)
 
           abbrev at-last : List (Item 𝓤)
           at-last = ‵ (flft κ₀ q₀) ∷ ‵ (flft κ₁ q₁) ∷ ‵ (flft κ₂ q₂) ∷ ‵ (flft κ₃ q₃) ∷ ‵ (flft κ₄ q₄) ∷ ‵ (flft κ₅ q₅) ∷ ‵ (flft κ₆ q₆) ∷ ‵ (out-own (i .out-now)) ∷ ‵ texts-own ∷ ‵ references-own ∷ ‵ comments-own ∷ ‵ rows-own ∷ ‵ qualifiers-own ∷ ‵ letters-own ∷ []

@@ -1,0 +1,194 @@
+-- Why the demands hold: what the answers of the definitions say, number by number.
+use Prim.Native.Nat.{ℕ, _+_, _*_, _/_, _≤_, _<_}
+use native.Mathlib.Omega.{arith}
+use mathlib.Core.Bool.{Bool, true, false, _&&_}
+use mathlib.Core.List.{List}
+use mathlib.Core.Path.{_≡_, refl, sym, ap, _∙_}
+use lib.Dec.{leb}
+use lib.ListN.{length, replicate, length-replicate}
+use borrow.Author.Tests.{le-leb, lt-leb, leb-true, leb-false}
+use Rattle.spec_format.specs.Answers.{room, noRule, keepingRules, writeAnswer, plainAnswer, keepingAnswer, sliceAfter}
+use Rattle.spec_format.specs.Bytes.{pick}
+use Rattle.spec_format.specs.Impossible.{impossible}
+use Rattle.spec_format.specs.Keeping.{keeps}
+use Rattle.spec_format.specs.Numbers.{unreadNumber, readNumber, unwrittenNumber, writeNumber}
+use Rattle.spec_format.specs.Record.{Outcome, Read, Not, readAt}
+use Rattle.spec_format.specs.Rooms.{Rooms, tableOf, roomsFine, layout, sizes, fits, headOf, overRooms, answerOf, readAnswer, roomsOf, roomsAfter}
+use Rattle.spec_format.specs.Table.{Table}
+use Rattle.spec_format.specs.WellFormed.{widthFine, wellFormed}
+use Rattle.spec_format.specs.Write.{written}
+use Rattle.spec_format.specs.declared.Head.{Head}
+use Rattle.spec_format.specs.declared.How.{How}
+use Rattle.spec_format.specs.declared.ReadAnswer.{ReadAnswer}
+use Rattle.spec_format.specs.declared.ReadAnswer.the-variants as read
+use Rattle.spec_format.specs.declared.Sizes.{Sizes}
+use Rattle.spec_format.specs.declared.Unread.{Unread}
+use Rattle.spec_format.specs.declared.Unread.the-variants as unread
+use Rattle.spec_format.specs.declared.Unwritten.{Unwritten}
+use Rattle.spec_format.specs.declared.Unwritten.the-variants as unwritten
+use Rattle.spec_format.specs.declared.WriteAnswer.{WriteAnswer}
+use Rattle.spec_format.specs.declared.WriteAnswer.the-variants as answer
+use Rattle.spec_contracts.specs.Writes.{answerBy, answerDue, textDue}
+
+-- ---- the reader: a refusal is neither 0 nor 6
+
+pub unread-not-zero : (why : Unread) → unreadNumber why ≡ 0 → ⊥
+unread-not-zero unread.AtEnd e = impossible cc
+unread-not-zero unread.Unended e = impossible cc
+unread-not-zero unread.BadPlace e = impossible cc
+unread-not-zero unread.NoLocus e = impossible cc
+unread-not-zero unread.TwoDefinitions e = impossible cc
+unread-not-zero unread.NoSlashes e = impossible cc
+unread-not-zero unread.OtherLength e = impossible cc
+unread-not-zero unread.BadLetter e = impossible cc
+
+pub unread-not-six : (why : Unread) → unreadNumber why ≡ 6 → ⊥
+unread-not-six unread.AtEnd e = impossible cc
+unread-not-six unread.Unended e = impossible cc
+unread-not-six unread.BadPlace e = impossible cc
+unread-not-six unread.NoLocus e = impossible cc
+unread-not-six unread.TwoDefinitions e = impossible cc
+unread-not-six unread.NoSlashes e = impossible cc
+unread-not-six unread.OtherLength e = impossible cc
+unread-not-six unread.BadLetter e = impossible cc
+
+pub unread-most : (why : Unread) → unreadNumber why ≤ 9
+unread-most unread.AtEnd = omega arith
+unread-most unread.Unended = omega arith
+unread-most unread.BadPlace = omega arith
+unread-most unread.NoLocus = omega arith
+unread-most unread.TwoDefinitions = omega arith
+unread-most unread.NoSlashes = omega arith
+unread-most unread.OtherLength = omega arith
+unread-most unread.BadLetter = omega arith
+
+-- ---- what the definitions answer, lent rooms q, and leave
+
+module _ (s : List ℕ) (at : ℕ) (q : Rooms) where
+  pub answer-read : (t : Table) (rest : List ℕ) → readAt s at ≡ Read t rest → readAnswer s at q ≡ answerOf (length s) q (Read t rest)
+  unfolding readAnswer
+  answer-read t rest e = rw e
+
+  pub answer-short : (t : Table) (rest : List ℕ) → readAt s at ≡ Read t rest → fits (sizes t) q ≡ false → readAnswer s at q ≡ read.Room (sizes t)
+  unfolding readAnswer answerOf
+  answer-short t rest e f = rw (e, f)
+
+  pub answer-number : (t : Table) (rest : List ℕ) (b : Bool) → readAt s at ≡ Read t rest → fits (sizes t) q ≡ b → readNumber (readAnswer s at q) ≡ pick b 0 6
+  unfolding readAnswer answerOf
+  answer-number t rest true e f = rw (e, f)
+  answer-number t rest false e f = rw (e, f)
+
+  pub answer-not : (why : Unread) → readAt s at ≡ Not why → readNumber (readAnswer s at q) ≡ unreadNumber why
+  unfolding readAnswer answerOf
+  answer-not why e = rw e
+
+  pub after-same : (readNumber (readAnswer s at q) ≡ 0 → ⊥) → roomsAfter s at q ≡ q
+  unfolding readAnswer answerOf roomsAfter roomsOf
+  after-same n = go (readAt s at) refl
+    where
+      fitted : (t : Table) (rest : List ℕ) → readAt s at ≡ Read t rest → (b : Bool) → fits (sizes t) q ≡ b → roomsAfter s at q ≡ q
+      fitted t rest e true f = absurd (n (answer-number t rest true e f))
+      fitted t rest e false f = rw (e, f)
+
+      go : (o : Outcome) → readAt s at ≡ o → roomsAfter s at q ≡ q
+      go (Read t rest) e = fitted t rest e (fits (sizes t) q) refl
+      go (Not why) e = rw e
+
+  -- where the number is 0 the rooms have the table's layout over what they held
+  pub after-laid : (t : Table) (rest : List ℕ) → readAt s at ≡ Read t rest → readNumber (readAnswer s at q) ≡ 0 → roomsAfter s at q ≡ overRooms (layout t) q
+  unfolding roomsAfter roomsOf
+  after-laid t rest e n = go (fits (sizes t) q) refl
+    where
+      go : (b : Bool) → fits (sizes t) q ≡ b → roomsAfter s at q ≡ overRooms (layout t) q
+      go true f = rw (e, f)
+      go false f = let x = answer-number t rest false e f in impossible cc
+
+-- ---- rooms of given sizes
+
+abbrev pub roomsFor : Sizes → Rooms
+roomsFor n =
+    record {
+      texts = replicate (n .texts) 0;
+      references = replicate (14 * n .references) 0;
+      comments = replicate (2 * n .comments) 0;
+      features = replicate (6 * n .features) 0;
+      qualifiers = replicate (4 * n .qualifiers) 0;
+      letters = replicate (n .letters) 0;
+    }
+
+six : (a b c d e f : Bool) → a ≡ true → b ≡ true → c ≡ true → d ≡ true → e ≡ true → f ≡ true → (a && (b && (c && (d && (e && f))))) ≡ true
+six a b c d e f p q r s t u = cc
+
+long : (k : ℕ) → length (replicate {A = ℕ} k 0) ≡ k
+long k = length-replicate {A = ℕ} k 0
+
+pub rooms-for-fit : (n : Sizes) → fits n (roomsFor n) ≡ true
+unfolding fits
+rooms-for-fit n =
+    six _ _ _ _ _ _ (le-leb _ _ (omega (arith, long (n .texts)))) (le-leb _ _ (omega (arith, long (14 * n .references))))
+    (le-leb _ _ (omega (arith, long (2 * n .comments)))) (le-leb _ _ (omega (arith, long (6 * n .features))))
+    (le-leb _ _ (omega (arith, long (4 * n .qualifiers)))) (le-leb _ _ (omega (arith, long (n .letters))))
+
+-- ---- the writers
+
+pub unwritten-not-zero : (why : Unwritten) → unwrittenNumber why ≡ 0 → ⊥
+unwritten-not-zero unwritten.BadRooms e = impossible cc
+unwritten-not-zero unwritten.NoLayout e = impossible cc
+unwritten-not-zero unwritten.BadWidth e = impossible cc
+unwritten-not-zero unwritten.NotKept e = impossible cc
+
+pub unwritten-not-six : (why : Unwritten) → unwrittenNumber why ≡ 6 → ⊥
+unwritten-not-six unwritten.BadRooms e = impossible cc
+unwritten-not-six unwritten.NoLayout e = impossible cc
+unwritten-not-six unwritten.BadWidth e = impossible cc
+unwritten-not-six unwritten.NotKept e = impossible cc
+
+pub slice-same : (a : WriteAnswer) (text old : List ℕ) → (writeNumber a ≡ 0 → ⊥) → sliceAfter a text old ≡ old
+slice-same (answer.Done k) text old h = absurd (h refl)
+slice-same (answer.Refused why) text old h = refl
+slice-same (answer.Room k) text old h = refl
+
+-- what is due without regard to the room: why not, or that it is the room that decides
+pub data Due (f : ℕ → WriteAnswer) (k : ℕ) : Type 0 where
+  never : (why : Unwritten) → ((n : ℕ) → f n ≡ answer.Refused why) → Due f k
+  byRoom : ((n : ℕ) → f n ≡ room n k) → Due f k
+
+module _ (kept : ℕ → Bool → Bool → Rooms → Head → Bool) (W : ℕ) (truncate escape : Bool) (r : Rooms) (h : Head) where
+  due-of : Due (writeAnswer kept W truncate escape r h) (length (written W truncate escape (tableOf r h)))
+  due-of = go (widthFine W) refl (roomsFine r h) refl (wellFormed W truncate escape (tableOf r h)) refl (kept W truncate escape r h) refl
+    where
+      go :
+          (a : Bool) → widthFine W ≡ a → (b : Bool) → roomsFine r h ≡ b → (c : Bool) → wellFormed W truncate escape (tableOf r h) ≡ c → (d : Bool) →
+          kept W truncate escape r h ≡ d → Due (writeAnswer kept W truncate escape r h) (length (written W truncate escape (tableOf r h)))
+      go false p b q c s d u = never unwritten.BadWidth (λ n. rw p)
+      go true p false q c s d u = never unwritten.BadRooms (λ n. rw (p, q))
+      go true p true q false s d u = never unwritten.NoLayout (λ n. rw (p, q, s))
+      go true p true q true s false u = never unwritten.NotKept (λ n. rw (p, q, s, u))
+      go true p true q true s true u = byRoom (λ n. rw (p, q, s, u))
+
+due-by : (keeping : Bool) (W : ℕ) (truncate escape : Bool) (r : Rooms) (h : Head) → Due (answerBy keeping W truncate escape r h) (length (written W truncate escape (tableOf r h)))
+unfolding plainAnswer keepingAnswer
+due-by true W truncate escape r h = due-of keepingRules W truncate escape r h
+due-by false W truncate escape r h = due-of noRule W truncate escape r h
+
+pub what-is-due : (how : How) (r : Rooms) (h : Head) → Due (answerDue how r h) (length (textDue how (tableOf r h)))
+what-is-due how r h = due-by (how .keeping) (how .width) (how .truncate) (how .escape) r h
+
+pub room-number : (n k : ℕ) (b : Bool) → leb k n ≡ b → writeNumber (room n k) ≡ pick b 0 6
+room-number n k true e = rw e
+room-number n k false e = rw e
+
+-- a writer that is done passed 12, 10 and 11
+pub record Passed (W : ℕ) (truncate escape : Bool) (r : Rooms) (h : Head) : Type 0 where
+  pub rooms : roomsFine r h ≡ true
+  pub formed : wellFormed W truncate escape (tableOf r h) ≡ true
+
+pub keeping-passed : (W : ℕ) (truncate escape : Bool) (r : Rooms) (h : Head) (n k : ℕ) → keepingAnswer W truncate escape r h n ≡ answer.Done k → Passed W truncate escape r h
+unfolding keepingAnswer
+keeping-passed W truncate escape r h n k e = go (widthFine W) refl (roomsFine r h) refl (wellFormed W truncate escape (tableOf r h)) refl
+  where
+    go : (a : Bool) → widthFine W ≡ a → (b : Bool) → roomsFine r h ≡ b → (c : Bool) → wellFormed W truncate escape (tableOf r h) ≡ c → Passed W truncate escape r h
+    go true p true q true s = record { rooms = q; formed = s }
+    go true p true q false s = impossible cc
+    go true p false q c s = impossible cc
+    go false p b q c s = impossible cc

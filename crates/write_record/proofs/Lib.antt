@@ -1,0 +1,2 @@
+-- What the writer's walk cites.
+pub mod Typed
