@@ -1,5 +1,7 @@
 // One stored reading: the slice is read again, and the number, what is told with it and all of each room are held against what is stored.
-use api_told::tell_read;
+use api_told::reading_of;
+use spec_contracts::Reading;
+use spec_format::Sizes;
 use test_stored_lines::Checked;
 use test_stored_lines::among;
 use test_stored_lines::count_answer;
@@ -54,22 +56,44 @@ fn rooms_as_stored(
     text_as_stored(s, e, letters)
 }
 
+fn sizes_as_stored(stored: &[usize], sizes: Sizes) -> bool {
+    let texts = sizes.texts == number_at(stored, 1);
+    let references = sizes.references == number_at(stored, 2);
+    let comments = sizes.comments == number_at(stored, 3);
+    let features = sizes.features == number_at(stored, 4);
+    let qualifiers = sizes.qualifiers == number_at(stored, 5);
+    let letters = sizes.letters == number_at(stored, 6);
+    texts && (references && (comments && (features && (qualifiers && letters))))
+}
+
+// What is told with the number is the n numbers that are stored: the place, and with 0 the head, with 6 the sizes.
+fn told_as_stored(stored: &[usize; 256], n: usize, answer: Reading) -> bool {
+    if answer.place != number_at(stored, 0) {
+        return false;
+    }
+    if answer.number == 0 {
+        let head = answer.head;
+        return n == 32 && same_numbers(&stored[1..32], &head);
+    }
+    if answer.number == 6 {
+        let sizes = answer.sizes;
+        return n == 7 && sizes_as_stored(stored, sizes);
+    }
+    n == 1
+}
+
 // The number is one of those that may be answered, and what is told with it is as stored.
-fn answer_as_stored(
-    s: &[u8],
-    at: usize,
-    number: usize,
-    told: &[usize],
-    counts: &mut [usize],
-) -> Checked {
+fn answer_as_stored(s: &[u8], at: usize, answer: Reading, counts: &mut [usize]) -> Checked {
     let mut permitted = number_room();
-    let field = take_numbers(s, at, &mut permitted);
-    count_answer(counts, number_at(&permitted, 0), field.count);
-    let so_far = Checked {
+    let mut told = number_room();
+    let numbers = take_numbers(s, at, &mut permitted);
+    let field = take_numbers(s, numbers.next, &mut told);
+    count_answer(counts, number_at(&permitted, 0), numbers.count);
+    let same = told_as_stored(&told, field.count, answer);
+    Checked {
         next: field.next,
-        same: among(&permitted, field.count, number),
-    };
-    numbers_as_stored(s, so_far, told)
+        same: same && among(&permitted, numbers.count, answer.number),
+    }
 }
 
 // Reads into as much of each room as the call lends.
@@ -83,8 +107,7 @@ fn read_lent(
     features: &mut [usize],
     qualifiers: &mut [usize],
     letters: &mut [u8],
-    told: &mut [usize],
-) -> usize {
+) -> Reading {
     let a = lent(call, n, 1, texts.len());
     let b = lent(call, n, 2, references.len());
     let c = lent(call, n, 3, comments.len());
@@ -102,7 +125,7 @@ fn read_lent(
         &mut qualifiers[0..e],
         &mut letters[0..f],
     );
-    tell_read(told, at, answer)
+    reading_of(at, answer)
 }
 
 // Reads the slice at the place that the call names.
@@ -120,8 +143,7 @@ fn read_input(
     let mut features = number_room();
     let mut qualifiers = number_room();
     let mut letters = io::buffer();
-    let mut told = number_room();
-    let number = read_lent(
+    let answer = read_lent(
         input,
         call,
         n,
@@ -131,9 +153,8 @@ fn read_input(
         &mut features,
         &mut qualifiers,
         &mut letters,
-        &mut told,
     );
-    let answered = answer_as_stored(s, at, number, &told, counts);
+    let answered = answer_as_stored(s, at, answer, counts);
     rooms_as_stored(
         s,
         answered,

@@ -1,9 +1,9 @@
 // One stored writing: the table is written again by both writers, and their numbers, values and all of the slice are held against what is stored.
 use api_head::head_from;
-use api_told::tell_written;
+use api_told::writing_of;
+use spec_contracts::Writing;
 use spec_format::Head;
 use spec_format::How;
-use spec_format::WriteAnswer;
 use test_stored_lines::Checked;
 use test_stored_lines::count_answer;
 use test_stored_lines::lent;
@@ -12,36 +12,14 @@ use test_stored_lines::number_room;
 use test_stored_lines::take_numbers;
 use test_stored_lines::take_text;
 
-// Writes by one of the two writers, as the call says: width, truncation, escaping.
-fn write_by(
-    keeping: bool,
-    out: &mut [u8],
-    texts: &[u8],
-    references: &[usize],
-    comments: &[usize],
-    features: &[usize],
-    qualifiers: &[usize],
-    letters: &[u8],
-    head: Head,
-    call: &[usize],
-) -> WriteAnswer {
-    let how = How {
+// One of the two writers, as the call says: width, truncation, escaping.
+fn how_asked(call: &[usize], keeping: bool) -> How {
+    How {
         keeping: keeping,
         width: number_at(call, 0),
         truncate: number_at(call, 1) != 0,
         escape: number_at(call, 2) != 0,
-    };
-    test_rows::write(
-        out,
-        texts,
-        references,
-        comments,
-        features,
-        qualifiers,
-        letters,
-        head,
-        how,
-    )
+    }
 }
 
 // The slice afterwards is as stored: the bytes with 0, else untouched.
@@ -57,55 +35,23 @@ fn slice_as_stored(number: usize, out: &[u8], bytes: &[u8]) -> bool {
 fn answer_as_stored(
     stored: &[usize],
     from: usize,
-    number: usize,
-    value: usize,
+    answer: Writing,
     out: &[u8],
     bytes: &[u8],
 ) -> bool {
     if 2 < from {
         return false;
     }
-    if number != number_at(stored, from) {
+    if answer.number != number_at(stored, from) {
         return false;
     }
-    if value != number_at(stored, from + 1) {
+    if answer.count != number_at(stored, from + 1) {
         return false;
     }
-    slice_as_stored(number, out, bytes)
+    slice_as_stored(answer.number, out, bytes)
 }
 
-// Writes into as much of the slice as the call lends.
-fn write_lent(
-    keeping: bool,
-    out: &mut [u8],
-    texts: &[u8],
-    references: &[usize],
-    comments: &[usize],
-    features: &[usize],
-    qualifiers: &[usize],
-    letters: &[u8],
-    head: &[usize],
-    call: &[usize],
-    n: usize,
-    told: &mut [usize],
-) -> usize {
-    let length = lent(call, n, 3, out.len());
-    let answer = write_by(
-        keeping,
-        &mut out[0..length],
-        texts,
-        references,
-        comments,
-        features,
-        qualifiers,
-        letters,
-        head_from(head),
-        call,
-    );
-    tell_written(told, answer)
-}
-
-// One writer, whose number and value stand in `stored` from `from` on.
+// One writer, on as much of the slice as the call lends. Its number and value stand in `stored` from `from` on.
 fn written_as_stored(
     keeping: bool,
     from: usize,
@@ -115,17 +61,16 @@ fn written_as_stored(
     features: &[usize],
     qualifiers: &[usize],
     letters: &[u8],
-    head: &[usize],
+    head: Head,
     call: &[usize],
     n: usize,
     stored: &[usize],
     bytes: &[u8],
 ) -> bool {
     let mut out = io::buffer();
-    let mut told = number_room();
-    let number = write_lent(
-        keeping,
-        &mut out,
+    let length = lent(call, n, 3, out.len());
+    let answer = test_rows::write(
+        &mut out[0..length],
         texts,
         references,
         comments,
@@ -133,11 +78,9 @@ fn written_as_stored(
         qualifiers,
         letters,
         head,
-        call,
-        n,
-        &mut told,
+        how_asked(call, keeping),
     );
-    answer_as_stored(stored, from, number, number_at(&told, 0), &out, bytes)
+    answer_as_stored(stored, from, writing_of(answer), &out, bytes)
 }
 
 // Both writers.
@@ -148,7 +91,7 @@ fn both_as_stored(
     features: &[usize],
     qualifiers: &[usize],
     letters: &[u8],
-    head: &[usize],
+    head: Head,
     call: &[usize],
     n: usize,
     stored: &[usize],
@@ -184,10 +127,42 @@ fn both_as_stored(
         stored,
         bytes,
     );
-    if plain {
-        return keeping;
-    }
-    false
+    plain && keeping
+}
+
+// Both writers, on as much of each room as the call lends.
+fn lent_as_stored(
+    texts: &[u8],
+    references: &[usize],
+    comments: &[usize],
+    features: &[usize],
+    qualifiers: &[usize],
+    letters: &[u8],
+    head: Head,
+    call: &[usize],
+    n: usize,
+    stored: &[usize],
+    bytes: &[u8],
+) -> bool {
+    let a = lent(call, n, 4, texts.len());
+    let b = lent(call, n, 5, references.len());
+    let c = lent(call, n, 6, comments.len());
+    let d = lent(call, n, 7, features.len());
+    let e = lent(call, n, 8, qualifiers.len());
+    let f = lent(call, n, 9, letters.len());
+    both_as_stored(
+        &texts[0..a],
+        &references[0..b],
+        &comments[0..c],
+        &features[0..d],
+        &qualifiers[0..e],
+        &letters[0..f],
+        head,
+        call,
+        n,
+        stored,
+        bytes,
+    )
 }
 
 // The call and what is stored of it: the two writers' numbers and values, and the bytes.
@@ -212,14 +187,14 @@ fn write_table(
     let text = take_text(s, numbers.next, &mut bytes);
     count_answer(counts, number_at(&stored, 0), 1);
     count_answer(counts, number_at(&stored, 2), 1);
-    let same = both_as_stored(
+    let same = lent_as_stored(
         texts,
         references,
         comments,
         features,
         qualifiers,
         letters,
-        &head,
+        head_from(&head),
         &call,
         asked.count,
         &stored,
