@@ -66,14 +66,23 @@ fn sizes_as_stored(stored: &[usize], sizes: Sizes) -> bool {
     texts && (references && (comments && (features && (qualifiers && letters))))
 }
 
+fn head_as_stored(stored: &[usize], head: [usize; 31]) -> bool {
+    if stored.len() < 32 {
+        return false;
+    }
+    let from = 1;
+    let to = 32;
+    same_numbers(&stored[from..to], &head)
+}
+
 // What is told with the number is the n numbers that are stored: the place, and with 0 the head, with 6 the sizes.
-fn told_as_stored(stored: &[usize; 256], n: usize, answer: Reading) -> bool {
+fn told_as_stored(stored: &[usize], n: usize, answer: Reading) -> bool {
     if answer.place != number_at(stored, 0) {
         return false;
     }
     if answer.number == 0 {
         let head = answer.head;
-        return n == 32 && same_numbers(&stored[1..32], &head);
+        return n == 32 && head_as_stored(stored, head);
     }
     if answer.number == 6 {
         let sizes = answer.sizes;

@@ -51,7 +51,36 @@ fn answer_as_stored(
     slice_as_stored(answer.number, out, bytes)
 }
 
-// One writer, on as much of the slice as the call lends. Its number and value stand in `stored` from `from` on.
+// One writer, on as much of the slice as the call lends.
+fn write_lent(
+    keeping: bool,
+    out: &mut [u8],
+    texts: &[u8],
+    references: &[usize],
+    comments: &[usize],
+    features: &[usize],
+    qualifiers: &[usize],
+    letters: &[u8],
+    head: Head,
+    call: &[usize],
+    n: usize,
+) -> Writing {
+    let length = lent(call, n, 3, out.len());
+    let answer = test_rows::write(
+        &mut out[0..length],
+        texts,
+        references,
+        comments,
+        features,
+        qualifiers,
+        letters,
+        head,
+        how_asked(call, keeping),
+    );
+    writing_of(answer)
+}
+
+// One writer, whose number and value stand in `stored` from `from` on.
 fn written_as_stored(
     keeping: bool,
     from: usize,
@@ -68,9 +97,9 @@ fn written_as_stored(
     bytes: &[u8],
 ) -> bool {
     let mut out = io::buffer();
-    let length = lent(call, n, 3, out.len());
-    let answer = test_rows::write(
-        &mut out[0..length],
+    let answer = write_lent(
+        keeping,
+        &mut out,
         texts,
         references,
         comments,
@@ -78,9 +107,10 @@ fn written_as_stored(
         qualifiers,
         letters,
         head,
-        how_asked(call, keeping),
+        call,
+        n,
     );
-    answer_as_stored(stored, from, writing_of(answer), &out, bytes)
+    answer_as_stored(stored, from, answer, &out, bytes)
 }
 
 // Both writers.
@@ -138,7 +168,7 @@ fn lent_as_stored(
     features: &[usize],
     qualifiers: &[usize],
     letters: &[u8],
-    head: Head,
+    head: &[usize],
     call: &[usize],
     n: usize,
     stored: &[usize],
@@ -157,7 +187,7 @@ fn lent_as_stored(
         &features[0..d],
         &qualifiers[0..e],
         &letters[0..f],
-        head,
+        head_from(head),
         call,
         n,
         stored,
@@ -194,7 +224,7 @@ fn write_table(
         features,
         qualifiers,
         letters,
-        head_from(&head),
+        &head,
         &call,
         asked.count,
         &stored,
