@@ -1,5 +1,9 @@
+pub mod Tests
 pub mod Parts
+pub mod Lines
 pub mod LocusLine
-pub mod Value
+pub mod LocusOutside
+pub mod CommaLines
 pub mod FeatureLines
-pub mod OriginLines
+pub mod TextLines
+pub mod HeaderLines
