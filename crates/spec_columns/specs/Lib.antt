@@ -7,3 +7,5 @@ pub mod CommaLines
 pub mod FeatureLines
 pub mod TextLines
 pub mod HeaderLines
+pub mod QualifierLines
+pub mod OriginLines
