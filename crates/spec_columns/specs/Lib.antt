@@ -9,3 +9,6 @@ pub mod TextLines
 pub mod HeaderLines
 pub mod QualifierLines
 pub mod OriginLines
+pub mod Width
+pub mod RecordWidth
+pub mod RecordEnd

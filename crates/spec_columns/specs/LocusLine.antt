@@ -154,16 +154,25 @@ module _
       (both _ _ (same-as _ _ (p₉ .here)) (both _ _ (same-as _ _ (q₁ .here)) (both _ _ (same-as _ _ (q₂ .here)) (both _ _ (same-as _ _ (q₃ .here))
       (both _ _ (same-as _ _ (q₄ .here ∙ full 3 division l₅)) (both _ _ (same-as _ _ (q₅ .here)) (both _ _ (same-as _ _ (q₅ .next)) refl))))))))))))))
 
--- a line and its LF
-line-before : (x : List ℕ) → lineOf (x ++ bytes "\n") ≡ x
-line-before x = let e : length x ≡ length (x ++ bytes "\n") - 1 = simp length-append (omega arith) in take-at x (bytes "\n") _ e
+-- all that is written before the LF
+abbrev beforeEnd : Bool → Bool → Table → List ℕ
+beforeEnd truncate escape t =
+    bytes "LOCUS       " ++ nameAndLength (printedName truncate escape t) (lengthText t) ++ bytes " bp    " ++
+    padded 7 (moleculeText truncate (t .locus .molecule)) ++ bytes " " ++ padded 8 (topologyText (t .locus .circular)) ++ bytes " " ++
+    t .locus .division ++ bytes " " ++ dateText (printedDate (t .locus .date))
 
--- a written record begins with a line and its LF, and that line has each value of the table in the columns of LOCUS
+without-end : (x : List ℕ) → lineOf (x ++ bytes "\n") ≡ x
+without-end x = let e : length x ≡ length (x ++ bytes "\n") - 1 = simp length-append (omega arith) in take-at x (bytes "\n") _ e
+
+-- a written record begins with a line and its LF
+pub locus-line : (truncate escape : Bool) (t : Table) → locusText truncate escape t ≡ lineOf (locusText truncate escape t) ++ bytes "\n"
+unfolding locusText
+locus-line truncate escape t = ap (λ (x : List ℕ). x ++ bytes "\n") (sym (without-end (beforeEnd truncate escape t)))
+
+-- and that line has each value of the table in the columns of LOCUS
 pub locus-columns :
     (truncate escape : Bool) (t : Table) → length (printedName truncate escape t) ≤ 16 → length (moleculeText truncate (t .locus .molecule)) ≤ 6 →
-    length (t .locus .division) ≡ 3 →
-    (locusText truncate escape t ≡ lineOf (locusText truncate escape t) ++ bytes "\n") ×
-    (locusColumns (locusValues truncate escape t) (lineOf (locusText truncate escape t)) ≡ true)
+    length (t .locus .division) ≡ 3 → locusColumns (locusValues truncate escape t) (lineOf (locusText truncate escape t)) ≡ true
 unfolding locusText
 locus-columns truncate escape t l₁ l₂ l₃ =
     let name : List ℕ = printedName truncate escape t in
@@ -172,14 +181,11 @@ locus-columns truncate escape t l₁ l₂ l₃ =
     let topology : List ℕ = topologyText (t .locus .circular) in
     let division : List ℕ = t .locus .division in
     let date : List ℕ = dateText (printedDate (t .locus .date)) in
-    let whole : List ℕ =
-    bytes "LOCUS       " ++ nameAndLength name count ++ bytes " bp    " ++ padded 7 molecule ++ bytes " " ++ padded 8 topology ++ bytes " " ++ division ++ bytes " " ++ date in
     let e =
     arranged (bytes "LOCUS       ") (padded 16 name) (rightAligned 11 count) (padded 6 molecule) (padded 8 topology) division date (nameAndLength name count)
     (padded 7 molecule) (name-parts name count l₁ (count-most t)) (molecule-parts molecule l₂) in
-    (ap (λ (x : List ℕ). x ++ bytes "\n") (sym (line-before whole)),
-    in-columns (lineOf (locusText truncate escape t)) name count molecule topology division date (line-before whole ∙ e) l₁ (count-most t) l₂
-    (topology-length (t .locus .circular)) l₃)
+    in-columns (lineOf (locusText truncate escape t)) name count molecule topology division date (without-end (beforeEnd truncate escape t) ∙ e) l₁ (count-most t) l₂
+    (topology-length (t .locus .circular)) l₃
 
 -- the date's test among those of number 11
 date-fine : (W : ℕ) (truncate escape : Bool) (t : Table) → wellFormed W truncate escape t ≡ true → dateFine (t .locus .date) ≡ true
