@@ -1,15 +1,14 @@
 -- Locations, CONTIG and comma-broken values: their lines join to the text, and each but the last ends with its last comma that fits, or is full.
 use Prim.Native.Nat.{ℕ, zero, suc, _+_, _-_, _≤_, _<_}
-use native.Mathlib.Nat.{not-suc-le-zero}
 use native.Mathlib.Omega.{arith}
 use mathlib.Core.Bool.{Bool, true, false, _&&_, _||_, not}
-use mathlib.Core.Path.{_≡_, refl, sym, ap, _∙_}
-use mathlib.Core.List.{List, [], _∷_, _++_, append-assoc, append-nil}
-use lib.ListN.{length, take, drop, length-append, length-drop, take-append-drop}
+use mathlib.Core.Path.{_≡_, refl, ap}
+use mathlib.Core.List.{List, [], _∷_, _++_, append-nil}
+use lib.ListN.{length, take, drop, take-append-drop}
 use lib.Seq.{length-take-le}
 use lib.Dec.{eqb, leb}
-use borrow.Author.Tests.{eq-eqb, eqb-true, leb-false}
-use Rattle.spec_format.specs.Bytes.{spaces, all, but, concat}
+use borrow.Author.Tests.{eq-eqb, leb-false}
+use Rattle.spec_format.specs.Bytes.{spaces, concat}
 use Rattle.spec_format.specs.Wrap.{lastComma, breakAt, commaLines, wrapLocation}
 use Rattle.spec_public.specs.Public.{noComma, endsInComma, brokenAtCommas}
 use Rattle.spec_columns.specs.Tests.{both}
@@ -50,7 +49,7 @@ by-width n l p h = go (endsInComma l)
   where
     go : (x : Bool) → (x || (noComma l && eqb (length l) n)) ≡ true
     go true = refl
-    go false = cc (p, eq-eqb (length l) n h)
+    go false = cc (p, eq-eqb (length l) n (omega arith))
 
 -- where a line of n columns is broken: after a byte at least and n at most
 pub record Break (n : ℕ) (t : List ℕ) (k : ℕ) : Type 0 where

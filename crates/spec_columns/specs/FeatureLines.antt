@@ -1,9 +1,9 @@
 -- The FEATURES line, and each feature: its key from column 6, its location from column 22 over any number of lines. CONTIG has column 13.
-use Prim.Native.Nat.{ℕ, suc, _+_, _-_, _≤_, _<_}
+use Prim.Native.Nat.{ℕ, _-_, _≤_, _<_}
 use native.Mathlib.Omega.{arith}
-use mathlib.Core.Bool.{Bool, true, false, _&&_}
-use mathlib.Core.Path.{_≡_, refl, sym, ap, _∙_}
-use mathlib.Core.List.{List, [], _∷_, _++_, append-assoc}
+use mathlib.Core.Bool.{true}
+use mathlib.Core.Path.{_≡_, refl}
+use mathlib.Core.List.{List, _∷_, _++_, append-assoc}
 use lib.ListN.{length, length-append, length-replicate}
 use Rattle.spec_format.specs.Bytes.{is, bytes, spaces, each}
 use Rattle.spec_format.specs.Table.{Feature}
@@ -37,7 +37,7 @@ kind-columns k l h =
     let line : List ℕ = kindStart k ++ l in
     let e : line ≡ spaces 5 ++ (padded 15 k ++ (bytes " " ++ l)) = simp append-assoc in
     let p₁ = part line 0 5 (spaces 5) (padded 15 k ++ (bytes " " ++ l)) e refl in
-    let p₂ = part line 5 15 (padded 15 k) (bytes " " ++ l) (p₁ .next) (padded-length 15 k h) in
+    let p₂ = part line 5 15 (padded 15 k) (bytes " " ++ l) (p₁ .next) (padded-length 15 k (omega arith)) in
     let p₃ = part line 20 1 (bytes " ") l (p₂ .next) refl in
     both _ _ (same-as _ _ (p₁ .here)) (both _ _ (same-as _ _ (p₂ .here)) (both _ _ (same-as _ _ (p₃ .here)) (both _ _ (same-as _ _ (p₃ .next)) refl)))
 
@@ -50,10 +50,11 @@ pub feature-columns :
 unfolding featureLines
 feature-columns W f h g =
     let k : List ℕ = f .kind in
-    let e : length (kindStart k) ≡ 21 = start-length k g in
-    (wrapLocation W (kindStart k) 21 (f .location),
-    refl,
-    rw e at (location-lines (featureColumns k) W 21 (kindStart k) (f .location) h (omega arith) (λ l. kind-columns k l g)))
+    let e : length (kindStart k) ≡ 21 = start-length k g in (
+      wrapLocation W (kindStart k) 21 (f .location),
+      refl,
+      rw e at (location-lines (featureColumns k) W 21 (kindStart k) (f .location) h (omega arith) (λ l. kind-columns k l g)),
+    )
 
 -- ---- CONTIG
 

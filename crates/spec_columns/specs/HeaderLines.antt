@@ -1,8 +1,8 @@
 -- The header: each entry has its word in its columns and its text from column 13, where it goes on.
-use Prim.Native.Nat.{ℕ, suc, _+_, _-_, _≤_, _<_}
+use Prim.Native.Nat.{ℕ, _+_, _-_, _≤_, _<_}
 use native.Mathlib.Omega.{arith}
-use mathlib.Core.Bool.{Bool, true, false, _&&_}
-use mathlib.Core.Path.{_≡_, refl, sym, ap, _∙_}
+use mathlib.Core.Bool.{true, false}
+use mathlib.Core.Path.{_≡_, refl, sym}
 use mathlib.Core.List.{List, [], _∷_, _++_, append-assoc, append-nil}
 use lib.ListN.{length, drop, length-append, length-replicate}
 use lib.Seq.{drop-at}
@@ -82,7 +82,7 @@ module _ (a : ℕ) (w : List ℕ) (h : 1 ≤ a) (g : a - 1 + length w ≤ 12) wh
       let d : drop (a - 1) line ≡ x ++ l = rw e (drop-at (spaces (a - 1)) (x ++ l) (a - 1) (length-replicate {A = ℕ} (a - 1) 32)) in
       let p = part line (a - 1) (13 - a) x l d (simp (length-append, length-replicate) (omega arith)) in
       let b : blankAt 1 (a - 1) line ≡ true = rw e (blank-start (a - 1) (a - 1) (x ++ l) refl) in
-      both _ _ b (both _ _ (same-as _ _ (p .here)) 
+      both _ _ b (both _ _ (same-as _ _ (p .here))
       (both _ _ (rest-start 13 (padded 12 (spaces (a - 1) ++ w)) l word-length) refl))
 
   entry-columns : (W : ℕ) (t : List ℕ) → 13 < W → EntryLaid W (record { column = a; word = w; text = t })

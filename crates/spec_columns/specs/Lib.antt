@@ -2,13 +2,13 @@ pub mod Tests
 pub mod Parts
 pub mod Lines
 pub mod LocusLine
-pub mod LocusOutside
-pub mod CommaLines
-pub mod FeatureLines
 pub mod TextLines
+pub mod CommaLines
 pub mod HeaderLines
+pub mod FeatureLines
 pub mod QualifierLines
 pub mod OriginLines
+pub mod RecordEnd
 pub mod Width
 pub mod RecordWidth
-pub mod RecordEnd
+pub mod Outside

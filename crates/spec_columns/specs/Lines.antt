@@ -2,12 +2,12 @@
 use Prim.Native.Nat.{ℕ, suc, _-_}
 use native.Mathlib.Omega.{arith}
 use mathlib.Core.Bool.{Bool, true, false, _&&_}
-use mathlib.Core.Path.{_≡_, refl, sym, ap, _∙_}
+use mathlib.Core.Path.{_≡_, refl, ap, _∙_}
 use mathlib.Core.List.{List, [], _∷_, _++_, append-assoc}
 use lib.ListN.{length-replicate}
 use Rattle.spec_format.specs.Bytes.{spaces, each}
 use Rattle.spec_public.specs.Public.{continues}
-use Rattle.spec_columns.specs.Tests.{both, same-as}
+use Rattle.spec_columns.specs.Tests.{both}
 use Rattle.spec_columns.specs.Parts.{blank-start, rest-start}
 
 abbrev pub ended : List ℕ → List ℕ

@@ -2,23 +2,21 @@
 use Prim.Native.Nat.{ℕ, zero, suc, _+_, _-_, _/_, _≤_, _<_}
 use native.Mathlib.Nat.{not-suc-le-zero}
 use native.Mathlib.Omega.{arith}
-use mathlib.Core.Bool.{Bool, true, false, _&&_}
+use mathlib.Core.Bool.{Bool, true, false}
 use mathlib.Core.Path.{_≡_, refl, sym, ap, _∙_}
 use mathlib.Core.List.{List, [], _∷_, _++_, append-assoc}
-use lib.ListN.{length, take, drop, getD, length-append, replicate-append-replicate}
+use lib.ListN.{length, take, getD, length-append, replicate-append-replicate}
 use lib.Seq.{take-at}
 use lib.Dec.{eqb, ltb}
 use borrow.Author.Tests.{eqb-true, ltb-false}
-use Rattle.spec_format.specs.Bytes.{pick, bytes, spaces, all, some, digits, decimal, printing}
+use Rattle.spec_format.specs.Bytes.{pick, bytes, spaces, all, digits}
 use Rattle.spec_format.specs.Dates.{months, monthName, dateText, printedDate, made, isDate}
 use Rattle.spec_format.specs.declared.Date.{Date}
 use Rattle.spec_format.specs.declared.Dated.{Dated}
 use Rattle.spec_format.specs.declared.Dated.the-variants as dated
 use Rattle.spec_format.specs.Table.{Table}
-use Rattle.spec_format.specs.Utf8.{utf8}
-use Rattle.spec_format.specs.Features.{locationText}
 use Rattle.spec_format.specs.Write.{padded, rightAligned, lengthOr, printedName, lengthText, moleculeText, topologyText, nameAndLength, locusText}
-use Rattle.spec_format.specs.WellFormed.{ifIs, dateFine, locusFine, headerTexts, featureFine, lettersFine, wellFormed}
+use Rattle.spec_format.specs.WellFormed.{dateFine, locusFine, wellFormed}
 use Rattle.spec_public.specs.Public.{LocusValues, locusTests, locusColumns}
 use Rattle.spec_columns.specs.Tests.{both, and-left, and-right, same-as}
 use Rattle.spec_columns.specs.Parts.{part, padded-length, right-length, full}

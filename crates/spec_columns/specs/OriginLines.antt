@@ -7,14 +7,14 @@ use mathlib.Core.Path.{_≡_, refl, sym, ap, _∙_}
 use mathlib.Core.List.{List, [], _∷_, _++_, append-assoc}
 use lib.ListN.{length, take, drop, length-append, length-drop}
 use lib.Seq.{drop-drop, drop-nil, take-nil, take-take}
-use lib.Dec.{eqb, ltb}
+use lib.Dec.{ltb}
 use borrow.Author.Tests.{eq-eqb, ne-eqb, lt-ltb}
-use Rattle.spec_format.specs.Bytes.{pick, bytes, spaces, some, digits, decimal}
+use Rattle.spec_format.specs.Bytes.{bytes, some, digits, decimal}
 use Rattle.spec_format.specs.Write.{rightAligned, lineStart, tenStart, letterLines, originLines}
 use Rattle.spec_public.specs.Public.{blocks, entryColumns, originColumns}
 use Rattle.spec_columns.specs.Tests.{both, same-as}
 use Rattle.spec_columns.specs.Parts.{part, right-length}
-use Rattle.spec_columns.specs.Lines.{ended, lined}
+use Rattle.spec_columns.specs.Lines.{lined}
 
 -- the lines have the letters l, sixty a line, of which the first has number i, counted from 0; no line is without letters, no letter without a line
 unfoldable pub numbered : ℕ → List ℕ → List (List ℕ) → Bool
@@ -183,6 +183,10 @@ pub origin-columns :
     (numbered 0 (b ∷ t) lines ≡ true)
 unfolding originLines
 origin-columns b t h =
-    let n : ℕ = length (b ∷ t) in
-    (bytes "ORIGIN      ", rows n 0 (b ∷ t), ap (λ (z : List ℕ). bytes "ORIGIN      " ++ z) (lines-are n 0 (b ∷ t) (omega arith) refl), refl,
-    rows-numbered n 0 (b ∷ t) (omega arith) (λ q. omega arith))
+    let n : ℕ = length (b ∷ t) in (
+      bytes "ORIGIN      ",
+      rows n 0 (b ∷ t),
+      ap (λ (z : List ℕ). bytes "ORIGIN      " ++ z) (lines-are n 0 (b ∷ t) (omega arith) refl),
+      refl,
+      rows-numbered n 0 (b ∷ t) (omega arith) (λ q. omega arith),
+    )

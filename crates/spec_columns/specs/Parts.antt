@@ -1,9 +1,9 @@
 -- Columns of a line that is made of parts of known lengths.
-use Prim.Native.Nat.{ℕ, zero, suc, _+_, _-_, _≤_}
+use Prim.Native.Nat.{ℕ, suc, _+_, _-_, _≤_}
 use native.Mathlib.Omega.{arith}
 use mathlib.Core.Bool.{true}
-use mathlib.Core.Path.{_≡_, refl, sym, ap, _∙_}
-use mathlib.Core.List.{List, [], _∷_, _++_, append-nil}
+use mathlib.Core.Path.{_≡_, sym, ap, _∙_}
+use mathlib.Core.List.{List, _++_, append-nil}
 use lib.ListN.{length, take, drop, length-append, length-replicate}
 use lib.Seq.{drop-drop, take-at, drop-at}
 use Rattle.spec_format.specs.Bytes.{spaces}

@@ -1,14 +1,14 @@
 -- A qualifier stands from column 22 on and goes on there: one without a value, one broken at commas, a bare one, and one in quotes, which is presented as the
 -- INSDC feature table presents a value: inner quotes doubled, over lines that are the value's own but for one space or LF that a break may leave out.
-use Prim.Native.Nat.{ℕ, zero, suc, _+_, _-_, _≤_, _<_}
+use Prim.Native.Nat.{ℕ, suc, _+_, _-_, _<_}
 use native.Mathlib.Omega.{arith}
-use mathlib.Core.Bool.{Bool, true, false, _&&_}
+use mathlib.Core.Bool.{Bool, true, false}
 use mathlib.Core.Path.{_≡_, refl, sym, ap, _∙_}
 use mathlib.Core.List.{List, [], _∷_, _++_, append-assoc}
 use lib.ListN.{length, length-append}
-use Rattle.spec_format.specs.Bytes.{absent, bytes, spaces, pick}
+use Rattle.spec_format.specs.Bytes.{absent, bytes, spaces}
 use Rattle.spec_format.specs.Wrap.{wrapText}
-use Rattle.spec_format.specs.Write.{commaKey, bareKey, keyText, quotes, valueLines, qualifierText}
+use Rattle.spec_format.specs.Write.{commaKey, bareKey, keyText, valueLines, qualifierText}
 use Rattle.spec_public.specs.Public.{qualifierColumns, doubled, presentedLines, presented}
 use Rattle.spec_columns.specs.Tests.{both}
 use Rattle.spec_columns.specs.Parts.{blank-start, rest-start}
@@ -16,15 +16,18 @@ use Rattle.spec_columns.specs.Lines.{ended, textLines, Laid, laid}
 use Rattle.spec_columns.specs.CommaLines.{BrokenLines, location-lines}
 use Rattle.spec_columns.specs.TextLines.{Presents, wrapped-presents}
 
--- the key, `=` and the text stand in the line from column 22 on
+abbrev pub valueText : List ℕ → List ℕ → List ℕ
+valueText k text = bytes "/" ++ k ++ bytes "=" ++ text
+
+-- `/`, the key, `=` and the text stand in the line from column 22 on
 abbrev pub valueColumns : List ℕ → List ℕ → List ℕ → Bool
-valueColumns k text line = qualifierColumns (bytes "/" ++ k ++ bytes "=" ++ text) line
+valueColumns k text line = qualifierColumns (valueText k text) line
 
 at-22 : (text line : List ℕ) → line ≡ spaces 21 ++ text → qualifierColumns text line ≡ true
 at-22 text line e = rw e (both _ _ (blank-start 21 21 text refl) (both _ _ (rest-start 22 (spaces 21) text refl) refl))
 
 value-start : (k text : List ℕ) → valueColumns k text (keyText k ++ bytes "=" ++ text) ≡ true
-value-start k text = at-22 (bytes "/" ++ k ++ bytes "=" ++ text) (keyText k ++ bytes "=" ++ text) (simp append-assoc)
+value-start k text = at-22 (valueText k text) (keyText k ++ bytes "=" ++ text) (simp append-assoc)
 
 key-length : (k : List ℕ) → length (keyText k ++ bytes "=") ≡ 23 + length k
 key-length k = simp length-append (omega arith)

@@ -1,7 +1,7 @@
 -- The last line of every written record is `//`.
 use Prim.Native.Nat.{ℕ, zero, suc, _+_, _-_}
 use mathlib.Core.Bool.{Bool, true, false}
-use mathlib.Core.Path.{_≡_, refl, sym, ap, _∙_}
+use mathlib.Core.Path.{_≡_, refl, sym}
 use mathlib.Core.List.{List, [], _∷_, _++_, append-assoc, append-nil}
 use lib.ListN.{length, take, drop}
 use lib.Dec.{ltb, leb}
@@ -71,92 +71,92 @@ location-ends : (W : ℕ) (start : List ℕ) (indent : ℕ) (t : List ℕ) → E
 unfolding wrapLocation
 location-ends W start indent t = ends-after start _ (comma-ends (length t) W indent (length start) t)
 
--- ---- a part of the record: nothing, or a text that ends with LF
+-- ---- a section of the record: nothing, or a text that ends with LF
 
-data Part (x : List ℕ) : Type 0 where
-  none : x ≡ [] → Part x
-  some : Ends x → Part x
+data Section (x : List ℕ) : Type 0 where
+  none : x ≡ [] → Section x
+  some : Ends x → Section x
 
--- what ends with LF still does so with a part after it
-then : (a b : List ℕ) → Ends a → Part b → Ends (a ++ b)
+-- what ends with LF still does so with a section after it
+then : (a b : List ℕ) → Ends a → Section b → Ends (a ++ b)
 then a b e (none p) = rw (p, append-nil a) e
 then a b e (some f) = ends-after a b f
 
-parts : (a b : List ℕ) → Part a → Part b → Part (a ++ b)
-parts a b (none p) q = rw p q
-parts a b (some e) q = some (then a b e q)
+sections : (a b : List ℕ) → Section a → Section b → Section (a ++ b)
+sections a b (none p) q = rw p q
+sections a b (some e) q = some (then a b e q)
 
-each-part : {A : Type 0} (f : A → List ℕ) → ((x : A) → Part (f x)) → (xs : List A) → Part (each f xs)
-each-part f k [] = none refl
-each-part f k (x ∷ xs) = parts (f x) (each f xs) (k x) (each-part f k xs)
+each-section : {A : Type 0} (f : A → List ℕ) → ((x : A) → Section (f x)) → (xs : List A) → Section (each f xs)
+each-section f k [] = none refl
+each-section f k (x ∷ xs) = sections (f x) (each f xs) (k x) (each-section f k xs)
 
-field-part : (W : ℕ) (w t : List ℕ) → Part (fieldLines W w t)
+field-section : (W : ℕ) (w t : List ℕ) → Section (fieldLines W w t)
 unfolding fieldLines
-field-part W w t = some (text-ends W (padded 12 w) 12 false t)
+field-section W w t = some (text-ends W (padded 12 w) 12 false t)
 
-maybe-part : (W : ℕ) (w : List ℕ) (t : May (List ℕ)) → Part (maybeLines W w t)
-maybe-part W w absent = none refl
-maybe-part W w (is t) = field-part W w t
+maybe-section : (W : ℕ) (w : List ℕ) (t : May (List ℕ)) → Section (maybeLines W w t)
+maybe-section W w absent = none refl
+maybe-section W w (is t) = field-section W w t
 
-source-part : (W : ℕ) (s : May Source) → Part (sourceLines W s)
-source-part W absent = none refl
-source-part W (is s) = parts _ _ (field-part W (bytes "SOURCE") (s .text)) (maybe-part W (bytes "  ORGANISM") (s .organism))
+source-section : (W : ℕ) (s : May Source) → Section (sourceLines W s)
+source-section W absent = none refl
+source-section W (is s) = sections _ _ (field-section W (bytes "SOURCE") (s .text)) (maybe-section W (bytes "  ORGANISM") (s .organism))
 
-reference-part : (W : ℕ) (r : Reference) → Part (referenceLines W r)
+reference-section : (W : ℕ) (r : Reference) → Section (referenceLines W r)
 unfolding referenceLines
-reference-part W r =
-    parts _ _ (parts _ _ (parts _ _ (parts _ _ (parts _ _ (parts _ _
-    (field-part W (bytes "REFERENCE") (r .text)) (maybe-part W (bytes "  AUTHORS") (r .authors))) (maybe-part W (bytes "  CONSRTM") (r .consrtm)))
-    (field-part W (bytes "  TITLE") (r .title))) (maybe-part W (bytes "  JOURNAL") (r .journal))) (maybe-part W (bytes "   PUBMED") (r .pubmed)))
-    (maybe-part W (bytes "  REMARK") (r .remark))
+reference-section W r =
+    sections _ _ (sections _ _ (sections _ _ (sections _ _ (sections _ _ (sections _ _
+    (field-section W (bytes "REFERENCE") (r .text)) (maybe-section W (bytes "  AUTHORS") (r .authors))) (maybe-section W (bytes "  CONSRTM") (r .consrtm)))
+    (field-section W (bytes "  TITLE") (r .title))) (maybe-section W (bytes "  JOURNAL") (r .journal))) (maybe-section W (bytes "   PUBMED") (r .pubmed)))
+    (maybe-section W (bytes "  REMARK") (r .remark))
 
-header-part : (W : ℕ) (t : Table) → Part (headerLines W t)
+header-section : (W : ℕ) (t : Table) → Section (headerLines W t)
 unfolding headerLines
-header-part W t =
-    parts _ _ (parts _ _ (parts _ _ (parts _ _ (parts _ _ (parts _ _ (parts _ _
-    (maybe-part W (bytes "DEFINITION") (t .definition)) (maybe-part W (bytes "ACCESSION") (t .accession))) (maybe-part W (bytes "VERSION") (t .version)))
-    (maybe-part W (bytes "DBLINK") (t .dblink))) (maybe-part W (bytes "KEYWORDS") (t .keywords))) (source-part W (t .source)))
-    (each-part (referenceLines W) (reference-part W) (t .references))) (each-part (fieldLines W (bytes "COMMENT")) (field-part W (bytes "COMMENT")) (t .comments))
+header-section W t =
+    sections _ _ (sections _ _ (sections _ _ (sections _ _ (sections _ _ (sections _ _ (sections _ _
+    (maybe-section W (bytes "DEFINITION") (t .definition)) (maybe-section W (bytes "ACCESSION") (t .accession))) (maybe-section W (bytes "VERSION") (t .version)))
+    (maybe-section W (bytes "DBLINK") (t .dblink))) (maybe-section W (bytes "KEYWORDS") (t .keywords))) (source-section W (t .source)))
+    (each-section (referenceLines W) (reference-section W) (t .references))) (each-section (fieldLines W (bytes "COMMENT")) (field-section W (bytes "COMMENT")) (t .comments))
 
-value-part : (W : ℕ) (k v : List ℕ) → Part (valueLines W k v)
+value-section : (W : ℕ) (k v : List ℕ) → Section (valueLines W k v)
 unfolding valueLines
-value-part W k v = go (commaKey k)
+value-section W k v = go (commaKey k)
   where
-    go : (c : Bool) → Part (pick c (wrapLocation W (keyText k ++ bytes "=") 21 v) (wrapText W (keyText k ++ bytes "=") 21 (quotes k) v))
+    go : (c : Bool) → Section (pick c (wrapLocation W (keyText k ++ bytes "=") 21 v) (wrapText W (keyText k ++ bytes "=") 21 (quotes k) v))
     go true = some (location-ends W (keyText k ++ bytes "=") 21 v)
     go false = some (text-ends W (keyText k ++ bytes "=") 21 (quotes k) v)
 
-text-part : (W : ℕ) (k : List ℕ) (v : May (List ℕ)) → Part (qualifierText W k v)
-text-part W k absent = some (ends-here (keyText k))
-text-part W k (is v) = value-part W k v
+text-section : (W : ℕ) (k : List ℕ) (v : May (List ℕ)) → Section (qualifierText W k v)
+text-section W k absent = some (ends-here (keyText k))
+text-section W k (is v) = value-section W k v
 
-qualifier-part : (W : ℕ) (q : Qualifier) → Part (qualifierLines W q)
+qualifier-section : (W : ℕ) (q : Qualifier) → Section (qualifierLines W q)
 unfolding qualifierLines
-qualifier-part W q = text-part W (q .key) (q .value)
+qualifier-section W q = text-section W (q .key) (q .value)
 
-feature-part : (W : ℕ) (f : Feature) → Part (featureLines W f)
+feature-section : (W : ℕ) (f : Feature) → Section (featureLines W f)
 unfolding featureLines
-feature-part W f = parts _ _ (some (location-ends W _ 21 (f .location))) (each-part (qualifierLines W) (qualifier-part W) (f .qualifiers))
+feature-section W f = sections _ _ (some (location-ends W _ 21 (f .location))) (each-section (qualifierLines W) (qualifier-section W) (f .qualifiers))
 
-features-part : (W : ℕ) (fs : List Feature) → Part (featuresLines W fs)
+features-section : (W : ℕ) (fs : List Feature) → Section (featuresLines W fs)
 unfolding featuresLines
-features-part W [] = none refl
-features-part W (f ∷ fs) =
-    parts _ _ (some (ends-here (bytes "FEATURES             Location/Qualifiers"))) (each-part (featureLines W) (feature-part W) (f ∷ fs))
+features-section W [] = none refl
+features-section W (f ∷ fs) =
+    sections _ _ (some (ends-here (bytes "FEATURES             Location/Qualifiers"))) (each-section (featureLines W) (feature-section W) (f ∷ fs))
 
-contig-part : (W : ℕ) (c : May (List ℕ)) → Part (contigLines W c)
-contig-part W absent = none refl
-contig-part W (is c) = some (location-ends W (bytes "CONTIG      ") 12 c)
+contig-section : (W : ℕ) (c : May (List ℕ)) → Section (contigLines W c)
+contig-section W absent = none refl
+contig-section W (is c) = some (location-ends W (bytes "CONTIG      ") 12 c)
 
 letters-end : (i : ℕ) (l : List ℕ) → Ends (letterLines i l)
 unfolding letterLines
 letters-end i [] = ends-here []
 letters-end i (b ∷ t) = ends-after (lineStart i ++ tenStart i ++ b ∷ []) (letterLines (suc i) t) (letters-end (suc i) t)
 
-origin-part : (l : List ℕ) → Part (originLines l)
+origin-section : (l : List ℕ) → Section (originLines l)
 unfolding originLines
-origin-part [] = none refl
-origin-part (b ∷ t) = some (ends-after (bytes "ORIGIN      ") (letterLines 0 (b ∷ t)) (letters-end 0 (b ∷ t)))
+origin-section [] = none refl
+origin-section (b ∷ t) = some (ends-after (bytes "ORIGIN      ") (letterLines 0 (b ∷ t)) (letters-end 0 (b ∷ t)))
 
 locus-ends : (truncate escape : Bool) (t : Table) → Ends (locusText truncate escape t)
 locus-ends truncate escape t = record { before = lineOf (locusText truncate escape t); is = locus-line truncate escape t }
@@ -165,6 +165,6 @@ locus-ends truncate escape t = record { before = lineOf (locusText truncate esca
 pub slashes-last : (W : ℕ) (truncate escape : Bool) (t : Table) → (before : List ℕ) × (written W truncate escape t ≡ before ++ bytes "\n//\n")
 unfolding written
 slashes-last W truncate escape t =
-    let e = then _ _ (then _ _ (then _ _ (then _ _ (locus-ends truncate escape t) (header-part W t)) (features-part W (t .features))) (contig-part W (t .contig)))
-    (origin-part (t .letters)) in
+    let e = then _ _ (then _ _ (then _ _ (then _ _ (locus-ends truncate escape t) (header-section W t)) (features-section W (t .features))) (contig-section W (t .contig)))
+    (origin-section (t .letters)) in
     (e .before, rw (e .is) (append-assoc (e .before) (bytes "\n") (bytes "//\n")))

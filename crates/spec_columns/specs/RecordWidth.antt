@@ -1,25 +1,21 @@
--- Every line of the header, the features and CONTIG has at most W columns. LOCUS has 79 or more whatever W is, a line of letters 75: the two are left out, and
--- are shown wider at the end.
-use Prim.Native.Nat.{ℕ, zero, suc, _+_, _-_, _≤_, _<_}
+-- Every line of the header, the features and CONTIG has at most W columns. LOCUS has 79 or more, a line of letters up to 75, whatever W is: they are left out here,
+-- and shown wider in Outside.
+use Prim.Native.Nat.{ℕ, _+_, _-_, _≤_, _<_}
 use native.Mathlib.Omega.{arith}
-use mathlib.Core.Bool.{Bool, true, false, _&&_, not}
-use mathlib.Core.Path.{_≡_, refl, sym, ap, _∙_}
-use mathlib.Core.List.{List, [], _∷_, _++_, append-assoc, append-nil}
+use mathlib.Core.Bool.{Bool, true, false}
+use mathlib.Core.Path.{_≡_, refl}
+use mathlib.Core.List.{List, [], _∷_, _++_, append-nil}
 use lib.ListN.{length, length-append, length-replicate}
-use lib.Dec.{leb}
 use borrow.Author.Tests.{leb-true}
-use Rattle.spec_format.specs.Bytes.{May, absent, is, bytes, spaces, each, all, pick, some, visible, but, digits}
-use Rattle.spec_format.specs.Dates.{monthName, dateText}
+use Rattle.spec_format.specs.Bytes.{May, absent, is, bytes, each, all, pick}
 use Rattle.spec_format.specs.Table.{Source, Reference, Qualifier, Feature, Table}
-use Rattle.spec_format.specs.Locus.{tokens}
-use Rattle.spec_format.specs.Features.{kindText, locationText}
-use Rattle.spec_format.specs.Write.{padded, fieldLines, maybeLines, sourceLines, referenceLines, headerLines, commaKey, keyText, quotes, valueLines, qualifierText, qualifierLines, featureLines, featuresLines, contigLines, letterLines, originLines, lengthText, words, joined, printedName, locusText}
-use Rattle.spec_format.specs.WellFormed.{ifIs, kindFine, keyFine, valueFine, qualifierFine, featureFine, wellFormed}
+use Rattle.spec_format.specs.Features.{locationText}
+use Rattle.spec_format.specs.Write.{padded, fieldLines, maybeLines, sourceLines, referenceLines, headerLines, commaKey, keyText, quotes, valueLines, qualifierText, qualifierLines, featureLines, featuresLines, contigLines}
+use Rattle.spec_format.specs.WellFormed.{kindFine, keyFine, qualifierFine, featureFine, wellFormed}
 use Rattle.spec_format.specs.Wrap.{wrapText, wrapLocation}
 use Rattle.spec_public.specs.Public.{within}
 use Rattle.spec_columns.specs.Tests.{and-left, and-right}
 use Rattle.spec_columns.specs.FeatureLines.{kindStart}
-use Rattle.spec_columns.specs.LocusOutside.{short, letters}
 use Rattle.spec_columns.specs.Width.{Narrow, narrow-append, narrow-start, narrow-end, text-narrow, location-narrow}
 
 narrow-none : (W : ℕ) → Narrow W W []
@@ -135,11 +131,3 @@ pub width :
     within W W (headerLines W t ++ featuresLines W (t .features) ++ contigLines W (t .contig) ++ bytes "//\n") ≡ true
 width W truncate escape t h e =
     nothing-after W (headerLines W t ++ featuresLines W (t .features) ++ contigLines W (t .contig) ++ bytes "//\n") (record-narrow W truncate escape t h e)
-
--- LOCUS is wider than 60 columns with a name of one byte, and than 132 with one of 80; a line of letters is wider than 60, and than 74, but not than 75
-pub wider :
-    (within 78 78 (locusText false false (short (letters 1) (bytes "DNA") (bytes "SYN"))) ≡ false) ×
-    (within 132 132 (locusText false false (short (letters 80) (bytes "DNA") (bytes "SYN"))) ≡ false) ×
-    (within 74 74 (originLines (letters 60)) ≡ false) × (within 75 75 (originLines (letters 60)) ≡ true)
-unfolding within locusText printedName lengthText digits dateText monthName words joined tokens originLines letterLines
-wider = (refl, refl, refl, refl)

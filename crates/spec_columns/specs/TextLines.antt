@@ -1,9 +1,9 @@
 -- Wrapped texts, in quotes or not: the lines are the text's own but for one space or LF that a break may leave out.
-use Prim.Native.Nat.{ℕ, zero, suc, _+_, _-_, _≤_, _<_}
+use Prim.Native.Nat.{ℕ, zero, suc, _+_, _≤_, _<_}
 use native.Mathlib.Nat.{not-suc-le-zero}
 use native.Mathlib.Omega.{arith}
 use mathlib.Core.Bool.{Bool, true, false, _&&_, _||_, not}
-use mathlib.Core.Path.{_≡_, refl, sym, ap, _∙_}
+use mathlib.Core.Path.{_≡_, refl, ap}
 use mathlib.Core.List.{List, [], _∷_, _++_, append-assoc}
 use lib.ListN.{length, length-append}
 use lib.Dec.{eqb, ltb}
@@ -175,10 +175,10 @@ another true indent l m ms = simp append-assoc
 another false indent l m ms = simp append-assoc
 
 -- a line, and what the lines after it present
-continued :
+line-more :
     (q : Bool) (indent : ℕ) (v line r text : List ℕ) → Filled q v line r → Presentation q indent r text →
     Presentation q indent v (line ++ (10 ∷ [] ++ spaces indent ++ text))
-continued q indent v line r text f p =
+line-more q indent v line r text f p =
     record {
       line = f .raw;
       lines = p .line ∷ p .lines;
@@ -202,7 +202,7 @@ after (suc n) q W indent used v line rest h g f = go (λ u w l r k. after n q W 
     go ih (b ∷ t) g f =
         let x : Line = fill q W indent (b ∷ t) in
         rw append-assoc
-        (continued q indent v line (b ∷ t) (lineText x ++ linesAfter n q W indent (indent + length (lineText x)) (lineRest x)) f
+        (line-more q indent v line (b ∷ t) (lineText x ++ linesAfter n q W indent (indent + length (lineText x)) (lineRest x)) f
         (ih (indent + length (lineText x)) (b ∷ t) (lineText x) (lineRest x) (omega (arith, fill-takes q W indent b t h)) (fill-filled q W indent (b ∷ t))))
 
 -- what is written of a text after the word or key that it belongs to presents it

@@ -3,11 +3,11 @@ use Prim.Native.Nat.{ℕ, zero, suc, _+_, _-_, _≤_, _<_}
 use native.Mathlib.Nat.{not-suc-le-zero, min-le-left}
 use native.Mathlib.Omega.{arith}
 use mathlib.Core.Bool.{Bool, true, false, _&&_, _||_}
-use mathlib.Core.Path.{_≡_, refl, sym, ap, _∙_}
+use mathlib.Core.Path.{_≡_, refl}
 use mathlib.Core.List.{List, [], _∷_, _++_, append-assoc}
 use lib.ListN.{length, take, drop, length-append, length-take, length-drop, length-replicate}
 use lib.Dec.{eqb, ltb, leb}
-use borrow.Author.Tests.{ltb-true, leb-true, leb-false, lt-ltb}
+use borrow.Author.Tests.{ltb-true, leb-true, leb-false}
 use Rattle.spec_format.specs.Bytes.{spaces}
 use Rattle.spec_format.specs.Wrap.{Line, Fits, Over, lineText, lineRest, put, putSpace, inner, fill, closing, linesAfter, wrapped, wrapText, breakAt, commaLines, wrapLocation}
 use Rattle.spec_public.specs.Public.{within}
@@ -211,14 +211,17 @@ comma-narrow (suc n) W indent used t h g k = go (λ s m. comma-narrow n W indent
     go :
         ((s : List ℕ) → length s ≤ n → Narrow W (W - indent) (commaLines n W indent indent s)) → (x : Bool) → leb (used + length t) W ≡ x →
         Narrow W (W - used) (commaLines (suc n) W indent used t)
-    go ih true p = let m : used + length t ≤ W = leb-true (used + length t) W p in rw (commaLines, p) (narrow-bytes W (W - used) t (10 ∷ []) (omega arith) (omega arith) (narrow-end W (W - used - length t)))
+    go ih true p =
+        let m : used + length t ≤ W = leb-true (used + length t) W p in
+        rw (commaLines, p) (narrow-bytes W (W - used) t (10 ∷ []) (omega arith) (omega arith) (narrow-end W (W - used - length t)))
     go ih false p =
         let m : W < used + length t = leb-false (used + length t) W p in
         let i : ℕ = breakAt (W - used) t in
         let b = break-at (W - used) t (omega arith) (omega arith) in
         let l : length (take i t) ≤ i = rw (length-take i t) (min-le-left i (length t)) in
         let d : length (drop i t) ≤ n = rw (length-drop i t) (omega arith) in
-        rw (commaLines, p) (narrow-broken W (W - used) indent (take i t) (commaLines n W indent indent (drop i t)) (omega arith) (omega arith) (omega arith) (ih (drop i t) d))
+        rw (commaLines, p)
+        (narrow-broken W (W - used) indent (take i t) (commaLines n W indent indent (drop i t)) (omega arith) (omega arith) (omega arith) (ih (drop i t) d))
 
 pub location-narrow : (W : ℕ) (start : List ℕ) (indent : ℕ) (t : List ℕ) → indent < W → length start < W → Narrow W W (wrapLocation W start indent t)
 unfolding wrapLocation
