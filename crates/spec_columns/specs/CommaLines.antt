@@ -109,7 +109,7 @@ comma-pieces (suc n) W indent used t h g = go (λ s. comma-pieces n W indent ind
         (ih (drop (breakAt (W - used) t) t)))
 
 -- a text t that is broken at commas: its first line meets `opens`, and it goes on from column a; the lines join to t; each but the last ends with a comma, or
--- has none and is full, with `first` bytes in the first line and `later` in one after it
+-- has none and is full, with `first` bytes in the first line and `later` in one after it (t has no LF: number 11 asks for bytes 33 to 126)
 pub record BrokenLines (opens : List ℕ → List ℕ → Bool) (a first later : ℕ) (t written : List ℕ) : Type 0 where
   pub line : List ℕ
   pub lines : List (List ℕ)

@@ -1,5 +1,6 @@
 pub mod Tests
 pub mod Parts
+pub mod Lengths
 pub mod Lines
 pub mod LocusLine
 pub mod TextLines

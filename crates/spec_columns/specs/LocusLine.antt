@@ -1,24 +1,19 @@
 -- The written LOCUS line has the columns of the GenBank flat file, where the name has at most 16 bytes, the molecule type 6 and the division 3.
-use Prim.Native.Nat.{ℕ, zero, suc, _+_, _-_, _/_, _≤_, _<_}
-use native.Mathlib.Nat.{not-suc-le-zero}
+use Prim.Native.Nat.{ℕ, suc, _+_, _-_, _≤_}
 use native.Mathlib.Omega.{arith}
 use mathlib.Core.Bool.{Bool, true, false}
 use mathlib.Core.Path.{_≡_, refl, sym, ap, _∙_}
-use mathlib.Core.List.{List, [], _∷_, _++_, append-assoc}
-use lib.ListN.{length, take, getD, length-append, replicate-append-replicate}
+use mathlib.Core.List.{List, [], _++_, append-assoc}
+use lib.ListN.{length, take, length-append, replicate-append-replicate}
 use lib.Seq.{take-at}
-use lib.Dec.{eqb, ltb}
-use borrow.Author.Tests.{eqb-true, ltb-false}
-use Rattle.spec_format.specs.Bytes.{pick, bytes, spaces, all, digits}
-use Rattle.spec_format.specs.Dates.{months, monthName, dateText, printedDate, made, isDate}
-use Rattle.spec_format.specs.declared.Date.{Date}
-use Rattle.spec_format.specs.declared.Dated.{Dated}
-use Rattle.spec_format.specs.declared.Dated.the-variants as dated
+use Rattle.spec_format.specs.Bytes.{bytes, spaces}
+use Rattle.spec_format.specs.Dates.{dateText, printedDate}
 use Rattle.spec_format.specs.Table.{Table}
-use Rattle.spec_format.specs.Write.{padded, rightAligned, lengthOr, printedName, lengthText, moleculeText, topologyText, nameAndLength, locusText}
+use Rattle.spec_format.specs.Write.{padded, rightAligned, printedName, lengthText, moleculeText, topologyText, nameAndLength, locusText}
 use Rattle.spec_format.specs.WellFormed.{dateFine, locusFine, wellFormed}
 use Rattle.spec_public.specs.Public.{LocusValues, locusTests, locusColumns}
 use Rattle.spec_columns.specs.Tests.{both, and-left, and-right, same-as}
+use Rattle.spec_columns.specs.Lengths.{count-most, date-length}
 use Rattle.spec_columns.specs.Parts.{part, padded-length, right-length, full}
 
 -- what the table has for the line's columns; the writer has no strand apart from the molecule type
@@ -37,53 +32,6 @@ locusValues truncate escape t =
 -- a text without its last byte, which is its LF
 abbrev pub lineOf : List ℕ → List ℕ
 lineOf text = take (length text - 1) text
-
--- ---- lengths that other definitions give
-
-digits-most : (f n : ℕ) → length (digits f n) ≤ f
-unfolding digits
-digits-most zero n = omega arith
-digits-most (suc f) n = go (digits-most f (n / 10)) (ltb n 10) refl
-  where
-    go : length (digits f (n / 10)) ≤ f → (x : Bool) → ltb n 10 ≡ x → length (digits (suc f) n) ≤ suc f
-    go ih true p = rw (digits, p) (omega arith)
-    go ih false p = rw (digits, p) (simp length-append (omega arith))
-
-count-most : (t : Table) → length (lengthText t) ≤ 10
-unfolding lengthText
-count-most t = digits-most 10 (lengthOr (t .locus .length) (length (t .letters)))
-
-each-passes : (p : List ℕ → Bool) (l : List (List ℕ)) (k : ℕ) → all p l ≡ true → k < length l → p (getD l k []) ≡ true
-each-passes p [] k a h = absurd (not-suc-le-zero h)
-each-passes p (w ∷ l) zero a h = and-left (p w) (all p l) a
-each-passes p (w ∷ l) (suc k) a h = each-passes p l k (and-right (p w) (all p l) a) (omega arith)
-
-month-length : (m : ℕ) → 0 < m → m ≤ 12 → length (monthName m) ≡ 3
-unfolding monthName
-month-length m h g = eqb-true (length (monthName m)) 3 (each-passes (λ w. eqb (length w) 3) months (m - 1) refl (omega arith))
-
--- the month of a date in its range
-month-is : (d m y : ℕ) → isDate (made d m y) ≡ true → (0 < m) × (m ≤ 12)
-month-is d m y e = go (ltb d 1) (ltb 31 d) (ltb m 1) refl (ltb 12 m) refl e
-  where
-    go :
-        (a b x : Bool) → ltb m 1 ≡ x → (z : Bool) → ltb 12 m ≡ z →
-        isDate (pick a dated.Absent (pick b dated.Absent (pick x dated.Absent (pick z dated.Absent (pick (ltb 9999 y) dated.Absent (dated.On (record { day = d; month = m; year = y }))))))) ≡ true →
-        (0 < m) × (m ≤ 12)
-    go false false false p false q e = (omega (arith, ltb-false m 1 p), ltb-false 12 m q)
-    go true b x p z q e = let f : _≡_ {A = ℕ} 0 1 = cc in absurd (omega arith)
-    go false true x p z q e = let f : _≡_ {A = ℕ} 0 1 = cc in absurd (omega arith)
-    go false false true p z q e = let f : _≡_ {A = ℕ} 0 1 = cc in absurd (omega arith)
-    go false false false p true q e = let f : _≡_ {A = ℕ} 0 1 = cc in absurd (omega arith)
-
-text-length : (d : Date) → length (monthName (d .month)) ≡ 3 → length (dateText d) ≡ 11
-unfolding dateText
-text-length d h = simp length-append (rw h)
-
-date-length : (d : Dated) → dateFine d ≡ true → length (dateText (printedDate d)) ≡ 11
-unfolding dateText monthName
-date-length dated.Absent e = refl
-date-length (dated.On d) e = let m = month-is (d .day) (d .month) (d .year) e in text-length d (month-length (d .month) (m .0) (m .1))
 
 -- ---- the line in its parts
 
@@ -162,7 +110,7 @@ beforeEnd truncate escape t =
 without-end : (x : List ℕ) → lineOf (x ++ bytes "\n") ≡ x
 without-end x = let e : length x ≡ length (x ++ bytes "\n") - 1 = simp length-append (omega arith) in take-at x (bytes "\n") _ e
 
--- a written record begins with a line and its LF
+-- a written record begins with a line and its LF (its values have none: number 11 asks for bytes 32 to 126)
 pub locus-line : (truncate escape : Bool) (t : Table) → locusText truncate escape t ≡ lineOf (locusText truncate escape t) ++ bytes "\n"
 unfolding locusText
 locus-line truncate escape t = ap (λ (x : List ℕ). x ++ bytes "\n") (sym (without-end (beforeEnd truncate escape t)))

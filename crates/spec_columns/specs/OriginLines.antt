@@ -1,18 +1,18 @@
 -- The letters are written 60 a line, the number of the line's first letter right-aligned in columns 1 to 9, blocks of ten from column 11, and nothing after them.
-use Prim.Native.Nat.{ℕ, zero, suc, _+_, _-_, _*_, _/_, _%_, _≤_, _<_}
+use Prim.Native.Nat.{ℕ, zero, suc, _+_, _-_, _*_, _%_, _≤_, _<_}
 use native.Mathlib.Nat.{not-suc-le-zero}
 use native.Mathlib.Omega.{arith}
-use mathlib.Core.Bool.{Bool, true, false, _&&_, not}
+use mathlib.Core.Bool.{Bool, true, _&&_, not}
 use mathlib.Core.Path.{_≡_, refl, sym, ap, _∙_}
 use mathlib.Core.List.{List, [], _∷_, _++_, append-assoc}
-use lib.ListN.{length, take, drop, length-append, length-drop}
+use lib.ListN.{length, take, drop, length-drop}
 use lib.Seq.{drop-drop, drop-nil, take-nil, take-take}
-use lib.Dec.{ltb}
-use borrow.Author.Tests.{eq-eqb, ne-eqb, lt-ltb}
-use Rattle.spec_format.specs.Bytes.{bytes, some, digits, decimal}
+use borrow.Author.Tests.{eq-eqb, ne-eqb}
+use Rattle.spec_format.specs.Bytes.{bytes, some, decimal}
 use Rattle.spec_format.specs.Write.{rightAligned, lineStart, tenStart, letterLines, originLines}
 use Rattle.spec_public.specs.Public.{blocks, entryColumns, originColumns}
 use Rattle.spec_columns.specs.Tests.{both, same-as}
+use Rattle.spec_columns.specs.Lengths.{nine-digits}
 use Rattle.spec_columns.specs.Parts.{part, right-length}
 use Rattle.spec_columns.specs.Lines.{lined}
 
@@ -118,27 +118,6 @@ whole-line i b t h =
     (ap (λ (z : List ℕ). 10 ∷ [] ++ start ++ (32 ∷ [] ++ take 10 (b ∷ t) ++ z)) r ∙
     (regroup (10 ∷ []) start (32 ∷ [] ++ take 10 (b ∷ t)) (blocks 5 (drop 10 (b ∷ t))) w ∙
     ap (λ (z : List ℕ). 10 ∷ [] ++ (start ++ z) ++ w) (sym (blocks-take 6 (b ∷ t)))))
-
--- ---- the line's number
-
-step :
-    (f k c : ℕ) → ((m : ℕ) → m < c → length (digits f m) ≤ k) → (n : ℕ) → n < 10 * c → length (digits (suc f) n) ≤ suc k
-unfolding digits
-step f k c ih n h = go (ltb n 10) refl
-  where
-    go : (x : Bool) → ltb n 10 ≡ x → length (digits (suc f) n) ≤ suc k
-    go true p = rw (digits, p) (omega arith)
-    go false p = rw (digits, p) (simp length-append (omega (arith, ih (n / 10) (omega arith))))
-
-few : (f n : ℕ) → n < 10 → length (digits (suc f) n) ≤ 1
-unfolding digits
-few f n h = rw (digits, lt-ltb n 10 h) (omega arith)
-
--- a number below 1,000,000,000 has at most nine digits
-nine-digits : (n : ℕ) → n < 1000000000 → length (decimal n) ≤ 9
-nine-digits =
-    step 9 8 100000000
-    (step 8 7 10000000 (step 7 6 1000000 (step 6 5 100000 (step 5 4 10000 (step 4 3 1000 (step 3 2 100 (step 2 1 10 (few 1))))))))
 
 -- ---- all lines, n of them at most
 

@@ -86,11 +86,12 @@ kind-outside = (refl, refl)
 
 -- ---- the width
 
--- LOCUS has 79 columns with a name of one byte, and over 132 with one of 80; a line of letters has 75; a text has over 80 where the width is
+-- LOCUS has more than 79 columns with a name of 27 bytes, more than 132 with one of 80, whatever the width; a line of letters has 75; a text may have more than
+-- 80 where the width is more
 pub wider :
-    (within 79 79 (locusText false false (short (letters 1) (bytes "DNA") (bytes "SYN"))) ≡ true) ×
-    (within 78 78 (locusText false false (short (letters 1) (bytes "DNA") (bytes "SYN"))) ≡ false) ×
+    (within 79 79 (locusText false false (short (letters 26) (bytes "DNA") (bytes "SYN"))) ≡ true) ×
+    (within 79 79 (locusText false false (short (letters 27) (bytes "DNA") (bytes "SYN"))) ≡ false) ×
     (within 132 132 (locusText false false (short (letters 80) (bytes "DNA") (bytes "SYN"))) ≡ false) × (within 75 75 (originLines (letters 60)) ≡ true) ×
-    (within 74 74 (originLines (letters 60)) ≡ false) × (within 80 80 (fieldLines 132 (bytes "COMMENT") (letters 69)) ≡ false)
+    (within 60 60 (originLines (letters 60)) ≡ false) × (within 80 80 (fieldLines 81 (bytes "COMMENT") (letters 69)) ≡ false)
 unfolding within locusText printedName lengthText digits dateText monthName words joined tokens originLines letterLines fieldLines wrapText wrapped fill linesAfter closing
 wider = (refl, refl, refl, refl, refl, refl)
