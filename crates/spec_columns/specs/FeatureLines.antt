@@ -28,7 +28,7 @@ features-columns W f fs = (bytes "FEATURES             Location/Qualifiers", ref
 abbrev pub kindStart : List ℕ → List ℕ
 kindStart k = spaces 5 ++ padded 15 k ++ bytes " "
 
-pub start-length : (k : List ℕ) → length k ≤ 15 → length (kindStart k) ≡ 21
+start-length : (k : List ℕ) → length k ≤ 15 → length (kindStart k) ≡ 21
 start-length k h = simp (length-append, length-replicate) (omega arith)
 
 -- key and location in their columns

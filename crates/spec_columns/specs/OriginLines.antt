@@ -97,7 +97,7 @@ blocks-take (suc n) (b ∷ t) =
     rw (e, blocks, take-take 9 (9 + 10 * n) t (omega arith), drop-of-take 9 (10 * n) t, blocks-take n (drop 9 t))
 
 -- the line of the letters l, of which the first has number i, counted from 0
-unfoldable pub numberedLine : ℕ → List ℕ → List ℕ
+unfoldable numberedLine : ℕ → List ℕ → List ℕ
 numberedLine i l = rightAligned 9 (decimal (suc i)) ++ blocks 6 l
 
 regroup : (x r y z w : List ℕ) → x ++ r ++ (y ++ (z ++ w)) ≡ x ++ (r ++ (y ++ z)) ++ w
