@@ -41,10 +41,6 @@ cell-short n l w z h = omega (arith, take-short n l, ap length (same-is (take n 
 
 -- ---- gaps
 
-pub spaces-last : (n : ℕ) (x : List ℕ) → spaces n ++ 32 ∷ x ≡ spaces (suc n) ++ x
-spaces-last zero x = refl
-spaces-last (suc n) x = ap (λ (y : List ℕ). 32 ∷ y) (spaces-last n x)
-
 pub spaces-join : (m n : ℕ) (x : List ℕ) → spaces m ++ (spaces n ++ x) ≡ spaces (m + n) ++ x
 spaces-join zero n x = let e : 0 + n ≡ n = omega arith in rw e
 spaces-join (suc m) n x = let e : suc m + n ≡ suc (m + n) = omega arith in rw e (ap (λ (y : List ℕ). 32 ∷ y) (spaces-join m n x))

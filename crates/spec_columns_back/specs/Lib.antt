@@ -1,3 +1,5 @@
 -- What has the columns of the public documents is read as its values.
 pub mod Cells
+pub mod Further
 pub mod LocusRead
+pub mod FeatureRead

@@ -17,8 +17,9 @@ use Rattle.spec_format.specs.declared.Dated.the-variants as dated
 use Rattle.spec_public.specs.Public.{LocusValues, locusTests, locusColumns}
 use Rattle.spec_texts_back.specs.Tests.{and-left, and-right, all-append, all-imp}
 use Rattle.spec_record_back.specs.Decimals.{DateBack, date-back}
+use Rattle.spec_record_back.specs.FeatureBack.{spaces-last}
 use Rattle.spec_record_back.specs.LocusBack.{Gaps, lineText, Parts, tokenFine, Count, digit-visible, date-some, values-back}
-use Rattle.spec_columns_back.specs.Cells.{same-is, cell, last-cell, spaces-last, spaces-join, all-among}
+use Rattle.spec_columns_back.specs.Cells.{same-is, cell, last-cell, spaces-join, all-among}
 
 -- the public words for the strands, which may also be missing
 abbrev pub strands : List (List ℕ)
