@@ -3,3 +3,4 @@ pub mod Cells
 pub mod Further
 pub mod LocusRead
 pub mod FeatureRead
+pub mod QualifierRead
