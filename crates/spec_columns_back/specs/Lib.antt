@@ -4,3 +4,5 @@ pub mod Further
 pub mod LocusRead
 pub mod FeatureRead
 pub mod QualifierRead
+pub mod OriginRead
+pub mod EntryRead
