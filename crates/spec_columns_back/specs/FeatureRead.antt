@@ -1,31 +1,26 @@
 -- EVERY FEATURE with the public columns, its location over any number of lines, is read as its key, the joined location and its qualifiers.
-use Prim.Native.Nat.{ℕ, zero, suc, _+_, _-_, _≤_}
+use Prim.Native.Nat.{ℕ, suc, _-_, _≤_}
 use native.Mathlib.Omega.{arith}
-use mathlib.Core.Bool.{Bool, true, false, _&&_, not}
-use mathlib.Core.Path.{_≡_, refl, sym, ap, _∙_}
+use mathlib.Core.Bool.{Bool, true, _&&_, not}
+use mathlib.Core.Path.{_≡_, refl, ap, _∙_}
 use mathlib.Core.List.{List, [], _∷_, _++_, append-assoc}
-use lib.ListN.{length, take, drop, length-replicate}
+use lib.ListN.{length, drop, length-replicate}
 use Rattle.spec_format.specs.Bytes.{bytes, spaces, some, starts, all, each, concat, visible, slash, but}
-use Rattle.spec_format.specs.Readers.{Got, tag, until, lineEnd, many0}
+use Rattle.spec_format.specs.Readers.{Got, tag, until, lineEnd, many0, whileFits}
 use Rattle.spec_format.specs.Features.{featuresHeader, bare, qualifier, locationText, kindText, featureFrom, feature}
+use Rattle.spec_format.specs.Record.{features}
 use Rattle.spec_format.specs.Table.{Qualifier, Feature}
 use Rattle.spec_public.specs.Public.{fromLeft, blankAt, featuresColumns, featureColumns}
+use Rattle.spec_loops.specs.Loops.{tries-more}
+use Rattle.spec_loops.specs.Shrinks.{feature-small}
 use Rattle.spec_texts_back.specs.Tests.{and-left, and-right, and-both, all-head, all-tail, all-append, all-imp, all-first, starts-more}
 use Rattle.spec_texts_back.specs.Pieces.{spaces-back, noEnd, visible-noEnd, visible-but}
 use Rattle.spec_texts_back.specs.BareBack.{ends}
+use Rattle.spec_record_back.specs.QualifierBack.{outside, starts-outside}
 use Rattle.spec_record_back.specs.FeatureBack.{spaces-last, feature-steps, kind-read}
 use Rattle.spec_format.specs.Impossible.{impossible}
 use Rattle.spec_columns_back.specs.Cells.{cell, last-cell, cell-short}
 use Rattle.spec_columns_back.specs.Further.{ended, continued, goesOn, bare-read}
-
--- ---- the first line of the feature table
-
-pub features-read : (line rest : List ℕ) → featuresColumns line ≡ true → featuresHeader (line ++ 10 ∷ rest) ≡ Got [] rest
-unfolding featuresHeader tag until lineEnd
-features-read line rest h =
-    let e : line ≡ bytes "FEATURES             Location/Qualifiers" =
-    cell line 0 21 (bytes "FEATURES             ") (bytes "Location/Qualifiers") _ h (λ h. last-cell line 21 (bytes "Location/Qualifiers") h) in
-    rw e
 
 -- ---- a feature
 
@@ -97,3 +92,32 @@ feature-read key l line ms lines s rest qs h c k t f e q =
     (spaces-back (15 - length key) x₃ (starts-more (but 32) (ended l) (each ended lines ++ s) (starts-more (but 32) l (10 ∷ []) (seen-starts l ls lv))))
     (rw length-replicate (omega (arith, length-replicate {A = ℕ} (15 - length key) 32)))
     (rw (b, whole, q)))
+
+-- ---- the feature table
+
+-- a feature's line may follow a location or a value, and no qualifier stands there
+pub feature-follows : (key l line x : List ℕ) → featureColumns key l line ≡ true → kindText key ≡ true → outside 21 (line ++ x) ≡ true
+feature-follows key l line x h k =
+    let kv : all visible key ≡ true = and-left (all visible key) _ (and-right (some key) _ k) in
+    let gap : List ℕ = spaces (suc (15 - length key)) in
+    rw (line-is key l line h, line-group (spaces 5) key gap l x)
+    (starts-outside 15 (key ++ (gap ++ (l ++ x))) (starts-more (but 32) key (gap ++ (l ++ x)) (seen-starts key (and-left (some key) _ k) kv)))
+  where
+    line-group : (a k g l x : List ℕ) → (a ++ (k ++ (g ++ l))) ++ x ≡ a ++ (k ++ (g ++ (l ++ x)))
+    line-group a k g l x = simp append-assoc
+
+-- a feature that is read stands before those that are read after it
+pub features-more :
+    (s t : List ℕ) (f : Feature) (fs : List Feature) (rest : List ℕ) → feature s ≡ Got f t → whileFits feature t ≡ Got fs rest →
+    whileFits feature s ≡ Got (f ∷ fs) rest
+features-more s t f fs rest e g = tries-more feature feature-small s f t e ∙ rw g
+
+-- THE FIRST LINE OF THE FEATURE TABLE, and the features that are read after it
+pub table-read :
+    (line s : List ℕ) (fs : List Feature) (rest : List ℕ) → featuresColumns line ≡ true → whileFits feature s ≡ Got fs rest →
+    features (ended line ++ s) ≡ Got fs rest
+unfolding features featuresHeader tag until lineEnd
+table-read line s fs rest h f =
+    let e : line ≡ bytes "FEATURES             Location/Qualifiers" =
+    cell line 0 21 (bytes "FEATURES             ") (bytes "Location/Qualifiers") _ h (λ h. last-cell line 21 (bytes "Location/Qualifiers") h) in
+    rw e f

@@ -1,11 +1,9 @@
 -- Lines that go on with a text, each alone from the column where the text began; a location or a bare value over such lines is read as their join.
-use Prim.Native.Nat.{ℕ, zero, suc, _+_, _-_}
+use Prim.Native.Nat.{ℕ, suc, _+_, _-_}
 use native.Mathlib.Omega.{arith}
 use mathlib.Core.Bool.{Bool, true, false, _&&_, not}
-use mathlib.Core.Path.{_≡_, refl, sym, ap, _∙_}
+use mathlib.Core.Path.{_≡_, refl}
 use mathlib.Core.List.{List, [], _∷_, _++_, append-assoc, append-nil}
-use lib.ListN.{length, take, drop}
-use lib.Dec.{eqb}
 use Rattle.spec_format.specs.Bytes.{spaces, starts, all, each, concat, slash, but}
 use Rattle.spec_format.specs.Readers.{Got}
 use Rattle.spec_format.specs.Features.{bare}
@@ -55,9 +53,12 @@ furthers-are n (t ∷ ts) (line ∷ lines) h =
 abbrev pub goesOn : List ℕ → Bool
 goesOn t = not (starts slash t) && all noEnd t
 
-goes-starts : (t x : List ℕ) → not (starts slash t) ≡ true → starts (but 47) (t ++ 10 ∷ x) ≡ true
+goes-starts : (t x : List ℕ) → goesOn t ≡ true → starts (but 47) (t ++ 10 ∷ x) ≡ true
 goes-starts [] x h = refl
-goes-starts (b ∷ t) x h = h
+goes-starts (b ∷ t) x h = search (and-left)
+
+goes-line : (t : List ℕ) → goesOn t ≡ true → all noEnd t ≡ true
+goes-line t h = search (and-right)
 
 regroup : (i t e x : List ℕ) → (i ++ (t ++ e)) ++ x ≡ i ++ (t ++ (e ++ x))
 regroup i t e x = simp append-assoc
@@ -69,8 +70,8 @@ module _ (n : ℕ) (rest : List ℕ) (fine : ends n rest ≡ true) where
       let g : goesOn m ≡ true = all-head goesOn m ms k in
       let x : List ℕ = m ++ 10 ∷ (each (further n) ms ++ rest) in
       rw (append-assoc (further n m) (each (further n) ms) rest, regroup (spaces n) m (10 ∷ []) (each (further n) ms ++ rest))
-      (lines-more n rest l (m ++ concat ms) x h (goes-starts m _ (and-left (not (starts slash m)) _ g))
-      (lines-read m ms (and-right (not (starts slash m)) _ g) (all-tail goesOn m ms k)))
+      (lines-more n rest l (m ++ concat ms) x h (goes-starts m _ g)
+      (lines-read m ms (goes-line m g) (all-tail goesOn m ms k)))
 
   -- LINES THAT GO ON are read as their join, up to what may follow them
   pub bare-read :

@@ -6,3 +6,4 @@ pub mod FeatureRead
 pub mod QualifierRead
 pub mod OriginRead
 pub mod EntryRead
+pub mod Untaken

@@ -1,10 +1,10 @@
 -- EVERY LOCUS LINE with the public columns, whose values are such as document 01 takes, is read as these values.
-use Prim.Native.Nat.{ℕ, zero, suc, _+_, _-_}
+use Prim.Native.Nat.{ℕ, suc, _+_, _-_}
 use native.Mathlib.Omega.{arith}
-use mathlib.Core.Bool.{Bool, true, false, _&&_, _||_}
-use mathlib.Core.Path.{_≡_, refl, sym, ap, _∙_}
+use mathlib.Core.Bool.{true, false}
+use mathlib.Core.Path.{_≡_, refl, ap, _∙_}
 use mathlib.Core.List.{List, [], _∷_, _++_, append-assoc}
-use lib.ListN.{length, drop}
+use lib.ListN.{length}
 use lib.Dec.{leb}
 use Rattle.spec_format.specs.Bytes.{May, absent, is, bytes, spaces, some, all, same, among, visible, digit, but, number}
 use Rattle.spec_format.specs.Readers.{Got}
@@ -15,10 +15,10 @@ use Rattle.spec_format.specs.Write.{moleculeText, topologyText}
 use Rattle.spec_format.specs.declared.Date.{Date}
 use Rattle.spec_format.specs.declared.Dated.the-variants as dated
 use Rattle.spec_public.specs.Public.{LocusValues, locusTests, locusColumns}
-use Rattle.spec_texts_back.specs.Tests.{and-left, and-right, all-append, all-imp}
-use Rattle.spec_record_back.specs.Decimals.{DateBack, date-back}
+use Rattle.spec_texts_back.specs.Tests.{all-append, all-imp}
+use Rattle.spec_record_back.specs.Decimals.{date-back}
 use Rattle.spec_record_back.specs.FeatureBack.{spaces-last}
-use Rattle.spec_record_back.specs.LocusBack.{Gaps, lineText, Parts, tokenFine, Count, digit-visible, date-some, values-back}
+use Rattle.spec_record_back.specs.LocusBack.{Gaps, lineText, Parts, tokenFine, digit-visible, date-some, values-back}
 use Rattle.spec_columns_back.specs.Cells.{same-is, cell, last-cell, spaces-join, all-among}
 
 -- the public words for the strands, which may also be missing

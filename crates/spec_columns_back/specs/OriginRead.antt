@@ -1,14 +1,14 @@
 -- EVERY ORIGIN BLOCK with the public columns is read as its letters.
-use Prim.Native.Nat.{ℕ, zero, suc, _+_, _-_, _*_, _≤_}
+use Prim.Native.Nat.{ℕ, zero, suc, _-_, _*_, _≤_}
 use native.Mathlib.Omega.{arith}
-use mathlib.Core.Bool.{Bool, true, false, _&&_, not}
-use mathlib.Core.Path.{_≡_, refl, sym, ap, _∙_}
+use mathlib.Core.Bool.{Bool, true, _&&_, not}
+use mathlib.Core.Path.{_≡_, refl, ap, _∙_}
 use mathlib.Core.List.{List, [], _∷_, _++_, append-assoc}
 use lib.ListN.{length, take, drop, length-drop, take-append-drop}
-use lib.Dec.{eqb, leb}
+use lib.Dec.{leb}
 use borrow.Author.Tests.{leb-true}
 use Rattle.spec_format.specs.Bytes.{bytes, spaces, all, each, digit, letter, blank, notBlank}
-use Rattle.spec_format.specs.Readers.{Got, tag, until, lineEnd}
+use Rattle.spec_format.specs.Readers.{Got, tag, lineEnd}
 use Rattle.spec_format.specs.Origin.{originTag, AtSlash, letters}
 use Rattle.spec_public.specs.Public.{blocks, originColumns}
 use Rattle.spec_texts_back.specs.Tests.{and-left, and-right, all-head, all-tail, all-append, all-imp}

@@ -1,21 +1,21 @@
 -- EVERY QUALIFIER at column 22 is read as its key and value: a key alone, with a bare value over lines, with a quoted value as the public document presents it.
 use Prim.Native.Nat.{ℕ}
-use mathlib.Core.Bool.{Bool, true, false, _&&_, not}
-use mathlib.Core.Path.{_≡_, refl, ap, _∙_}
+use mathlib.Core.Bool.{Bool, true, _&&_, not}
+use mathlib.Core.Path.{_≡_, refl, _∙_}
 use mathlib.Core.List.{List, [], _∷_, _++_, append-assoc}
-use lib.ListN.{drop}
 use Rattle.spec_format.specs.Bytes.{May, absent, is, bytes, spaces, some, starts, all, same, each, concat, quote, but}
 use Rattle.spec_format.specs.Utf8.{utf8}
-use Rattle.spec_format.specs.Readers.{Got}
+use Rattle.spec_format.specs.Readers.{Got, many0}
 use Rattle.spec_format.specs.Features.{valueOf, qualifier, keyEnd}
 use Rattle.spec_format.specs.Table.{Qualifier}
-use Rattle.spec_format.specs.Write.{keyText}
 use Rattle.spec_public.specs.Public.{qualifierColumns, presented, brokenText}
+use Rattle.spec_loops.specs.Loops.{many0-more, many0-stop}
+use Rattle.spec_loops.specs.Shrinks.{qualifier-small}
 use Rattle.spec_texts_back.specs.Tests.{and-left, and-right}
 use Rattle.spec_texts_back.specs.Pieces.{noEnd}
 use Rattle.spec_texts_back.specs.BareBack.{ends}
 use Rattle.spec_texts_back.specs.QuotedBack.{presented-back}
-use Rattle.spec_record_back.specs.QualifierBack.{inKey, key-steps, flag-value, pair-value, value-bare, value-quoted}
+use Rattle.spec_record_back.specs.QualifierBack.{outside, outside-qualifier, inKey, key-steps, flag-value, pair-value, value-bare, value-quoted}
 use Rattle.spec_columns_back.specs.Cells.{cell, last-cell}
 use Rattle.spec_columns_back.specs.Further.{ended, continued, goesOn, bare-read}
 
@@ -79,3 +79,19 @@ quoted-read k l text ms rest h t n g u e =
   where
     regroup : (k s p r : List ℕ) → (spaces 21 ++ (47 ∷ (k ++ (s ++ p)))) ++ r ≡ spaces 21 ++ (47 ∷ (k ++ (s ++ (p ++ r))))
     regroup k s p r = simp append-assoc
+
+-- ---- qualifiers one after the other
+
+-- a line with a qualifier may follow a location or a value
+pub qualifier-follows : (t line x : List ℕ) → qualifierColumns (bytes "/" ++ t) line ≡ true → ends 21 (line ++ x) ≡ true
+qualifier-follows t line x h = rw (line-is (47 ∷ t) line h)
+
+-- a qualifier that is read stands before those that are read after it
+pub qualifiers-more :
+    (s t : List ℕ) (q : Qualifier) (qs : List Qualifier) (rest : List ℕ) → qualifier 21 s ≡ Got q t → many0 (qualifier 21) t ≡ Got qs rest →
+    many0 (qualifier 21) s ≡ Got (q ∷ qs) rest
+qualifiers-more s t q qs rest e f = many0-more (qualifier 21) (qualifier-small 21) s q t e ∙ rw f
+
+-- and there is none where a line has another byte than a blank in its first 21 columns
+pub qualifiers-end : (rest : List ℕ) → outside 21 rest ≡ true → many0 (qualifier 21) rest ≡ Got [] rest
+qualifiers-end rest h = many0-stop (qualifier 21) rest (outside-qualifier 21 rest h)
