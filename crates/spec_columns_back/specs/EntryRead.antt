@@ -1,14 +1,17 @@
 -- EVERY HEADER ENTRY with the public columns is read as its text: the first line's and those that go on at column 13, joined.
 use Prim.Native.Nat.{ℕ, suc, _+_, _-_, _<_}
 use native.Mathlib.Omega.{arith}
-use mathlib.Core.Bool.{Bool, true, not}
+use mathlib.Core.Bool.{Bool, true, false, not}
 use mathlib.Core.Path.{_≡_, refl, ap, _∙_}
 use mathlib.Core.List.{List, [], _∷_, _++_, append-assoc}
 use lib.ListN.{length}
-use Rattle.spec_format.specs.Bytes.{spaces, starts, all, each, space, but}
+use lib.Dec.{lit<}
+use Rattle.spec_format.specs.Bytes.{bytes, spaces, starts, all, each, space, but}
 use Rattle.spec_format.specs.Utf8.{utf8}
 use Rattle.spec_format.specs.Readers.{Got, No, tag}
-use Rattle.spec_format.specs.Header.{lineAfter, concatLines, field}
+use Rattle.spec_format.specs.Header.{lineAfter, concatLines, fieldBytes, field}
+use Rattle.spec_format.specs.Features.{locationText}
+use Rattle.spec_format.specs.Record.{contig}
 use Rattle.spec_public.specs.Public.{entryColumns}
 use Rattle.spec_texts_back.specs.Tests.{all-head, all-tail}
 use Rattle.spec_texts_back.specs.Pieces.{noEnd}
@@ -51,14 +54,11 @@ text-starts (b ∷ t) x h = h
 lines-group : (i w g t e m r : List ℕ) → ((i ++ (w ++ (g ++ t))) ++ e) ++ m ++ r ≡ i ++ (w ++ (g ++ (t ++ (e ++ (m ++ r)))))
 lines-group i w g t e m r = simp append-assoc
 
--- AN ENTRY WITH THE PUBLIC COLUMNS is read; at least a blank stands after its word, and none before its text
-pub entry-read :
+bytes-read :
     (indent : ℕ) (word t line : List ℕ) (ms lines : List (List ℕ)) (keep : Bool) (rest : List ℕ) → entryColumns (suc indent) word t line ≡ true →
     continued 13 ms lines ≡ true → indent + length word < 12 → not (starts space t) ≡ true → all noEnd t ≡ true → all (all noEnd) ms ≡ true →
-    utf8 (concatLines keep t ms) ≡ true → tag (spaces 12) rest ≡ No →
-    field indent word keep (each ended (line ∷ lines) ++ rest) ≡ Got (concatLines keep t ms) rest
-unfolding field
-entry-read indent word t line ms lines keep rest h c k s n o u stops =
+    tag (spaces 12) rest ≡ No → fieldBytes indent word keep (each ended (line ∷ lines) ++ rest) ≡ Got (concatLines keep t ms) rest
+bytes-read indent word t line ms lines keep rest h c k s n o stops =
     let g : ℕ = 11 - (indent + length word) in
     let e : indent + suc g + length word ≡ 12 = omega arith in
     let x : List ℕ = t ++ 10 ∷ (each (further 12) ms ++ rest) in
@@ -66,6 +66,20 @@ entry-read indent word t line ms lines keep rest h c k s n o u stops =
       line-is indent word t line k h,
       furthers-are 12 ms lines c,
       lines-group (spaces indent) word (spaces (suc g)) t (10 ∷ []) (each (further 12) ms) rest,
-      bytes-steps indent g word x (concatLines keep t ms) rest keep e (text-starts t _ s) (lines-read 12 keep rest stops t ms n o),
-      u,
-    )
+    ) (bytes-steps indent g word x (concatLines keep t ms) rest keep e (text-starts t _ s) (lines-read 12 keep rest stops t ms n o))
+
+-- AN ENTRY WITH THE PUBLIC COLUMNS is read; at least a blank stands after its word, and none before its text
+pub entry-read :
+    (indent : ℕ) (word t line : List ℕ) (ms lines : List (List ℕ)) (keep : Bool) (rest : List ℕ) → entryColumns (suc indent) word t line ≡ true →
+    continued 13 ms lines ≡ true → indent + length word < 12 → not (starts space t) ≡ true → all noEnd t ≡ true → all (all noEnd) ms ≡ true →
+    utf8 (concatLines keep t ms) ≡ true → tag (spaces 12) rest ≡ No →
+    field indent word keep (each ended (line ∷ lines) ++ rest) ≡ Got (concatLines keep t ms) rest
+unfolding field
+entry-read indent word t line ms lines keep rest h c k s n o u stops = rw (bytes-read indent word t line ms lines keep rest h c k s n o stops, u)
+
+-- SO IS CONTIG, its lines joined by nothing
+pub contig-read :
+    (t line : List ℕ) (ms lines : List (List ℕ)) (rest : List ℕ) → entryColumns 1 (bytes "CONTIG") t line ≡ true → continued 13 ms lines ≡ true →
+    not (starts space t) ≡ true → all noEnd t ≡ true → all (all noEnd) ms ≡ true → locationText (concatLines false t ms) ≡ true →
+    tag (spaces 12) rest ≡ No → contig (each ended (line ∷ lines) ++ rest) ≡ Got (concatLines false t ms) rest
+contig-read t line ms lines rest h c s n o u stops = rw (bytes-read 0 (bytes "CONTIG") t line ms lines false rest h c (lit< tt) s n o stops, u)

@@ -26,7 +26,7 @@ abbrev pub strands : List (List ℕ)
 strands = [] ∷ bytes "ss-" ∷ bytes "ds-" ∷ bytes "ms-" ∷ []
 
 -- "name without `:`, length of 1 to 10 digits up to 4,294,967,295, .. molecule type (may be missing), `linear` or `circular`, division, date";
--- "All are bytes 33 to 126"
+-- "All are bytes 33 to 126". The molecule may be empty
 pub record Tidy (v : LocusValues) (d : Date) : Type 0 where
   pub nameSome : some (v .name) ≡ true
   pub nameSeen : all visible (v .name) ≡ true

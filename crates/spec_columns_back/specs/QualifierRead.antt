@@ -64,7 +64,7 @@ pair-read k l line ms lines rest h c t q n g u e =
     regroup : (k s l e m r : List ℕ) → ((spaces 21 ++ (47 ∷ (k ++ (s ++ l)))) ++ e) ++ m ++ r ≡ spaces 21 ++ (47 ∷ (k ++ (s ++ ((l ++ e) ++ (m ++ r)))))
     regroup k s l e m r = simp append-assoc
 
--- A QUOTED VALUE, presented over lines, is its text: LF at the breaks, nothing in `translation`
+-- A QUOTED VALUE, presented over lines, is its text: LF at the breaks, nothing in `translation`. The lines stand with their ends, from column 22 on
 pub quoted-read :
     (k l text : List ℕ) (ms : List (List ℕ)) (rest : List ℕ) → qualifierColumns (bytes "/" ++ (k ++ (bytes "=" ++ presented 21 l ms))) text ≡ true →
     keyTaken k ≡ true → all noEnd l ≡ true → all (all noEnd) ms ≡ true → utf8 (brokenText (same k (bytes "translation")) l ms) ≡ true →

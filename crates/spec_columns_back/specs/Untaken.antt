@@ -1,11 +1,14 @@
--- LOCUS lines of the public documents, computed: one that is read as its values, and those that the documents allow or once allowed and document 01 does not take.
+-- Lines of the public documents, computed: a LOCUS line that is read as its values, and lines that the documents allow or once allowed and document 01 does not take.
 use Prim.Native.Nat.{ℕ}
 use mathlib.Core.Bool.{true}
 use mathlib.Core.Path.{_≡_, refl}
 use mathlib.Core.List.{List, [], _∷_, _++_, map}
+use lib.ListN.{drop}
 use Rattle.spec_format.specs.Bytes.{bytes, all, number}
-use Rattle.spec_format.specs.Readers.{Got, tag, until, line}
+use Rattle.spec_format.specs.Readers.{Got, tag, until, line, membersUpTo, endUpTo, members, end}
 use Rattle.spec_format.specs.Dates.{monthName, dateText}
+use Rattle.spec_format.specs.Utf8.{chars, utf8}
+use Rattle.spec_format.specs.Header.{fieldText, fieldBytes, field, reference, source, ignoredLine, headerField, Dropped}
 use Rattle.spec_format.specs.Locus.{tokens, dateOf, dateToken, locusFrom, locusOf, locusLine, locus, unknown}
 use Rattle.spec_format.specs.declared.Date.{Date}
 use Rattle.spec_public.specs.Public.{LocusValues, locusTests, locusColumns}
@@ -121,3 +124,25 @@ untaken =
 pub untaken-unknown : map (λ l. locus (l ++ 10 ∷ [])) untaken ≡ map (λ l. Got unknown []) untaken
 unfolding untaken placed tag until line tokens dateOf dateToken locusFrom locusOf locusLine locus number
 untaken-unknown = refl
+
+-- ---- the header
+
+-- words that document 01 has not, and a reference without TITLE
+pub unknownWords : List (List ℕ)
+unknownWords =
+    bytes "SEGMENT     1 of 6" ∷
+    bytes "PRIMARY     TPA_SPAN            PRIMARY_IDENTIFIER PRIMARY_SPAN        COMP" ∷
+    bytes "DBSOURCE    accession U49845.1" ∷
+    bytes "NID         g1293613" ∷
+    bytes "  MEDLINE   95176709" ∷
+    bytes "REFERENCE   1  (bases 1 to 5028)" ∷
+    []
+
+-- what stands after each of them here
+pub afterwards : List ℕ
+afterwards = bytes "\n  JOURNAL   Unpublished\n//\n"
+
+-- EACH OF THESE LINES IS DROPPED, alone
+pub words-dropped : map (λ l. headerField (l ++ afterwards)) unknownWords ≡ map (λ l. Got Dropped (drop 1 afterwards)) unknownWords
+unfolding unknownWords afterwards headerField ignoredLine source reference field fieldBytes fieldText tag until line membersUpTo endUpTo members end chars utf8
+words-dropped = refl
