@@ -17,10 +17,7 @@ use Rattle.spec_texts_back.specs.Tests.{all-head, all-tail}
 use Rattle.spec_texts_back.specs.Pieces.{noEnd}
 use Rattle.spec_texts_back.specs.FieldBack.{Lines, joined-line, text-end, text-line, text-pass, bytes-steps}
 use Rattle.spec_columns_back.specs.Cells.{cell, last-cell}
-use Rattle.spec_columns_back.specs.Further.{ended, continued, further, furthers-are}
-
-regroup : (i t e x : List ℕ) → (i ++ (t ++ e)) ++ x ≡ i ++ (t ++ (e ++ x))
-regroup i t e x = simp append-assoc
+use Rattle.spec_columns_back.specs.Further.{ended, continued, further, furthers-are, further-first}
 
 module _ (n : ℕ) (keep : Bool) (rest : List ℕ) (stops : tag (spaces n) rest ≡ No) where
   lines-read :
@@ -30,7 +27,7 @@ module _ (n : ℕ) (keep : Bool) (rest : List ℕ) (stops : tag (spaces n) rest 
   lines-read l (m ∷ ms) h k =
       let x : List ℕ = m ++ 10 ∷ (each (further n) ms ++ rest) in
       let ih : Lines n keep x (concatLines keep m ms) rest = lines-read m ms (all-head (all noEnd) m ms k) (all-tail (all noEnd) m ms k) in
-      rw (append-assoc (further n m) (each (further n) ms) rest, regroup (spaces n) m (10 ∷ []) (each (further n) ms ++ rest), joined-line keep m ms)
+      rw (further-first n m ms rest, joined-line keep m ms)
       (text-pass n keep l (10 ∷ (spaces n ++ x)) (lineAfter keep (concatLines keep m ms)) rest h (text-line n keep x (concatLines keep m ms) rest ih))
 
 line-is :

@@ -11,13 +11,13 @@ use Rattle.spec_format.specs.Features.{featuresHeader, bare, qualifier, locatio
 use Rattle.spec_format.specs.Record.{features}
 use Rattle.spec_format.specs.Table.{Qualifier, Feature}
 use Rattle.spec_public.specs.Public.{fromLeft, blankAt, featuresColumns, featureColumns}
-use Rattle.spec_loops.specs.Loops.{tries-more}
+use Rattle.spec_loops.specs.Loops.{tries-more, tries-no}
 use Rattle.spec_loops.specs.Shrinks.{feature-small}
 use Rattle.spec_texts_back.specs.Tests.{and-left, and-right, and-both, all-head, all-tail, all-append, all-imp, all-first, starts-more}
 use Rattle.spec_texts_back.specs.Pieces.{spaces-back, noEnd, visible-noEnd, visible-but}
 use Rattle.spec_texts_back.specs.BareBack.{ends}
 use Rattle.spec_record_back.specs.QualifierBack.{outside, starts-outside}
-use Rattle.spec_record_back.specs.FeatureBack.{spaces-last, feature-steps, kind-read}
+use Rattle.spec_record_back.specs.FeatureBack.{spaces-last, feature-steps, kind-read, no-feature}
 use Rattle.spec_format.specs.Impossible.{impossible}
 use Rattle.spec_columns_back.specs.Cells.{cell, last-cell, cell-short}
 use Rattle.spec_columns_back.specs.Further.{ended, continued, goesOn, bare-read}
@@ -111,6 +111,10 @@ pub features-more :
     (s t : List ℕ) (f : Feature) (fs : List Feature) (rest : List ℕ) → feature s ≡ Got f t → whileFits feature t ≡ Got fs rest →
     whileFits feature s ≡ Got (f ∷ fs) rest
 features-more s t f fs rest e g = tries-more feature feature-small s f t e ∙ rw g
+
+-- and there is none where a line begins with another byte than a blank
+pub features-end : (rest : List ℕ) → starts (but 32) rest ≡ true → whileFits feature rest ≡ Got [] rest
+features-end rest h = tries-no feature rest (no-feature rest h)
 
 -- THE FIRST LINE OF THE FEATURE TABLE, and the features that are read after it
 pub table-read :

@@ -29,7 +29,7 @@ continued a (t ∷ ts) (line ∷ lines) = continues a t line && continued a ts l
 abbrev pub further : ℕ → List ℕ → List ℕ
 further n t = spaces n ++ (t ++ 10 ∷ [])
 
-pub further-is : (n : ℕ) (t line : List ℕ) → continues (suc n) t line ≡ true → line ≡ spaces n ++ t
+further-is : (n : ℕ) (t line : List ℕ) → continues (suc n) t line ≡ true → line ≡ spaces n ++ t
 further-is n t line h =
     let e : suc n - 1 ≡ n = omega arith in
     let f : n - 0 ≡ n = omega arith in
@@ -47,6 +47,13 @@ furthers-are n (t ∷ ts) (line ∷ lines) h =
       append-assoc (spaces n) t (10 ∷ []),
     )
 
+-- the first of them, and what stands after it
+pub further-first : (n : ℕ) (t : List ℕ) (ts : List (List ℕ)) (x : List ℕ) → each (further n) (t ∷ ts) ++ x ≡ spaces n ++ (t ++ 10 ∷ (each (further n) ts ++ x))
+further-first n t ts x = regroup (spaces n) t (10 ∷ []) (each (further n) ts) x
+  where
+    regroup : (i t e m x : List ℕ) → ((i ++ (t ++ e)) ++ m) ++ x ≡ i ++ (t ++ (e ++ (m ++ x)))
+    regroup i t e m x = simp append-assoc
+
 -- ---- a location or a bare value
 
 -- what a line may go on with: no `/` first, no line end
@@ -60,18 +67,14 @@ goes-starts (b ∷ t) x h = search (and-left)
 goes-line : (t : List ℕ) → goesOn t ≡ true → all noEnd t ≡ true
 goes-line t h = search (and-right)
 
-regroup : (i t e x : List ℕ) → (i ++ (t ++ e)) ++ x ≡ i ++ (t ++ (e ++ x))
-regroup i t e x = simp append-assoc
-
 module _ (n : ℕ) (rest : List ℕ) (fine : ends n rest ≡ true) where
   lines-read : (l : List ℕ) (ms : List (List ℕ)) → all noEnd l ≡ true → all goesOn ms ≡ true → Lines n (l ++ 10 ∷ (each (further n) ms ++ rest)) (l ++ concat ms) rest
   lines-read l [] h k = rw (append-nil l) (lines-one n rest l fine h)
   lines-read l (m ∷ ms) h k =
       let g : goesOn m ≡ true = all-head goesOn m ms k in
       let x : List ℕ = m ++ 10 ∷ (each (further n) ms ++ rest) in
-      rw (append-assoc (further n m) (each (further n) ms) rest, regroup (spaces n) m (10 ∷ []) (each (further n) ms ++ rest))
-      (lines-more n rest l (m ++ concat ms) x h (goes-starts m _ g)
-      (lines-read m ms (goes-line m g) (all-tail goesOn m ms k)))
+      rw (further-first n m ms rest)
+      (lines-more n rest l (m ++ concat ms) x h (goes-starts m _ g) (lines-read m ms (goes-line m g) (all-tail goesOn m ms k)))
 
   -- LINES THAT GO ON are read as their join, up to what may follow them
   pub bare-read :

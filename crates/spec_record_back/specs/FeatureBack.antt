@@ -152,7 +152,7 @@ feature-back W f rest w h g fine =
 
 -- ---- the feature table
 
-no-feature : (s : List ℕ) → starts (but 32) s ≡ true → feature s ≡ No
+pub no-feature : (s : List ℕ) → starts (but 32) s ≡ true → feature s ≡ No
 unfolding feature until
 no-feature [] h = cc
 no-feature (b ∷ s) h = rw (h, until)
