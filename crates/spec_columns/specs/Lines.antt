@@ -6,7 +6,7 @@ use mathlib.Core.Path.{_≡_, refl, ap, _∙_}
 use mathlib.Core.List.{List, [], _∷_, _++_, append-assoc}
 use lib.ListN.{length-replicate}
 use Rattle.spec_format.specs.Bytes.{spaces, each}
-use Rattle.spec_public.specs.Public.{continues}
+use Rattle.spec_public.specs.Public.{continues, continued}
 use Rattle.spec_columns.specs.Tests.{both}
 use Rattle.spec_columns.specs.Parts.{blank-start, rest-start}
 
@@ -16,13 +16,6 @@ ended line = line ++ 10 ∷ []
 -- the lines, each with its LF
 abbrev pub lined : List (List ℕ) → List ℕ
 lined lines = each ended lines
-
--- each of the lines has its text from column a on, and nothing before it
-unfoldable pub continued : ℕ → List (List ℕ) → List (List ℕ) → Bool
-continued a [] [] = true
-continued a [] (l ∷ lines) = false
-continued a (m ∷ texts) [] = false
-continued a (m ∷ texts) (l ∷ lines) = continues a m l && continued a texts lines
 
 -- what is written is lines: the first has the text m in the columns that `opens` tests, those after it have the texts ms from column a on
 pub record Laid (opens : List ℕ → List ℕ → Bool) (a : ℕ) (m : List ℕ) (ms : List (List ℕ)) (written : List ℕ) : Type 0 where

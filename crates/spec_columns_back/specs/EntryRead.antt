@@ -12,12 +12,12 @@ use Rattle.spec_format.specs.Readers.{Got, No, tag}
 use Rattle.spec_format.specs.Header.{lineAfter, concatLines, fieldBytes, field}
 use Rattle.spec_format.specs.Features.{locationText}
 use Rattle.spec_format.specs.Record.{contig}
-use Rattle.spec_public.specs.Public.{entryColumns}
+use Rattle.spec_public.specs.Public.{entryColumns, continued}
 use Rattle.spec_texts_back.specs.Tests.{all-head, all-tail}
 use Rattle.spec_texts_back.specs.Pieces.{noEnd}
 use Rattle.spec_texts_back.specs.FieldBack.{Lines, joined-line, text-end, text-line, text-pass, bytes-steps}
 use Rattle.spec_columns_back.specs.Cells.{cell, last-cell}
-use Rattle.spec_columns_back.specs.Further.{ended, continued, further, furthers-are, further-first}
+use Rattle.spec_columns_back.specs.Further.{ended, further, furthers-are, further-first}
 
 module _ (n : ℕ) (keep : Bool) (rest : List ℕ) (stops : tag (spaces n) rest ≡ No) where
   lines-read :

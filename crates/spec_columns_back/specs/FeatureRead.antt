@@ -10,7 +10,7 @@ use Rattle.spec_format.specs.Readers.{Got, tag, until, lineEnd, many0, whileFit
 use Rattle.spec_format.specs.Features.{featuresHeader, bare, qualifier, locationText, kindText, featureFrom, feature}
 use Rattle.spec_format.specs.Record.{features}
 use Rattle.spec_format.specs.Table.{Qualifier, Feature}
-use Rattle.spec_public.specs.Public.{fromLeft, blankAt, featuresColumns, featureColumns}
+use Rattle.spec_public.specs.Public.{fromLeft, blankAt, featuresColumns, featureColumns, continued}
 use Rattle.spec_loops.specs.Loops.{tries-more, tries-no}
 use Rattle.spec_loops.specs.Shrinks.{feature-small}
 use Rattle.spec_texts_back.specs.Tests.{and-left, and-right, and-both, all-head, all-tail, all-append, all-imp, all-first, starts-more}
@@ -20,7 +20,7 @@ use Rattle.spec_record_back.specs.QualifierBack.{outside, starts-outside}
 use Rattle.spec_record_back.specs.FeatureBack.{spaces-last, feature-steps, kind-read, no-feature}
 use Rattle.spec_format.specs.Impossible.{impossible}
 use Rattle.spec_columns_back.specs.Cells.{cell, last-cell, cell-short}
-use Rattle.spec_columns_back.specs.Further.{ended, continued, goesOn, bare-read}
+use Rattle.spec_columns_back.specs.Further.{ended, goesOn, bare-read}
 
 -- ---- a feature
 

@@ -7,7 +7,7 @@ use mathlib.Core.List.{List, [], _∷_, _++_, append-assoc, append-nil}
 use Rattle.spec_format.specs.Bytes.{spaces, starts, all, each, concat, slash, but}
 use Rattle.spec_format.specs.Readers.{Got}
 use Rattle.spec_format.specs.Features.{bare}
-use Rattle.spec_public.specs.Public.{continues}
+use Rattle.spec_public.specs.Public.{continues, continued}
 use Rattle.spec_texts_back.specs.Tests.{and-left, and-right, all-head, all-tail}
 use Rattle.spec_texts_back.specs.Pieces.{noEnd}
 use Rattle.spec_texts_back.specs.BareBack.{ends, Lines, lines-bare, lines-one, lines-more}
@@ -17,13 +17,6 @@ use Rattle.spec_columns_back.specs.Cells.{cell, last-cell}
 -- a line with its end
 abbrev pub ended : List ℕ → List ℕ
 ended line = line ++ 10 ∷ []
-
--- the lines go on with the texts, one by one, from column a
-abbrev pub continued : ℕ → List (List ℕ) → List (List ℕ) → Bool
-continued a [] [] = true
-continued a [] (line ∷ lines) = false
-continued a (t ∷ ts) [] = false
-continued a (t ∷ ts) (line ∷ lines) = continues a t line && continued a ts lines
 
 -- a line that goes on with a text after n columns
 abbrev pub further : ℕ → List ℕ → List ℕ
@@ -37,6 +30,7 @@ further-is n t line h =
     cell line 0 n (spaces n) t _ (rw (e, e, f) at h) (λ h. rw z (last-cell line n t h))
 
 pub furthers-are : (n : ℕ) (ts lines : List (List ℕ)) → continued (suc n) ts lines ≡ true → each ended lines ≡ each (further n) ts
+unfolding continued
 furthers-are n [] [] h = refl
 furthers-are n [] (line ∷ lines) h = impossible cc
 furthers-are n (t ∷ ts) [] h = impossible cc

@@ -8,7 +8,7 @@ use Rattle.spec_format.specs.Utf8.{utf8}
 use Rattle.spec_format.specs.Readers.{Got, many0}
 use Rattle.spec_format.specs.Features.{valueOf, qualifier, keyEnd}
 use Rattle.spec_format.specs.Table.{Qualifier}
-use Rattle.spec_public.specs.Public.{qualifierColumns, presented, brokenText}
+use Rattle.spec_public.specs.Public.{qualifierColumns, presented, brokenText, continued}
 use Rattle.spec_loops.specs.Loops.{many0-more, many0-stop}
 use Rattle.spec_loops.specs.Shrinks.{qualifier-small}
 use Rattle.spec_texts_back.specs.Tests.{and-left, and-right}
@@ -17,7 +17,7 @@ use Rattle.spec_texts_back.specs.BareBack.{ends}
 use Rattle.spec_texts_back.specs.QuotedBack.{presented-back}
 use Rattle.spec_record_back.specs.QualifierBack.{outside, outside-qualifier, inKey, key-steps, flag-value, pair-value, value-bare, value-quoted}
 use Rattle.spec_columns_back.specs.Cells.{cell, last-cell}
-use Rattle.spec_columns_back.specs.Further.{ended, continued, goesOn, bare-read}
+use Rattle.spec_columns_back.specs.Further.{ended, goesOn, bare-read}
 
 -- "key (one or more bytes but `=`, CR, LF)"; "Texts must be UTF-8"
 abbrev pub keyTaken : List ℕ → Bool
