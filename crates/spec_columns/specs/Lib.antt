@@ -1,5 +1,15 @@
+pub mod Tests
 pub mod Parts
+pub mod Lengths
+pub mod Lines
 pub mod LocusLine
-pub mod Value
+pub mod TextLines
+pub mod CommaLines
+pub mod HeaderLines
 pub mod FeatureLines
+pub mod QualifierLines
 pub mod OriginLines
+pub mod RecordEnd
+pub mod Width
+pub mod RecordWidth
+pub mod Outside

@@ -1,24 +1,27 @@
--- The letters are written 60 a line, the number of the line's first letter right-aligned in columns 1 to 9, blocks of ten from column 11.
+-- The letters are written 60 a line, the number of the line's first letter right-aligned in columns 1 to 9, blocks of ten from column 11, and nothing after them.
 use Prim.Native.Nat.{ℕ, zero, suc, _+_, _-_, _*_, _%_, _≤_, _<_}
 use native.Mathlib.Nat.{not-suc-le-zero}
 use native.Mathlib.Omega.{arith}
-use mathlib.Core.Bool.{Bool, true, false, _&&_}
+use mathlib.Core.Bool.{Bool, true, _&&_, not}
 use mathlib.Core.Path.{_≡_, refl, sym, ap, _∙_}
 use mathlib.Core.List.{List, [], _∷_, _++_, append-assoc}
-use lib.ListN.{length, take, drop, length-append, length-replicate, length-drop}
+use lib.ListN.{length, take, drop, length-drop}
 use lib.Seq.{drop-drop, drop-nil, take-nil, take-take}
-use lib.Dec.{eqb}
 use borrow.Author.Tests.{eq-eqb, ne-eqb}
-use Rattle.spec_format.specs.Bytes.{pick, bytes, spaces, decimal}
+use Rattle.spec_format.specs.Bytes.{bytes, some, decimal}
 use Rattle.spec_format.specs.Write.{rightAligned, lineStart, tenStart, letterLines, originLines}
-use Rattle.spec_public.specs.Public.{columns, fromRight, blocks, originColumns}
-use Rattle.spec_columns.specs.Parts.{same-as, part}
+use Rattle.spec_public.specs.Public.{blocks, entryColumns, originColumns}
+use Rattle.spec_columns.specs.Tests.{both, same-as}
+use Rattle.spec_columns.specs.Lengths.{nine-digits}
+use Rattle.spec_columns.specs.Parts.{part, right-length}
+use Rattle.spec_columns.specs.Lines.{lined}
 
-both : (a b : Bool) → a ≡ true → b ≡ true → (a && b) ≡ true
-both a b p q = cc
+-- the lines have the letters l, sixty a line, of which the first has number i, counted from 0; no line is without letters, no letter without a line
+unfoldable pub numbered : ℕ → List ℕ → List (List ℕ) → Bool
+numbered i l [] = not (some l)
+numbered i l (line ∷ lines) = some l && (originColumns (decimal (suc i)) (take 60 l) line && numbered (i + 60) (drop 60 l) lines)
 
-right-length : (n : ℕ) (w : List ℕ) → length w ≤ n → length (rightAligned n w) ≡ n
-right-length n w h = rw (length-append (spaces (n - length w)) w, length-replicate {A = ℕ} (n - length w) 32) (omega arith)
+-- ---- the letters up to the next ten, and to the line's end
 
 letter-plain : (i b : ℕ) (t : List ℕ) → 0 < i % 10 → letterLines i (b ∷ t) ≡ b ∷ letterLines (suc i) t
 unfolding letterLines
@@ -94,7 +97,7 @@ blocks-take (suc n) (b ∷ t) =
     rw (e, blocks, take-take 9 (9 + 10 * n) t (omega arith), drop-of-take 9 (10 * n) t, blocks-take n (drop 9 t))
 
 -- the line of the letters l, of which the first has number i, counted from 0
-unfoldable pub numberedLine : ℕ → List ℕ → List ℕ
+unfoldable numberedLine : ℕ → List ℕ → List ℕ
 numberedLine i l = rightAligned 9 (decimal (suc i)) ++ blocks 6 l
 
 regroup : (x r y z w : List ℕ) → x ++ r ++ (y ++ (z ++ w)) ≡ x ++ (r ++ (y ++ z)) ++ w
@@ -116,33 +119,53 @@ whole-line i b t h =
     (regroup (10 ∷ []) start (32 ∷ [] ++ take 10 (b ∷ t)) (blocks 5 (drop 10 (b ∷ t))) w ∙
     ap (λ (z : List ℕ). 10 ∷ [] ++ (start ++ z) ++ w) (sym (blocks-take 6 (b ∷ t)))))
 
--- all lines: n of them at most
-unfoldable pub numberedLines : ℕ → ℕ → List ℕ → List ℕ
-numberedLines zero i l = []
-numberedLines (suc n) i [] = []
-numberedLines (suc n) i (b ∷ t) = 10 ∷ [] ++ numberedLine i (take 60 (b ∷ t)) ++ numberedLines n (i + 60) (drop 60 (b ∷ t))
+-- ---- all lines, n of them at most
 
-pub lines-are : (n i : ℕ) (l : List ℕ) → length l ≤ n → i % 60 ≡ 0 → letterLines i l ≡ numberedLines n i l ++ 10 ∷ []
-unfolding numberedLines letterLines
+unfoldable rows : ℕ → ℕ → List ℕ → List (List ℕ)
+rows zero i l = []
+rows (suc n) i [] = []
+rows (suc n) i (b ∷ t) = numberedLine i (take 60 (b ∷ t)) ∷ rows n (i + 60) (drop 60 (b ∷ t))
+
+lines-are : (n i : ℕ) (l : List ℕ) → length l ≤ n → i % 60 ≡ 0 → letterLines i l ≡ 10 ∷ [] ++ lined (rows n i l)
+unfolding rows letterLines
 lines-are zero i [] h g = refl
 lines-are zero i (b ∷ t) h g = absurd (not-suc-le-zero h)
 lines-are (suc n) i [] h g = refl
 lines-are (suc n) i (b ∷ t) h g =
-    let r : letterLines (i + 60) (drop 60 (b ∷ t)) ≡ numberedLines n (i + 60) (drop 60 (b ∷ t)) ++ 10 ∷ [] =
+    let line : List ℕ = numberedLine i (take 60 (b ∷ t)) in
+    let r : letterLines (i + 60) (drop 60 (b ∷ t)) ≡ 10 ∷ [] ++ lined (rows n (i + 60) (drop 60 (b ∷ t))) =
     lines-are n (i + 60) (drop 60 (b ∷ t)) (omega (arith, length-drop 60 (b ∷ t))) (omega arith) in
-    whole-line i b t g ∙
-    (ap (λ (z : List ℕ). 10 ∷ [] ++ numberedLine i (take 60 (b ∷ t)) ++ z) r ∙
-    sym (append-assoc (10 ∷ [] ++ numberedLine i (take 60 (b ∷ t))) (numberedLines n (i + 60) (drop 60 (b ∷ t))) (10 ∷ [])))
+    whole-line i b t g ∙ rw r (ap (λ (z : List ℕ). 10 ∷ z) (sym (append-assoc line (10 ∷ []) (lined (rows n (i + 60) (drop 60 (b ∷ t)))))))
 
--- ORIGIN with its letters is its word and these lines
-pub origin-lines : (b : ℕ) (t : List ℕ) → originLines (b ∷ t) ≡ bytes "ORIGIN      " ++ (numberedLines (length (b ∷ t)) 0 (b ∷ t) ++ 10 ∷ [])
-unfolding originLines
-origin-lines b t = ap (λ (z : List ℕ). bytes "ORIGIN      " ++ z) (lines-are (length (b ∷ t)) 0 (b ∷ t) (omega arith) refl)
-
--- and each line has the columns of the flat file
-pub origin-columns : (i : ℕ) (l : List ℕ) → length (decimal (suc i)) ≤ 9 → originColumns (decimal (suc i)) l (numberedLine i l) ≡ true
+row-columns : (i : ℕ) (l : List ℕ) → suc i < 1000000000 → originColumns (decimal (suc i)) l (numberedLine i l) ≡ true
 unfolding numberedLine
-origin-columns i l h =
+row-columns i l h =
     let count : List ℕ = decimal (suc i) in
-    let p = part (rightAligned 9 count ++ blocks 6 l) 0 9 (rightAligned 9 count) (blocks 6 l) refl (right-length 9 count h) in
-    both _ _ (same-as _ _ (p .here)) (same-as _ _ (p .next))
+    let p = part (rightAligned 9 count ++ blocks 6 l) 0 9 (rightAligned 9 count) (blocks 6 l) refl (right-length 9 count (nine-digits (suc i) h)) in
+    both _ _ (same-as _ _ (p .here)) (both _ _ (same-as _ _ (p .next)) refl)
+
+rows-numbered : (n i : ℕ) (l : List ℕ) → length l ≤ n → (0 < length l → i + length l < 1000000000) → numbered i l (rows n i l) ≡ true
+unfolding rows numbered
+rows-numbered zero i [] h g = refl
+rows-numbered zero i (b ∷ t) h g = absurd (not-suc-le-zero h)
+rows-numbered (suc n) i [] h g = refl
+rows-numbered (suc n) i (b ∷ t) h g =
+    let e : length (drop 60 (b ∷ t)) ≡ length (b ∷ t) - 60 = length-drop 60 (b ∷ t) in
+    let m : i + length (b ∷ t) < 1000000000 = g (omega arith) in
+    both _ _ (row-columns i (take 60 (b ∷ t)) (omega arith))
+    (rows-numbered n (i + 60) (drop 60 (b ∷ t)) (omega arith) (λ q. omega arith))
+
+-- ORIGIN is a line with its word, and then lines in the columns of the flat file
+pub origin-columns :
+    (b : ℕ) (t : List ℕ) → length (b ∷ t) ≤ 999999999 →
+    (word : List ℕ) × (lines : List (List ℕ)) × (originLines (b ∷ t) ≡ lined (word ∷ lines)) × (entryColumns 1 (bytes "ORIGIN") [] word ≡ true) ×
+    (numbered 0 (b ∷ t) lines ≡ true)
+unfolding originLines
+origin-columns b t h =
+    let n : ℕ = length (b ∷ t) in (
+      bytes "ORIGIN      ",
+      rows n 0 (b ∷ t),
+      ap (λ (z : List ℕ). bytes "ORIGIN      " ++ z) (lines-are n 0 (b ∷ t) (omega arith) refl),
+      refl,
+      rows-numbered n 0 (b ∷ t) (omega arith) (λ q. omega arith),
+    )

@@ -1,1 +1,1 @@
-// Nothing runs here: specs/ proves that the written columns are those of the GenBank flat file, and values presented as INSDC asks.
+// Nothing runs here: specs/ proves that what the writer writes has the columns and the width of the GenBank flat file, and values presented as INSDC asks.

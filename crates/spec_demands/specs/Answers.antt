@@ -1,25 +1,25 @@
 -- Why the demands hold: what the answers of the definitions say, number by number.
-use Prim.Native.Nat.{ℕ, _+_, _*_, _/_, _≤_, _<_}
+use Prim.Native.Nat.{ℕ, _*_, _/_, _≤_, _<_}
 use native.Mathlib.Omega.{arith}
 use mathlib.Core.Bool.{Bool, true, false, _&&_}
 use mathlib.Core.List.{List}
-use mathlib.Core.Path.{_≡_, refl, sym, ap, _∙_}
+use mathlib.Core.Path.{_≡_, refl, ap, _∙_}
 use lib.Dec.{leb}
 use lib.ListN.{length, replicate, length-replicate}
-use borrow.Author.Tests.{le-leb, lt-leb, leb-true, leb-false}
+use borrow.Author.Tests.{le-leb}
 use Rattle.spec_format.specs.Answers.{room, noRule, keepingRules, writeAnswer, plainAnswer, keepingAnswer, sliceAfter}
 use Rattle.spec_format.specs.Bytes.{pick}
 use Rattle.spec_format.specs.Impossible.{impossible}
-use Rattle.spec_format.specs.Keeping.{keeps}
-use Rattle.spec_format.specs.Numbers.{unreadNumber, readNumber, unwrittenNumber, writeNumber}
+use Rattle.spec_format.specs.Numbers.{unreadNumber, readNumber, unwrittenNumber, writeNumber, writeValue}
 use Rattle.spec_format.specs.Record.{Outcome, Read, Not, readAt}
-use Rattle.spec_format.specs.Rooms.{Rooms, tableOf, roomsFine, layout, sizes, fits, headOf, overRooms, answerOf, readAnswer, roomsOf, roomsAfter}
+use Rattle.spec_format.specs.Rooms.{Rooms, tableOf, roomsFine, layout, sizes, fits, overRooms, answerOf, readAnswer, roomsOf, roomsAfter}
 use Rattle.spec_format.specs.Table.{Table}
 use Rattle.spec_format.specs.WellFormed.{widthFine, wellFormed}
 use Rattle.spec_format.specs.Write.{written}
 use Rattle.spec_format.specs.declared.Head.{Head}
 use Rattle.spec_format.specs.declared.How.{How}
-use Rattle.spec_format.specs.declared.ReadAnswer.{ReadAnswer}
+use Rattle.spec_format.specs.declared.Length.{Length}
+use Rattle.spec_format.specs.declared.Length.the-variants as bases
 use Rattle.spec_format.specs.declared.ReadAnswer.the-variants as read
 use Rattle.spec_format.specs.declared.Sizes.{Sizes}
 use Rattle.spec_format.specs.declared.Unread.{Unread}
@@ -28,7 +28,10 @@ use Rattle.spec_format.specs.declared.Unwritten.{Unwritten}
 use Rattle.spec_format.specs.declared.Unwritten.the-variants as unwritten
 use Rattle.spec_format.specs.declared.WriteAnswer.{WriteAnswer}
 use Rattle.spec_format.specs.declared.WriteAnswer.the-variants as answer
-use Rattle.spec_contracts.specs.Writes.{answerBy, answerDue, textDue}
+use Rattle.base_rows.specs.declared.Feature.{Feature}
+use Rattle.base_rows.specs.Flat.{flat-tells}
+use Rattle.spec_contracts.specs.Reads.{RowRooms, flatRooms}
+use Rattle.spec_contracts.specs.Writes.{answerBy, answerDue, textDue, LengthFits}
 
 -- ---- the reader: a refusal is neither 0 nor 6
 
@@ -82,6 +85,18 @@ module _ (s : List ℕ) (at : ℕ) (q : Rooms) where
   unfolding readAnswer answerOf
   answer-not why e = rw e
 
+  pub refused-by : (why : Unread) → readAnswer s at q ≡ read.Refused why → readAt s at ≡ Not why
+  unfolding readAnswer answerOf
+  refused-by why r = go (readAt s at) refl
+    where
+      fitted : (t : Table) (rest : List ℕ) → readAt s at ≡ Read t rest → (b : Bool) → fits (sizes t) q ≡ b → readAt s at ≡ Not why
+      fitted t rest e true f = impossible cc
+      fitted t rest e false f = impossible cc
+
+      go : (o : Outcome) → readAt s at ≡ o → readAt s at ≡ Not why
+      go (Read t rest) e = fitted t rest e (fits (sizes t) q) refl
+      go (Not w) e = cc
+
   pub after-same : (readNumber (readAnswer s at q) ≡ 0 → ⊥) → roomsAfter s at q ≡ q
   unfolding readAnswer answerOf roomsAfter roomsOf
   after-same n = go (readAt s at) refl
@@ -102,6 +117,14 @@ module _ (s : List ℕ) (at : ℕ) (q : Rooms) where
       go : (b : Bool) → fits (sizes t) q ≡ b → roomsAfter s at q ≡ overRooms (layout t) q
       go true f = rw (e, f)
       go false f = let x = answer-number t rest false e f in impossible cc
+
+-- flat numbers tell the rows
+pub rows-tell : (a b : RowRooms) → flatRooms a ≡ flatRooms b → a ≡ b
+rows-tell a b e =
+    ap (λ (x : Rooms). rowsFor x (a .rows)) e ∙ ap (λ (x : List Feature). rowsFor (flatRooms b) x) (flat-tells (a .rows) (b .rows) (ap (λ (x : Rooms). x .features) e))
+  where
+    rowsFor : Rooms → List Feature → RowRooms
+    rowsFor x rows = record { texts = x .texts; references = x .references; comments = x .comments; rows = rows; qualifiers = x .qualifiers; letters = x .letters }
 
 -- ---- rooms of given sizes
 
@@ -125,9 +148,10 @@ long k = length-replicate {A = ℕ} k 0
 pub rooms-for-fit : (n : Sizes) → fits n (roomsFor n) ≡ true
 unfolding fits
 rooms-for-fit n =
-    six _ _ _ _ _ _ (le-leb _ _ (omega (arith, long (n .texts)))) (le-leb _ _ (omega (arith, long (14 * n .references))))
-    (le-leb _ _ (omega (arith, long (2 * n .comments)))) (le-leb _ _ (omega (arith, long (6 * n .features))))
-    (le-leb _ _ (omega (arith, long (4 * n .qualifiers)))) (le-leb _ _ (omega (arith, long (n .letters))))
+    rw (long (n .texts), long (14 * n .references), long (2 * n .comments), long (6 * n .features), long (4 * n .qualifiers), long (n .letters))
+    (six _ _ _ _ _ _ (le-leb (n .texts) (n .texts) (omega arith)) (le-leb (n .references) (14 * n .references / 14) (omega arith))
+    (le-leb (n .comments) (2 * n .comments / 2) (omega arith)) (le-leb (n .features) (6 * n .features / 6) (omega arith))
+    (le-leb (n .qualifiers) (4 * n .qualifiers / 4) (omega arith)) (le-leb (n .letters) (n .letters) (omega arith)))
 
 -- ---- the writers
 
@@ -142,6 +166,12 @@ unwritten-not-six unwritten.BadRooms e = impossible cc
 unwritten-not-six unwritten.NoLayout e = impossible cc
 unwritten-not-six unwritten.BadWidth e = impossible cc
 unwritten-not-six unwritten.NotKept e = impossible cc
+
+-- 6 with a count is that answer
+pub room-of : (a : WriteAnswer) (k : ℕ) → writeNumber a ≡ 6 → writeValue a ≡ k → a ≡ answer.Room k
+room-of (answer.Done n) k e v = impossible cc
+room-of (answer.Room n) k e v = ap answer.Room v
+room-of (answer.Refused why) k e v = absurd (unwritten-not-six why e)
 
 pub slice-same : (a : WriteAnswer) (text old : List ℕ) → (writeNumber a ≡ 0 → ⊥) → sliceAfter a text old ≡ old
 slice-same (answer.Done k) text old h = absurd (h refl)
@@ -177,6 +207,21 @@ what-is-due how r h = due-by (how .keeping) (how .width) (how .truncate) (how .e
 pub room-number : (n k : ℕ) (b : Bool) → leb k n ≡ b → writeNumber (room n k) ≡ pick b 0 6
 room-number n k true e = rw e
 room-number n k false e = rw e
+
+pub done-count : (how : How) (r : Rooms) (h : Head) (n k : ℕ) → answerDue how r h n ≡ answer.Done k → k ≡ length (textDue how (tableOf r h))
+done-count how r h n k e = by (what-is-due how r h)
+  where
+    by : Due (answerDue how r h) (length (textDue how (tableOf r h))) → k ≡ length (textDue how (tableOf r h))
+    by (never why f) = let x = f n in impossible cc
+    by (byRoom f) = go (leb (length (textDue how (tableOf r h))) n) refl
+      where
+        go : (b : Bool) → leb (length (textDue how (tableOf r h))) n ≡ b → k ≡ length (textDue how (tableOf r h))
+        go true g = let x = f n in cc
+        go false g = let x = f n in impossible cc
+
+pub length-below : (l : Length) → LengthFits l → (n : ℕ) → l ≡ bases.Bases n → n < 4294967296
+length-below bases.Absent f n e = impossible cc
+length-below (bases.Bases m) f n e = let x : m ≡ n = cc in omega (arith, f)
 
 -- a writer that is done passed 12, 10 and 11
 pub record Passed (W : ℕ) (truncate escape : Bool) (r : Rooms) (h : Head) : Type 0 where

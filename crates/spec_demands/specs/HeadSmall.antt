@@ -1,19 +1,16 @@
 -- The head that is read back can be told as numbers: its texts lie in a room, its length has 32 bits, its date is one.
-use Prim.Native.Nat.{ℕ, _+_, _-_, _≤_, _<_}
+use Prim.Native.Nat.{ℕ, _-_, _≤_, _<_}
 use native.Mathlib.Omega.{arith}
-use mathlib.Core.Bool.{Bool, true, false, _&&_}
+use mathlib.Core.Bool.{Bool, true, false}
 use mathlib.Core.List.{List}
 use mathlib.Core.Path.{_≡_, refl}
-use lib.Dec.{ltb, leb}
+use lib.Dec.{ltb}
 use lib.ListN.{length, take, drop, length-take, length-drop}
 use borrow.Author.Tests.{leb-true, ltb-false}
-use Rattle.spec_format.specs.Bytes.{May, absent, is, pick}
-use Rattle.spec_format.specs.Dates.{made, isDate}
 use Rattle.spec_format.specs.Impossible.{impossible}
 use Rattle.spec_format.specs.Record.{most}
 use Rattle.spec_format.specs.Rooms.{Rooms, tableOf, roomsFine, lengthsFine, headOf, textAt, sourceAt, lengthOf, mayText, maySource, mayLength}
 use Rattle.spec_format.specs.WellFormed.{dateFine, locusFine, wellFormed}
-use Rattle.spec_format.specs.declared.Date.{Date}
 use Rattle.spec_format.specs.declared.Dated.{Dated}
 use Rattle.spec_format.specs.declared.Dated.the-variants as dated
 use Rattle.spec_format.specs.declared.Head.{Head}
@@ -71,7 +68,7 @@ texts-short r h e = leb-true (length (r .texts)) most (and-left _ _ (and-left _ 
 
 dated-fine : (W : ℕ) (truncate escape : Bool) (r : Rooms) (h : Head) → wellFormed W truncate escape (tableOf r h) ≡ true → dateFine (h .date) ≡ true
 unfolding wellFormed locusFine tableOf
-dated-fine W truncate escape r h e = and-right _ _ (and-right _ _ (and-right _ _ (and-right _ _ (and-left _ _ e))))
+dated-fine W truncate escape r h e = search (and-left, and-right)
 
 pub head-small : (W : ℕ) (truncate escape : Bool) (r : Rooms) (h : Head) → roomsFine r h ≡ true → wellFormed W truncate escape (tableOf r h) ≡ true → LengthFits (h .length) → Small (headOf (tableOf r h))
 unfolding headOf tableOf

@@ -108,14 +108,6 @@ module _ (W : ℕ) (truncate escape : Bool) (r : Rooms) (h : Head) (n : ℕ) whe
   pub done-as-plain : (k : ℕ) → keepingAnswer W truncate escape r h n ≡ answer.Done k → plainAnswer W truncate escape r h n ≡ answer.Done k
   done-as-plain k e = sym (as-plain (done-keeps k e)) ∙ e
 
--- two answers that equal the one that is due, with the slices that they leave
-pub one-answer :
-    (due : WriteAnswer) (text old : List ℕ) (a b : WriteAnswer) (x y : List ℕ) → a ≡ due → x ≡ sliceAfter a text old → b ≡ due → y ≡ sliceAfter b text old →
-    (a ≡ b) × (x ≡ y)
-one-answer due text old a b x y e f g i =
-    let p : a ≡ b = e ∙ sym g in
-    (p, f ∙ (ap (λ c. sliceAfter c text old) p ∙ sym i))
-
 -- ---- numbers
 
 pub zero-done : (a : WriteAnswer) (k : ℕ) → ((writeNumber a ≡ 0) × (writeValue a ≡ k)) ↔ (a ≡ answer.Done k)
@@ -154,12 +146,12 @@ after-read s at q t rest e f = rw (e, f)
 module _ (s : List ℕ) (at : ℕ) (q : Rooms) (h : Head) (place : ℕ) where
   -- what a reader's answer 0 says
   pub record DoneBy : Type 0 where
-    table : Table
-    rest : List ℕ
-    reads : readAt s at ≡ Read table rest
-    fit : fits (sizes table) q ≡ true
-    answered : h ≡ headOf table
-    ended : place ≡ length s - length rest
+    pub table : Table
+    pub rest : List ℕ
+    pub reads : readAt s at ≡ Read table rest
+    pub fit : fits (sizes table) q ≡ true
+    pub answered : h ≡ headOf table
+    pub ended : place ≡ length s - length rest
 
   pub done-by : readAnswer s at q ≡ read.Done h place → DoneBy
   unfolding readAnswer answerOf

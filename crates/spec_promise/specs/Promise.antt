@@ -15,18 +15,15 @@ use Rattle.spec_format.specs.WellFormed.{wellFormed}
 use Rattle.spec_format.specs.Keeping.{keeps}
 use Rattle.spec_format.specs.Rooms.{Rooms, tableOf, lengthsFine, roomsFine, sizes, fits, headOf, readAnswer, roomsAfter}
 use Rattle.spec_format.specs.Answers.{keepingAnswer, plainAnswer, sliceAfter}
-use Rattle.spec_format.specs.Numbers.{writeNumber, writeValue}
 use Rattle.spec_format.specs.declared.Head.{Head}
 use Rattle.spec_format.specs.declared.Length.the-variants as given
-use Rattle.spec_format.specs.declared.ReadAnswer.{ReadAnswer}
 use Rattle.spec_format.specs.declared.ReadAnswer.the-variants as read
 use Rattle.spec_format.specs.declared.Unwritten.the-variants as unwritten
-use Rattle.spec_format.specs.declared.WriteAnswer.{WriteAnswer}
 use Rattle.spec_format.specs.declared.WriteAnswer.the-variants as answer
 use Rattle.spec_record_back.specs.RecordBack.{lineEnds}
 use Rattle.spec_record_back.specs.RecordsBack.{keepable, kept-inside, Records, kept-all}
 use Rattle.spec_promise.specs.EmptyLines.{EmptyLine, endBytes, lines-inside}
-use Rattle.spec_promise.specs.Grounds.{width-fine, length-fits, head-length-fits, can-keep, as-plain, refused-by-rule, rule-broken, done-as-plain, done-by, done-holds, done-ends, done-fine, read-done, read-back, one-answer, zero-done, thirteen-not-kept}
+use Rattle.spec_promise.specs.Grounds.{width-fine, length-fits, head-length-fits, can-keep, as-plain, refused-by-rule, rule-broken, done-as-plain, done-by, done-holds, done-ends, done-fine, read-done, read-back}
 
 -- ---- the record comes back
 
@@ -112,11 +109,6 @@ pub thirteen-exactly :
 thirteen-exactly W truncate escape r h n l u a b =
     (rule-broken W truncate escape r h n, refused-by-rule W truncate escape r h n (width-fine W (omega (arith, l)) (omega (arith, u))) a b)
 
--- Number 13 is that answer and no other. Number 0 with a count is the answer that so many bytes are written, and no other.
-pub numbers-name-answers :
-    (a : WriteAnswer) → ((writeNumber a ≡ 13) ↔ (a ≡ answer.Refused unwritten.NotKept)) × ((k : ℕ) → ((writeNumber a ≡ 0) × (writeValue a ≡ k)) ↔ (a ≡ answer.Done k))
-numbers-name-answers a = (thirteen-not-kept a, zero-done a)
-
 -- Where no keeping rule is broken, the keeping writer answers what the plain one does, whatever that is. So it refuses no more than the plain one,
 -- but by a rule.
 pub kept-as-plain :
@@ -134,25 +126,3 @@ pub done-like-plain :
 done-like-plain W truncate escape r h old k e =
     let p = done-as-plain W truncate escape r h (length old) k e in
     (p, ap (λ a. sliceAfter a (written W truncate escape (tableOf r h)) old) (e ∙ sym p))
-
--- ---- one answer for each call
-
--- Two answers that the reader's contract permits for one call are equal. So are the rooms afterwards.
-pub reader-agrees :
-    (s : List ℕ) (at : ℕ) (r : Rooms) (a b : ReadAnswer) (r₁ r₂ : Rooms) → a ≡ readAnswer s at r → r₁ ≡ roomsAfter s at r → b ≡ readAnswer s at r →
-    r₂ ≡ roomsAfter s at r → (a ≡ b) × (r₁ ≡ r₂)
-reader-agrees s at r a b r₁ r₂ e f g i = (e ∙ sym g, f ∙ sym i)
-
--- Two answers that the plain writer's contract permits for one call are equal. So are the slices afterwards.
-pub plain-agrees :
-    (W : ℕ) (truncate escape : Bool) (r : Rooms) (h : Head) (old : List ℕ) (a b : WriteAnswer) (x y : List ℕ) →
-    a ≡ plainAnswer W truncate escape r h (length old) → x ≡ sliceAfter a (written W truncate escape (tableOf r h)) old →
-    b ≡ plainAnswer W truncate escape r h (length old) → y ≡ sliceAfter b (written W truncate escape (tableOf r h)) old → (a ≡ b) × (x ≡ y)
-plain-agrees W truncate escape r h old = one-answer (plainAnswer W truncate escape r h (length old)) (written W truncate escape (tableOf r h)) old
-
--- Two answers that the keeping writer's contract permits for one call are equal. So are the slices afterwards.
-pub keeping-agrees :
-    (W : ℕ) (truncate escape : Bool) (r : Rooms) (h : Head) (old : List ℕ) (a b : WriteAnswer) (x y : List ℕ) →
-    a ≡ keepingAnswer W truncate escape r h (length old) → x ≡ sliceAfter a (written W truncate escape (tableOf r h)) old →
-    b ≡ keepingAnswer W truncate escape r h (length old) → y ≡ sliceAfter b (written W truncate escape (tableOf r h)) old → (a ≡ b) × (x ≡ y)
-keeping-agrees W truncate escape r h old = one-answer (keepingAnswer W truncate escape r h (length old)) (written W truncate escape (tableOf r h)) old

@@ -71,6 +71,13 @@ qualifierColumns text line = passes (blankAt 1 21 ∷ restFrom 22 text ∷ []) l
 abbrev pub continues : ℕ → List ℕ → List ℕ → Bool
 continues a text line = passes (blankAt 1 (a - 1) ∷ restFrom a text ∷ []) line
 
+-- each of the lines goes on with its text
+unfoldable pub continued : ℕ → List (List ℕ) → List (List ℕ) → Bool
+continued a [] [] = true
+continued a [] (l ∷ lines) = false
+continued a (t ∷ texts) [] = false
+continued a (t ∷ texts) (l ∷ lines) = continues a t l && continued a texts lines
+
 -- ---- ORIGIN (3.4.13): the number of the line's first letter right-aligned in columns 1 to 9, a blank, and blocks of ten from column 11
 unfoldable pub blocks : ℕ → List ℕ → List ℕ
 blocks zero l = []

@@ -67,19 +67,19 @@ location-back W kind location rest qs w f n g fine =
     commas-back W 21 w x (qualifiers-follow W rest fine qs g) (length location) 21 location w s a n (omega arith) in
     rw (b, f, qualifiers-back W rest fine qs g)
 
-feature-steps :
+pub feature-steps :
     (s x₁ x₂ x₃ a k c : List ℕ) (f : Feature) (r : List ℕ) → spaces1 s ≡ Got a x₁ → passing kindText (until1 space x₁) ≡ Got k x₂ →
     spaces1 x₂ ≡ Got c x₃ → length a + length k + length c ≡ 21 → featureFrom 21 k x₃ ≡ Got f r → feature s ≡ Got f r
 unfolding feature
 feature-steps s x₁ x₂ x₃ a k c f r e₁ e₂ e₃ e₄ e₅ = rw (e₁, e₂, e₃, e₄, e₅)
 
-kind-read : (k x : List ℕ) → kindText k ≡ true → starts space x ≡ true → passing kindText (until1 space (k ++ x)) ≡ Got k x
+pub kind-read : (k x : List ℕ) → kindText k ≡ true → starts space x ≡ true → passing kindText (until1 space (k ++ x)) ≡ Got k x
 kind-read k x h e =
     let s : some k ≡ true = and-left (some k) _ h in
     let a : all visible k ≡ true = and-left (all visible k) (not (starts slash k)) (and-right (some k) _ h) in
     rw (until-back space k x (all-imp visible (but 32) visible-but k a) e, s, h)
 
-spaces-last : (n : ℕ) (x : List ℕ) → spaces n ++ 32 ∷ x ≡ spaces (suc n) ++ x
+pub spaces-last : (n : ℕ) (x : List ℕ) → spaces n ++ 32 ∷ x ≡ spaces (suc n) ++ x
 spaces-last zero x = refl
 spaces-last (suc n) x = ap (λ (y : List ℕ). 32 ∷ y) (spaces-last n x)
 
@@ -152,7 +152,7 @@ feature-back W f rest w h g fine =
 
 -- ---- the feature table
 
-no-feature : (s : List ℕ) → starts (but 32) s ≡ true → feature s ≡ No
+pub no-feature : (s : List ℕ) → starts (but 32) s ≡ true → feature s ≡ No
 unfolding feature until
 no-feature [] h = cc
 no-feature (b ∷ s) h = rw (h, until)

@@ -1,4 +1,4 @@
--- The LOCUS line: what is written of a table that keeps the rules is read as the same values.
+-- The LOCUS line: its values, parted by any gaps, are read; and so what is written of a table that keeps the rules is read as the same values.
 use Prim.Native.Nat.{ℕ, zero, suc, _+_, _-_, _≤_}
 use native.Mathlib.Omega.{arith}
 use mathlib.Core.Bool.{Bool, true, false, _&&_, _||_}
@@ -7,7 +7,7 @@ use mathlib.Core.List.{List, [], _∷_, _++_, append-assoc, append-nil}
 use lib.ListN.{length}
 use lib.Dec.{eqb, leb}
 use borrow.Author.Tests.{eqb-false, le-leb, leb-true, not-true, ne-eqb}
-use Rattle.spec_format.specs.Bytes.{May, absent, is, bytes, spaces, some, starts, all, same, visible, printing, digit, blank, notBlank, but, decimal}
+use Rattle.spec_format.specs.Bytes.{May, absent, is, bytes, spaces, some, starts, all, same, visible, printing, digit, blank, notBlank, but, number, decimal}
 use Rattle.spec_format.specs.Readers.{Got, tag, until1, line, end, endUpTo}
 use Rattle.spec_format.specs.Dates.{isDate, dateText}
 use Rattle.spec_format.specs.Table.{Locus, Table}
@@ -34,7 +34,7 @@ visible-notBlank b h =
     let l : 33 ≤ b = leb-true 33 b (and-left (leb 33 b) _ h) in
     cc (ne-eqb b 32 (λ e. omega arith), ne-eqb b 9 (λ e. omega arith))
 
-digit-visible : (b : ℕ) → digit b ≡ true → visible b ≡ true
+pub digit-visible : (b : ℕ) → digit b ≡ true → visible b ≡ true
 digit-visible b h =
     let l : 48 ≤ b = leb-true 48 b (and-left (leb 48 b) _ h) in
     let u : b ≤ 57 = leb-true b 57 (and-right (leb 48 b) _ h) in
@@ -88,7 +88,7 @@ abbrev mayToken : May (List ℕ) → List (List ℕ)
 mayToken absent = []
 mayToken (is m) = m ∷ []
 
-abbrev tokenFine : May (List ℕ) → Bool
+abbrev pub tokenFine : May (List ℕ) → Bool
 tokenFine absent = true
 tokenFine (is m) = some m && all visible m
 
@@ -114,60 +114,74 @@ topology-is : (c : Bool) → same (topologyText c) (bytes "circular") ≡ c
 topology-is true = refl
 topology-is false = refl
 
--- the line after its word and gap, without its end: the gaps are of a + 1, d + 1 and e + 1 spaces
-lineText : ℕ → ℕ → ℕ → List ℕ → List ℕ → May (List ℕ) → Bool → List ℕ → List ℕ → List ℕ
-lineText a d e name count m c division date =
+-- the gaps after these, each of one space more
+pub record Gaps : Type 0 where
+  pub name : ℕ
+  pub unit : ℕ
+  pub molecule : ℕ
+  pub topology : ℕ
+  pub division : ℕ
+
+-- the line after its word and gap, without its end
+unfoldable pub lineText : Gaps → List ℕ → List ℕ → May (List ℕ) → Bool → List ℕ → List ℕ → List ℕ
+lineText g name count m c division date =
     name ++
-    (spaces (suc a) ++
+    (spaces (suc (g .name)) ++
     (count ++
     32 ∷ (bytes "bp" ++
-    (spaces 3 ++
+    (spaces (g .unit) ++
     32 ∷ (moleculeText false m ++
-    (spaces d ++
+    (spaces (g .molecule) ++
     32 ∷ (topologyText c ++
-    (spaces e ++
-    32 ∷ (division ++ (32 ∷ date))))))))))
+    (spaces (g .topology) ++
+    32 ∷ (division ++ (spaces (g .division) ++ 32 ∷ date))))))))))
 
-record Parts (name count division date : List ℕ) (m : May (List ℕ)) : Type 0 where
-  name₁ : some name ≡ true
-  name₂ : all visible name ≡ true
-  count₁ : some count ≡ true
-  count₂ : all visible count ≡ true
-  molecule : tokenFine m ≡ true
-  division₁ : some division ≡ true
-  division₂ : all visible division ≡ true
-  date₁ : some date ≡ true
-  date₂ : all visible date ≡ true
+-- each value is one token
+pub record Parts (name count division date : List ℕ) (m : May (List ℕ)) : Type 0 where
+  pub name₁ : some name ≡ true
+  pub name₂ : all visible name ≡ true
+  pub count₁ : some count ≡ true
+  pub count₂ : all visible count ≡ true
+  pub molecule : tokenFine m ≡ true
+  pub division₁ : some division ≡ true
+  pub division₂ : all visible division ≡ true
+  pub date₁ : some date ≡ true
+  pub date₂ : all visible date ≡ true
 
 line-tokens :
-    (a d e : ℕ) (name count division date : List ℕ) (m : May (List ℕ)) (c : Bool) → Parts name count division date m →
-    tokens (lineText a d e name count m c division date) ≡
+    (g : Gaps) (name count division date : List ℕ) (m : May (List ℕ)) (c : Bool) → Parts name count division date m →
+    tokens (lineText g name count m c division date) ≡
     name ∷ count ∷ bytes "bp" ∷ (mayToken m ++ (topologyText c ∷ division ∷ date ∷ []))
 unfolding lineText
-line-tokens a d e name count division date m c p =
-    let x₅ : List ℕ = division ++ 32 ∷ date in
-    let x₄ : List ℕ = topologyText c ++ (spaces e ++ 32 ∷ x₅) in
-    let x₃ : List ℕ = moleculeText false m ++ (spaces d ++ 32 ∷ x₄) in
-    let x₂ : List ℕ = bytes "bp" ++ (spaces 3 ++ 32 ∷ x₃) in
+line-tokens g name count division date m c p =
+    let x₅ : List ℕ = division ++ (spaces (g .division) ++ 32 ∷ date) in
+    let x₄ : List ℕ = topologyText c ++ (spaces (g .topology) ++ 32 ∷ x₅) in
+    let x₃ : List ℕ = moleculeText false m ++ (spaces (g .molecule) ++ 32 ∷ x₄) in
+    let x₂ : List ℕ = bytes "bp" ++ (spaces (g .unit) ++ 32 ∷ x₃) in
     let x₁ : List ℕ = count ++ 32 ∷ x₂ in
-    let t₅ : tokens x₅ ≡ division ∷ date ∷ [] = cc (token division 0 date (p .division₁) (p .division₂), last-token date (p .date₁) (p .date₂)) in
-    let t₄ : tokens x₄ ≡ topologyText c ∷ division ∷ date ∷ [] = token (topologyText c) e x₅ (topology-some c) (topology-visible c) ∙ cc in
-    let t₃ : tokens x₃ ≡ mayToken m ++ (topologyText c ∷ division ∷ date ∷ []) = molecule-token m d x₄ (p .molecule) ∙ cc in
-    let t₂ : tokens x₂ ≡ bytes "bp" ∷ (mayToken m ++ (topologyText c ∷ division ∷ date ∷ [])) = token (bytes "bp") 3 x₃ refl refl ∙ cc in
+    let t₅ : tokens x₅ ≡ division ∷ date ∷ [] =
+    cc (token division (g .division) date (p .division₁) (p .division₂), last-token date (p .date₁) (p .date₂)) in
+    let t₄ : tokens x₄ ≡ topologyText c ∷ division ∷ date ∷ [] = token (topologyText c) (g .topology) x₅ (topology-some c) (topology-visible c) ∙ cc in
+    let t₃ : tokens x₃ ≡ mayToken m ++ (topologyText c ∷ division ∷ date ∷ []) = molecule-token m (g .molecule) x₄ (p .molecule) ∙ cc in
+    let t₂ : tokens x₂ ≡ bytes "bp" ∷ (mayToken m ++ (topologyText c ∷ division ∷ date ∷ [])) = token (bytes "bp") (g .unit) x₃ refl refl ∙ cc in
     let t₁ : tokens x₁ ≡ count ∷ bytes "bp" ∷ (mayToken m ++ (topologyText c ∷ division ∷ date ∷ [])) = token count 0 x₂ (p .count₁) (p .count₂) ∙ cc in
-    token-after name a x₁ (p .name₁) (p .name₂) ∙ cc
+    token-after name (g .name) x₁ (p .name₁) (p .name₂) ∙ cc
 
 -- ---- from the tokens to the values
 
+-- digits of a number that a LOCUS line takes
+pub record Count (count : List ℕ) : Type 0 where
+  pub digits : all digit count ≡ true
+  pub ten : leb (length count) 10 ≡ true
+  pub fits : leb (number 0 count) 4294967295 ≡ true
+
 from-back :
-    (name division date : List ℕ) (n : ℕ) (m : May (List ℕ)) (c : Bool) (d : Date) → all (but 58) name ≡ true → n ≤ 4294967295 →
+    (name count division date : List ℕ) (m : May (List ℕ)) (c : Bool) (d : Date) → all (but 58) name ≡ true → Count count →
     dateToken date ≡ dated.On d →
-    locusFrom name (decimal n) (bytes "bp") m (topologyText c) division date ≡
-    record { name = is name; length = is n; molecule = m; circular = c; division = division; date = dated.On d }
+    locusFrom name count (bytes "bp") m (topologyText c) division date ≡
+    record { name = is name; length = is (number 0 count); molecule = m; circular = c; division = division; date = dated.On d }
 unfolding locusFrom
-from-back name division date n m c d h k e =
-    cc
-    (all-digits 10 n, le-leb (length (decimal n)) 10 (length-digits 10 n), decimal-back n k, le-leb n 4294967295 k, topology-fine c, topology-is c)
+from-back name count division date m c d h k e = cc (k .digits, k .ten, k .fits, topology-fine c, topology-is c)
 
 of-back :
     (name count division date : List ℕ) (m : May (List ℕ)) (c : Bool) →
@@ -186,14 +200,14 @@ all-visible name count division date (is m) c p =
     cc (p .name₂, p .count₂, and-right (some m) (all visible m) (p .molecule), topology-visible c, p .division₂, p .date₂)
 
 line-values :
-    (a d e n : ℕ) (name division date : List ℕ) (m : May (List ℕ)) (c : Bool) (on : Date) → Parts name (decimal n) division date m →
-    all (but 58) name ≡ true → n ≤ 4294967295 → dateToken date ≡ dated.On on →
-    locusLine (lineText a d e name (decimal n) m c division date) ≡
-    record { name = is name; length = is n; molecule = m; circular = c; division = division; date = dated.On on }
+    (g : Gaps) (name count division date : List ℕ) (m : May (List ℕ)) (c : Bool) (on : Date) → Parts name count division date m →
+    all (but 58) name ≡ true → Count count → dateToken date ≡ dated.On on →
+    locusLine (lineText g name count m c division date) ≡
+    record { name = is name; length = is (number 0 count); molecule = m; circular = c; division = division; date = dated.On on }
 unfolding locusLine
-line-values a d e n name division date m c on p h k t =
-    rw (line-tokens a d e name (decimal n) division date m c p, all-visible name (decimal n) division date m c p, of-back name (decimal n) division date m c)
-    (from-back name division date n m c on h k t)
+line-values g name count division date m c on p h k t =
+    rw (line-tokens g name count division date m c p, all-visible name count division date m c p, of-back name count division date m c)
+    (from-back name count division date m c on h k t)
 
 -- ---- the line's end
 
@@ -202,25 +216,28 @@ token-noEnd absent h = refl
 token-noEnd (is m) h = all-imp visible noEnd visible-noEnd m (and-right (some m) _ h)
 
 text-noEnd :
-    (a d e : ℕ) (name count division date : List ℕ) (m : May (List ℕ)) (c : Bool) → Parts name count division date m →
-    all noEnd (lineText a d e name count m c division date) ≡ true
+    (g : Gaps) (name count division date : List ℕ) (m : May (List ℕ)) (c : Bool) → Parts name count division date m →
+    all noEnd (lineText g name count m c division date) ≡ true
 unfolding lineText
-text-noEnd a d e name count division date m c p =
+text-noEnd g name count division date m c p =
     let fine : (w : List ℕ) → all visible w ≡ true → all noEnd w ≡ true = all-imp visible noEnd visible-noEnd in
     let gap : (n : ℕ) → all noEnd (spaces n) ≡ true = all-spaces noEnd refl in
     all-append noEnd name _ (fine name (p .name₂))
-    (all-append noEnd (spaces (suc a)) _ (gap (suc a))
+    (all-append noEnd (spaces (suc (g .name))) _ (gap (suc (g .name)))
     (all-append noEnd count _ (fine count (p .count₂))
+    (all-append noEnd (spaces (g .unit)) _ (gap (g .unit))
     (all-append noEnd (moleculeText false m) _ (token-noEnd m (p .molecule))
-    (all-append noEnd (spaces d) _ (gap d)
+    (all-append noEnd (spaces (g .molecule)) _ (gap (g .molecule))
     (all-append noEnd (topologyText c) _ (fine (topologyText c) (topology-visible c))
-    (all-append noEnd (spaces e) _ (gap e) (all-append noEnd division (32 ∷ date) (fine division (p .division₂)) (fine date (p .date₂)))))))))
+    (all-append noEnd (spaces (g .topology)) _ (gap (g .topology))
+    (all-append noEnd division _ (fine division (p .division₂))
+    (all-append noEnd (spaces (g .division)) (32 ∷ date) (gap (g .division)) (fine date (p .date₂)))))))))))
 
 text-starts :
-    (a d e : ℕ) (name count division date : List ℕ) (m : May (List ℕ)) (c : Bool) → Parts name count division date m →
-    starts notBlank (lineText a d e name count m c division date) ≡ true
+    (g : Gaps) (name count division date : List ℕ) (m : May (List ℕ)) (c : Bool) → Parts name count division date m →
+    starts notBlank (lineText g name count m c division date) ≡ true
 unfolding lineText
-text-starts a d e name count division date m c p =
+text-starts g name count division date m c p =
     starts-more notBlank name _ (all-first notBlank name (p .name₁) (all-imp visible notBlank visible-notBlank name (p .name₂)))
 
 locus-steps :
@@ -231,7 +248,36 @@ locus-steps x rest h k =
     = cc (until-back notBlank (spaces 7) (x ++ 10 ∷ rest) refl (starts-more notBlank x (10 ∷ rest) h)) in
     rw (e, line-back x rest k)
 
+-- A LINE OF SUCH VALUES, whatever its gaps, is read as the values
+pub values-back :
+    (g : Gaps) (name count division date : List ℕ) (m : May (List ℕ)) (c : Bool) (on : Date) (rest : List ℕ) →
+    Parts name count division date m → all (but 58) name ≡ true → Count count → dateToken date ≡ dated.On on →
+    locus (bytes "LOCUS       " ++ (lineText g name count m c division date ++ 10 ∷ rest)) ≡
+    Got (record { name = is name; length = is (number 0 count); molecule = m; circular = c; division = division; date = dated.On on }) rest
+values-back g name count division date m c on rest p h k e =
+    locus-steps (lineText g name count m c division date) rest (text-starts g name count division date m c p) (text-noEnd g name count division date m c p) ∙
+    ap (λ (l : Locus). Got l rest) (line-values g name count division date m c on p h k e)
+
 -- ---- the table's line
+
+-- its gaps
+gaps : List ℕ → List ℕ → List ℕ → List ℕ → Gaps
+gaps name count molecule topology =
+    record {
+      name = 27 - (length name + length count);
+      unit = 3;
+      molecule = 7 - length molecule;
+      topology = 8 - length topology;
+      division = 0;
+    }
+
+decimal-count : (n : ℕ) → n ≤ 4294967295 → Count (decimal n)
+decimal-count n h =
+    record {
+      digits = all-digits 10 n;
+      ten = le-leb (length (decimal n)) 10 (length-digits 10 n);
+      fits = rw (decimal-back n h) (le-leb n 4294967295 h);
+    }
 
 regroup :
     (l n g c b m d s t e division date f rest : List ℕ) →
@@ -245,10 +291,10 @@ text-is :
     t .locus .date ≡ dated.On on →
     locusText false false t ++ rest ≡
     bytes "LOCUS       " ++
-    (lineText (27 - (length name + length (decimal n))) (7 - length (moleculeText false (t .locus .molecule)))
-    (8 - length (topologyText (t .locus .circular))) name (decimal n) (t .locus .molecule) (t .locus .circular) (t .locus .division) (dateText on) ++
+    (lineText (gaps name (decimal n) (moleculeText false (t .locus .molecule)) (topologyText (t .locus .circular))) name (decimal n) (t .locus .molecule)
+    (t .locus .circular) (t .locus .division) (dateText on) ++
     10 ∷ rest)
-unfolding locusText printedName lengthText lineText
+unfolding locusText printedName lengthText lineText gaps
 text-is t name n on rest p q r =
     rw (p, q, r)
     (regroup (bytes "LOCUS       ") name (spaces (suc (27 - (length name + length (decimal n))))) (decimal n) (bytes " bp    ")
@@ -266,7 +312,7 @@ molecule-fine : (m : May (List ℕ)) → ifIs (all printing) m ≡ true → ifIs
 molecule-fine absent h k = refl
 molecule-fine (is m) h k = cc (and-left (some m) _ k, spaceless-all m h k)
 
-date-some : (d : Date) → some (dateText d) ≡ true
+pub date-some : (d : Date) → some (dateText d) ≡ true
 unfolding dateText
 date-some d = refl
 
@@ -281,15 +327,11 @@ line-kept :
     t .locus .date ≡ dated.On on → Parts name (decimal n) (t .locus .division) (dateText on) (t .locus .molecule) → all (but 58) name ≡ true →
     n ≤ 4294967295 → dateToken (dateText on) ≡ dated.On on → locus (locusText false false t ++ rest) ≡ Got (t .locus) rest
 line-kept t name n on rest p q r parts h k e =
-    let a : ℕ = 27 - (length name + length (decimal n)) in
-    let d : ℕ = 7 - length (moleculeText false (t .locus .molecule)) in
-    let g : ℕ = 8 - length (topologyText (t .locus .circular)) in
-    let x : List ℕ = lineText a d g name (decimal n) (t .locus .molecule) (t .locus .circular) (t .locus .division) (dateText on) in
-    let s = text-starts a d g name (decimal n) (t .locus .division) (dateText on) (t .locus .molecule) (t .locus .circular) parts in
-    let f = text-noEnd a d g name (decimal n) (t .locus .division) (dateText on) (t .locus .molecule) (t .locus .circular) parts in
-    let v = line-values a d g n name (t .locus .division) (dateText on) (t .locus .molecule) (t .locus .circular) on parts h k e in
+    let g : Gaps = gaps name (decimal n) (moleculeText false (t .locus .molecule)) (topologyText (t .locus .circular)) in
+    let v =
+    values-back g name (decimal n) (t .locus .division) (dateText on) (t .locus .molecule) (t .locus .circular) on rest parts h (decimal-count n k) e in
     let w = values-are (t .locus) name n on p q r in
-    rw (text-is t name n on rest p q r) (locus-steps x rest s f ∙ ap (λ (l : Locus). Got l rest) (v ∙ w))
+    rw (text-is t name n on rest p q r) (rw (decimal-back n k) at v ∙ ap (λ (l : Locus). Got l rest) w)
 
 -- what the rules say, one by one
 record Facts (l : Locus) (printed : List ℕ) : Type 0 where

@@ -25,10 +25,10 @@ unfolding letters
 at-slash rest = refl
 
 -- skipped, and no letter or slash
-abbrev passed : ℕ → Bool
+abbrev pub passed : ℕ → Bool
 passed b = skipped b && (leb b 64 && but 47 b)
 
-digit-passed : (b : ℕ) → digit b ≡ true → passed b ≡ true
+pub digit-passed : (b : ℕ) → digit b ≡ true → passed b ≡ true
 digit-passed b h =
     let l : 48 ≤ b = leb-true 48 b (and-left (leb 48 b) _ h) in
     let u : b ≤ 57 = leb-true b 57 (and-right (leb 48 b) _ h) in
@@ -41,7 +41,7 @@ skip-one b x h =
     let k = and-right (skipped b) _ h in
     cc (not-letter b (leb-true b 64 (and-left (leb b 64) _ k)), not-true (eqb b 47) (and-right (leb b 64) _ k))
 
-skip : (w x : List ℕ) → all passed w ≡ true → letters (w ++ x) ≡ letters x
+pub skip : (w x : List ℕ) → all passed w ≡ true → letters (w ++ x) ≡ letters x
 skip [] x h = refl
 skip (b ∷ w) x h = cc (skip-one b (w ++ x) (all-head passed b w h), skip w x (all-tail passed b w h))
 
@@ -69,7 +69,7 @@ ten-passed i = go (eqb (i % 10) 0) refl
 regroup : (a b c d r : List ℕ) → (a ++ b ++ c ++ d) ++ r ≡ a ++ (b ++ (c ++ (d ++ r)))
 regroup a b c d r = simp append-assoc
 
-keep-letter : (b : ℕ) (x l r : List ℕ) → letter b ≡ true → letters x ≡ AtSlash l r → letters (b ∷ x) ≡ AtSlash (b ∷ l) r
+pub keep-letter : (b : ℕ) (x l r : List ℕ) → letter b ≡ true → letters x ≡ AtSlash l r → letters (b ∷ x) ≡ AtSlash (b ∷ l) r
 unfolding letters
 keep-letter b x l r h e = cc
 

@@ -48,11 +48,11 @@ key-byte b h k =
 
 -- ---- a value
 
-value-quoted : (k v x r : List ℕ) → quoted (same k (bytes "translation")) 21 x ≡ Got v r → utf8 v ≡ true → value 21 k x ≡ Got v r
+pub value-quoted : (k v x r : List ℕ) → quoted (same k (bytes "translation")) 21 x ≡ Got v r → utf8 v ≡ true → value 21 k x ≡ Got v r
 unfolding value
 value-quoted k v x r h u = rw (h, u)
 
-value-bare : (k v x r : List ℕ) → starts (but 34) x ≡ true → bare 21 x ≡ Got v r → utf8 v ≡ true → value 21 k x ≡ Got v r
+pub value-bare : (k v x r : List ℕ) → starts (but 34) x ≡ true → bare 21 x ≡ Got v r → utf8 v ≡ true → value 21 k x ≡ Got v r
 unfolding value quoted tag
 value-bare k v [] r s h u = cc
 value-bare k v (b ∷ x) r s h u = rw (not-true (eqb b 34) s, tag, h, u)
@@ -142,23 +142,25 @@ module _ (W : ℕ) (k v rest : List ℕ) (room : 25 + length k ≤ W) (fine : en
 
 -- ---- a qualifier
 
-key-steps :
-    (k x : List ℕ) (v : May (List ℕ)) (r : List ℕ) → some k ≡ true → all visible k ≡ true → all (but 61) k ≡ true → starts keyEnd x ≡ true →
+-- a byte of a key
+abbrev pub inKey : ℕ → Bool
+inKey b = not (keyEnd b)
+
+pub key-steps :
+    (k x : List ℕ) (v : May (List ℕ)) (r : List ℕ) → some k ≡ true → all inKey k ≡ true → utf8 k ≡ true → starts keyEnd x ≡ true →
     valueOf 21 k x ≡ Got v r → qualifier 21 (keyText k ++ x) ≡ Got (record { key = k; value = v }) r
 unfolding qualifier tag
-key-steps k x v r s a n e h =
-    let u : until keyEnd (k ++ x) ≡ Got k x = until-back keyEnd k x (all-and visible (but 61) (λ b. not (keyEnd b)) key-byte k a n) e in
-    rw (u, s, visible-utf8 k a, h)
+key-steps k x v r s a u e h = let f : until keyEnd (k ++ x) ≡ Got k x = until-back keyEnd k x a e in rw (f, s, u, h)
 
 some-pos : (k : List ℕ) → some k ≡ true → 1 ≤ length k
 some-pos [] h = impossible cc
 some-pos (b ∷ k) h = omega arith
 
-flag-value : (k r : List ℕ) → valueOf 21 k (10 ∷ r) ≡ Got absent r
+pub flag-value : (k r : List ℕ) → valueOf 21 k (10 ∷ r) ≡ Got absent r
 unfolding valueOf tag lineEnd
 flag-value k r = refl
 
-pair-value : (k v x r : List ℕ) → value 21 k x ≡ Got v r → valueOf 21 k (61 ∷ x) ≡ Got (is v) r
+pub pair-value : (k v x r : List ℕ) → value 21 k x ≡ Got v r → valueOf 21 k (61 ∷ x) ≡ Got (is v) r
 unfolding valueOf tag
 pair-value k v x r h = rw h
 
@@ -179,17 +181,20 @@ parts-back W k o rest f v h e = go o v h
     free : all (but 61) k ≡ true
     free = search (and-left, and-right)
 
+    inside : all inKey k ≡ true
+    inside = all-and visible (but 61) inKey key-byte k seen free
+
     go :
         (o : May (List ℕ)) → ifIs (valueFine k) o ≡ true → ifIs (valueKept W k) o ≡ true →
         qualifier 21 (qualifierText W k o ++ rest) ≡ Got (record { key = k; value = o }) rest
-    go absent v h = rw (append-assoc (keyText k) (bytes "\n") rest) (key-steps k (10 ∷ rest) absent rest held seen free refl (flag-value k rest))
+    go absent v h = rw (append-assoc (keyText k) (bytes "\n") rest) (key-steps k (10 ∷ rest) absent rest held inside (visible-utf8 k seen) refl (flag-value k rest))
     go (is t) v h =
         let x : List ℕ = valueText W k t ++ rest in
         let l : 25 + length k ≤ W = omega (arith, long, some-pos k held) in
         let e₁ : qualifierText W k (is t) ++ rest ≡ keyText k ++ (61 ∷ x) =
         ap (λ (y : List ℕ). y ++ rest) (value-lines W k t) ∙ append-assoc (keyText k ++ bytes "=") (valueText W k t) rest ∙
         append-assoc (keyText k) (bytes "=") x in
-        rw e₁ (key-steps k (61 ∷ x) (is t) rest held seen free refl (pair-value k t x rest (value-back W k t rest l e v h)))
+        rw e₁ (key-steps k (61 ∷ x) (is t) rest held inside (visible-utf8 k seen) refl (pair-value k t x rest (value-back W k t rest l e v h)))
 
 -- A QUALIFIER is read back
 pub qualifier-back :

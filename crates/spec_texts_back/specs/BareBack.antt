@@ -79,22 +79,22 @@ module _ (indent : ℕ) where
   bare-lines s l z t r e k = rw e (joining-parts (bareMore indent) l z t r (λ m. l ++ concat m) (λ m. refl) k)
 
 -- s is read as t, over one or more lines, and then rest stands
-record Lines (indent : ℕ) (s t rest : List ℕ) : Type 0 where
-  first : List ℕ
-  left : List ℕ
-  later : List ℕ
-  begins : line s ≡ Got first left
-  goes : joining (bareMore indent) left ≡ Got later rest
-  text : first ++ later ≡ t
+pub record Lines (indent : ℕ) (s t rest : List ℕ) : Type 0 where
+  pub first : List ℕ
+  pub left : List ℕ
+  pub later : List ℕ
+  pub begins : line s ≡ Got first left
+  pub goes : joining (bareMore indent) left ≡ Got later rest
+  pub text : first ++ later ≡ t
 
 module _ (indent : ℕ) (rest : List ℕ) where
-  lines-bare : (s t : List ℕ) → Lines indent s t rest → bare indent s ≡ Got t rest
+  pub lines-bare : (s t : List ℕ) → Lines indent s t rest → bare indent s ≡ Got t rest
   lines-bare s t h = rw (h .text) at (bare-lines indent s (h .first) (h .left) (h .later) rest (h .begins) (h .goes))
 
-  lines-one : (t : List ℕ) → ends indent rest ≡ true → all noEnd t ≡ true → Lines indent (t ++ 10 ∷ rest) t rest
+  pub lines-one : (t : List ℕ) → ends indent rest ≡ true → all noEnd t ≡ true → Lines indent (t ++ 10 ∷ rest) t rest
   lines-one t h k = record { first = t; left = rest; later = []; begins = line-back t rest k; goes = further-off indent rest h; text = append-nil t }
 
-  lines-more :
+  pub lines-more :
       (f r x : List ℕ) → all noEnd f ≡ true → starts (but 47) x ≡ true → Lines indent x r rest → Lines indent (f ++ (10 ∷ (spaces indent ++ x))) (f ++ r) rest
   lines-more f r x k s h =
       record {

@@ -34,15 +34,15 @@ unfolding line
 line-none s = refl
 
 -- s begins with the lines of the text t, and r is left
-record Lines (n : ℕ) (keep : Bool) (s t r : List ℕ) : Type 0 where
-  first : List ℕ
-  after : List ℕ
-  further : List (List ℕ)
-  one : line s ≡ Got first after
-  others : many0 (furtherLine n) after ≡ Got further r
-  whole : concatLines keep first further ≡ t
+pub record Lines (n : ℕ) (keep : Bool) (s t r : List ℕ) : Type 0 where
+  pub first : List ℕ
+  pub after : List ℕ
+  pub further : List (List ℕ)
+  pub one : line s ≡ Got first after
+  pub others : many0 (furtherLine n) after ≡ Got further r
+  pub whole : concatLines keep first further ≡ t
 
-joined-line : (keep : Bool) (l : List ℕ) (ls : List (List ℕ)) → concatLines keep [] (l ∷ ls) ≡ lineAfter keep (concatLines keep l ls)
+pub joined-line : (keep : Bool) (l : List ℕ) (ls : List (List ℕ)) → concatLines keep [] (l ∷ ls) ≡ lineAfter keep (concatLines keep l ls)
 joined-line true l ls = refl
 joined-line false l ls = refl
 
@@ -51,7 +51,7 @@ module _ (n : ℕ) (keep : Bool) where
   unfolding fieldText
   text-is s t r h = rw (h .one, h .others, h .whole)
 
-  text-end : (rest : List ℕ) → tag (spaces n) rest ≡ No → Lines n keep (10 ∷ rest) [] rest
+  pub text-end : (rest : List ℕ) → tag (spaces n) rest ≡ No → Lines n keep (10 ∷ rest) [] rest
   text-end rest e =
       record { first = []; after = rest; further = []; one = line-none rest; others = many0-stop (furtherLine n) rest (rw e); whole = refl }
 
@@ -69,7 +69,7 @@ module _ (n : ℕ) (keep : Bool) where
   further-line : (x l r : List ℕ) → line x ≡ Got l r → furtherLine n (spaces n ++ x) ≡ Got l r
   further-line x l r e = rw (tag-back (spaces n) x) e
 
-  text-line : (x t r : List ℕ) → Lines n keep x t r → Lines n keep (10 ∷ spaces n ++ x) (lineAfter keep t) r
+  pub text-line : (x t r : List ℕ) → Lines n keep x t r → Lines n keep (10 ∷ spaces n ++ x) (lineAfter keep t) r
   text-line x t r h =
       record {
         first = [];
@@ -82,7 +82,7 @@ module _ (n : ℕ) (keep : Bool) where
         whole = joined-line keep (h .first) (h .further) ∙ ap (lineAfter keep) (h .whole);
       }
 
-  text-pass : (l x t r : List ℕ) → all noEnd l ≡ true → Lines n keep x t r → Lines n keep (l ++ x) (l ++ t) r
+  pub text-pass : (l x t r : List ℕ) → all noEnd l ≡ true → Lines n keep x t r → Lines n keep (l ++ x) (l ++ t) r
   text-pass [] x t r h e = e
   text-pass (b ∷ l) x t r h e =
       let k : noEnd b ≡ true = all-head noEnd b l h in
@@ -130,7 +130,7 @@ laid-starts (b ∷ t) x h = go (eqb b 10) refl
     go false p = let f : laid false 12 (b ∷ t) ≡ b ∷ laid false 12 t = cc in rw f h
 
 -- the word, the gap, and the text from its first byte on
-bytes-steps :
+pub bytes-steps :
     (indent g : ℕ) (word x t r : List ℕ) (keep : Bool) → indent + suc g + length word ≡ 12 → starts (but 32) x ≡ true → Lines 12 keep x t r →
     fieldBytes indent word keep (spaces indent ++ (word ++ (spaces (suc g) ++ x))) ≡ Got t r
 unfolding fieldBytes
@@ -202,10 +202,10 @@ line-starts : (u x : List ℕ) → all visible u ≡ true → starts (but 32) (u
 line-starts [] x h = refl
 line-starts (b ∷ u) x h = visible-but b (all-head visible b u h)
 
-all-take : (p : ℕ → Bool) (k : ℕ) (t : List ℕ) → all p t ≡ true → all p (take k t) ≡ true
+pub all-take : (p : ℕ → Bool) (k : ℕ) (t : List ℕ) → all p t ≡ true → all p (take k t) ≡ true
 all-take p k t h = all-left p (take k t) (drop k t) (rw (take-append-drop k t) h)
 
-all-drop : (p : ℕ → Bool) (k : ℕ) (t : List ℕ) → all p t ≡ true → all p (drop k t) ≡ true
+pub all-drop : (p : ℕ → Bool) (k : ℕ) (t : List ℕ) → all p t ≡ true → all p (drop k t) ≡ true
 all-drop p k t h = all-right p (take k t) (drop k t) (rw (take-append-drop k t) h)
 
 commas-starts : (W n used : ℕ) (t rest : List ℕ) → all visible t ≡ true → starts (but 32) (commaLines n W 12 used t ++ rest) ≡ true

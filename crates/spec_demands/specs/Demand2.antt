@@ -1,0 +1,80 @@
+-- DEMAND 2, RIGHT. The answer and the rooms afterwards are those of the definitions (crates/spec_format), from each place. That the definitions say what the Rust does, but for the
+-- departures of document 01, is evidence and no proof (docs/EVIDENCE.md, docs/DIFFERENCES.md). What the public documents define is proved of the definitions, against definitions made
+-- from those documents alone (crates/spec_public): writing in crates/spec_columns, reading in crates/spec_columns_back.
+use Prim.Native.Nat.{ℕ, _-_}
+use mathlib.Core.Bool.{true}
+use mathlib.Core.List.{List, _++_}
+use mathlib.Core.Path.{_≡_, sym, ap, _∙_}
+use lib.ListN.{length, drop}
+use Rattle.spec_format.specs.Answers.{sliceAfter}
+use Rattle.spec_format.specs.Record.{Read, Not, readAt}
+use Rattle.spec_format.specs.Rooms.{Rooms, tableOf, lengthsFine, roomsFine, readAnswer, roomsAfter}
+use Rattle.spec_format.specs.Table.{Table}
+use Rattle.spec_format.specs.declared.Head.{Head}
+use Rattle.spec_format.specs.declared.How.{How}
+use Rattle.spec_format.specs.declared.ReadAnswer.{ReadAnswer}
+use Rattle.spec_format.specs.declared.ReadAnswer.the-variants as read
+use Rattle.spec_format.specs.declared.Unread.{Unread}
+use Rattle.spec_format.specs.declared.WriteAnswer.{WriteAnswer}
+use Rattle.spec_format.specs.declared.WriteAnswer.the-variants as write
+use Rattle.spec_promise.specs.Grounds.{DoneBy, done-by, done-holds}
+use Rattle.spec_promise.specs.Promise.{what-was-read-can-be-written}
+use Rattle.spec_contracts.specs.Equal.{rooms-after}
+use Rattle.spec_contracts.specs.Numbers.{headFrom}
+use Rattle.spec_contracts.specs.Reads.{Answered}
+use Rattle.spec_contracts.specs.Told.{reading, writing, ReadTold, WriteTold}
+use Rattle.spec_contracts.specs.Writes.{answerDue, textDue, WriteAnswered}
+use Rattle.spec_contracts.specs.declared.Reading.{Reading}
+use Rattle.spec_contracts.specs.declared.Writing.{Writing}
+use Rattle.spec_demands.specs.Answers.{refused-by, done-count}
+
+-- ---- THE READER
+
+-- a table that the definitions read at the place, with `rest` left
+pub record ReadsTable (s : List ℕ) (at : ℕ) (t : Table) (place : ℕ) : Type 0 where
+  pub rest : List ℕ
+  pub reads : readAt s at ≡ Read t rest
+  pub place-is : place ≡ length s - length rest
+
+module _ (s : List ℕ) (at : ℕ) (old new : Rooms) (a : ReadAnswer) (call : Answered s at old new a) where
+  pub read-right : (a ≡ readAnswer s at old) × (new ≡ roomsAfter s at old)
+  read-right = (call .is, rooms-after s at old new a call)
+
+  -- done: the table in the rooms is the one that the definitions read there, and the place is where they stop
+  pub read-done : (h : Head) (place : ℕ) → a ≡ read.Done h place → ReadsTable s at (tableOf new h) place
+  read-done h place e =
+      let by : DoneBy s at old h place = done-by s at old h place (sym (call .is) ∙ e) in
+      let t-is : tableOf new h ≡ by .table = ap (λ (x : Rooms). tableOf x h) (rooms-after s at old new a call) ∙ done-holds s at old h place (by .table) (by .rest) by (by .reads) in
+      record { rest = by .rest; reads = by .reads ∙ ap (λ (x : Table). Read x (by .rest)) (sym t-is); place-is = by .ended }
+
+  -- and can be handed to the writer: number 10 is not due, if no room is longer than 16,777,216
+  pub read-fine : (h : Head) (place : ℕ) → a ≡ read.Done h place → lengthsFine old ≡ true → roomsFine new h ≡ true
+  read-fine h place e l =
+      rw (rooms-after s at old new a call) (what-was-read-can-be-written s at old h place (sym (call .is) ∙ e) l)
+
+  -- refused: the definitions read none there, for that reason
+  pub read-refused : (why : Unread) → a ≡ read.Refused why → readAt s at ≡ Not why
+  read-refused why e = refused-by s at old why (sym (call .is) ∙ e)
+
+-- ---- THE WRITER
+
+module _ (how : How) (r : Rooms) (h : Head) (old new : List ℕ) (a : WriteAnswer) (call : WriteAnswered how r h old new a) where
+  pub written-right : (a ≡ answerDue how r h (length old)) × (new ≡ sliceAfter a (textDue how (tableOf r h)) old)
+  written-right = (call .is, call .slice)
+
+  -- done: the text of the definitions stands at the start of the slice, what stood behind it is untouched, and the count is its length
+  pub written-done : (k : ℕ) → a ≡ write.Done k →
+      (new ≡ textDue how (tableOf r h) ++ drop (length (textDue how (tableOf r h))) old) × (k ≡ length (textDue how (tableOf r h)))
+  written-done k e =
+      (call .slice ∙ ap (λ (x : WriteAnswer). sliceAfter x (textDue how (tableOf r h)) old) e, done-count how r h (length old) k (sym (call .is) ∙ e))
+
+-- ---- THE BOUNDARY: the same answers, as numbers
+
+pub read-told-right : (s : List ℕ) (at : ℕ) (old new : Rooms) (told : Reading) → ReadTold s at old new told → (told ≡ reading at (readAnswer s at old)) × (new ≡ roomsAfter s at old)
+read-told-right s at old new told call =
+    (call .is ∙ ap (λ (x : ReadAnswer). reading at x) (call .answered .is), rooms-after s at old new (call .answer) (call .answered))
+
+pub written-told-right : (how : How) (r : Rooms) (ns old new : List ℕ) (told : Writing) → WriteTold how r ns old new told →
+    (told ≡ writing (answerDue how r (headFrom ns) (length old))) × (new ≡ sliceAfter (answerDue how r (headFrom ns) (length old)) (textDue how (tableOf r (headFrom ns))) old)
+written-told-right how r ns old new told call =
+    (call .is ∙ ap writing (call .answered .is), call .answered .slice ∙ ap (λ (x : WriteAnswer). sliceAfter x (textDue how (tableOf r (headFrom ns))) old) (call .answered .is))

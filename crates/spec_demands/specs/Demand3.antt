@@ -1,0 +1,133 @@
+-- DEMAND 3, KEPT. The keeping writer, at any width from 60 to 132, refuses a well-formed table by number 13 exactly when a keeping rule is broken. If it writes, its bytes are the plain
+-- writer's, and the reader, lent enough room and a text of at most 16,777,216 bytes, takes all of them and gives back the same table: each text, row, number and letter.
+use Prim.Native.Nat.{ℕ, _≤_}
+use mathlib.Core.Bool.{Bool, true, false}
+use mathlib.Core.List.{List}
+use mathlib.Core.Logic.{_↔_}
+use mathlib.Core.Path.{_≡_, sym, ap, subst, _∙_}
+use native.Mathlib.Omega.{arith}
+use lib.ListN.{length, take}
+use Rattle.spec_format.specs.Answers.{sliceAfter}
+use Rattle.spec_format.specs.Keeping.{keeps}
+use Rattle.spec_format.specs.Numbers.{writeNumber}
+use Rattle.spec_format.specs.Record.{most}
+use Rattle.spec_format.specs.Rooms.{Rooms, tableOf, roomsFine, sizes, fits, roomsAfter}
+use Rattle.spec_format.specs.Rooms as rooms
+use Rattle.spec_format.specs.WellFormed.{wellFormed}
+use Rattle.spec_format.specs.Write.{written}
+use Rattle.spec_format.specs.declared.Head.{Head}
+use Rattle.spec_format.specs.declared.How.{How}
+use Rattle.spec_format.specs.declared.ReadAnswer.{ReadAnswer}
+use Rattle.spec_format.specs.declared.ReadAnswer.the-variants as read
+use Rattle.spec_format.specs.declared.WriteAnswer.{WriteAnswer}
+use Rattle.spec_format.specs.declared.WriteAnswer.the-variants as write
+use Rattle.spec_promise.specs.Grounds.{zero-done, thirteen-not-kept}
+use Rattle.spec_promise.specs.Promise.{thirteen-exactly, kept-as-plain, done-like-plain, Back, rooms-come-back}
+use Rattle.spec_contracts.specs.Equal.{rooms-after}
+use Rattle.spec_contracts.specs.Numbers.{headFrom}
+use Rattle.spec_contracts.specs.Reads.{Answered}
+use Rattle.spec_contracts.specs.Rounds.{Rounds}
+use Rattle.spec_contracts.specs.Told.{howOf, reading, writing, ReadTold, WriteTold}
+use Rattle.spec_contracts.specs.Writes.{textDue, WriteAnswered}
+use Rattle.spec_contracts.specs.declared.Reading.{Reading}
+use Rattle.spec_contracts.specs.declared.Writing.{Writing}
+use Rattle.api_head.specs.Back.{head-back}
+use Rattle.spec_demands.specs.Answers.{keeping-passed, length-below}
+use Rattle.spec_demands.specs.HeadSmall.{head-small}
+use Rattle.spec_demands.specs.What.{Same, SameTold}
+
+-- ---- THE WRITER, at width W with the two switches, and then THE READER
+
+module _ (W : ℕ) (truncate escape : Bool) (r : Rooms) (h : Head) (old new : List ℕ) where
+  -- 13 EXACTLY WHEN A KEEPING RULE IS BROKEN, for a well-formed table: neither 10 nor 11 is due
+  pub thirteen : (a : WriteAnswer) → WriteAnswered (howOf true W truncate escape) r h old new a → 60 ≤ W → W ≤ 132 → roomsFine r h ≡ true →
+      wellFormed W truncate escape (tableOf r h) ≡ true → (writeNumber a ≡ 13) ↔ (keeps W truncate escape (tableOf r h) ≡ false)
+  thirteen a call l u f g =
+      let by = thirteen-exactly W truncate escape r h (length old) l u f g in
+      let to = thirteen-not-kept a in
+      ((λ z. by .0 (sym (call .is) ∙ to .0 z)), (λ b. to .1 (call .is ∙ by .1 b)))
+
+  -- THE BYTES ARE THE PLAIN WRITER'S: a plain call with the same slice ends alike
+  pub as-plain : (k : ℕ) → WriteAnswered (howOf true W truncate escape) r h old new (write.Done k) → (a : WriteAnswer) (new′ : List ℕ) →
+      WriteAnswered (howOf false W truncate escape) r h old new′ a → (a ≡ write.Done k) × (new′ ≡ new)
+  as-plain k call a new′ plain =
+      let p = done-like-plain W truncate escape r h old k (sym (call .is)) in
+      let e : a ≡ write.Done k = plain .is ∙ p .0 in
+      (e, plain .slice ∙ (ap (λ (x : WriteAnswer). sliceAfter x (written W truncate escape (tableOf r h)) old) e ∙ sym (call .slice)))
+
+  -- and where no rule is broken the two writers answer alike, whatever that is
+  pub alike : keeps W truncate escape (tableOf r h) ≡ true → (a b : WriteAnswer) (new′ : List ℕ) → WriteAnswered (howOf true W truncate escape) r h old new a →
+      WriteAnswered (howOf false W truncate escape) r h old new′ b → (a ≡ b) × (new ≡ new′)
+  alike kept a b new′ call plain =
+      let e : a ≡ b = call .is ∙ (kept-as-plain W truncate escape r h (length old) kept ∙ sym (plain .is)) in
+      (e, call .slice ∙ (ap (λ (x : WriteAnswer). sliceAfter x (written W truncate escape (tableOf r h)) old) e ∙ sym (plain .slice)))
+
+  back : (k : ℕ) → WriteAnswered (howOf true W truncate escape) r h old new (write.Done k) → k ≤ most → (before : Rooms) → fits (sizes (tableOf r h)) before ≡ true → Back r h (take k new) k before
+  back k call m before f =
+      rooms-come-back W truncate escape r h old new k (sym (call .is)) (call .slice ∙ ap (λ (x : WriteAnswer). sliceAfter x (written W truncate escape (tableOf r h)) old) (call .is))
+      (length-below (h .length) (call .fits)) (omega (arith, m)) before f
+
+  -- IS IT STILL RECORD 318? The keeping writer has written k bytes. The reader, called on them with rooms that the table fits, whatever they held, is done, has taken all k bytes, and
+  -- its rooms hold the same table.
+  pub still-the-same : (k : ℕ) → WriteAnswered (howOf true W truncate escape) r h old new (write.Done k) → k ≤ most → (before after : Rooms) (a : ReadAnswer) →
+      fits (sizes (tableOf r h)) before ≡ true → Answered (take k new) 0 before after a → Same r h k after a
+  still-the-same k call m before after a f again =
+      let b = back k call m before f in
+      record {
+        head = rooms.headOf (tableOf r h);
+        done = again .is ∙ b .done;
+        same = ap (λ (x : Rooms). tableOf x (rooms.headOf (tableOf r h))) (rooms-after (take k new) 0 before after a again) ∙ b .same;
+      }
+
+-- so it is written again as the same bytes, by either writer at any width
+pub same-bytes : (how : How) (r : Rooms) (h : Head) (k : ℕ) (after : Rooms) (a : ReadAnswer) (x : Same r h k after a) → textDue how (tableOf after (x .head)) ≡ textDue how (tableOf r h)
+same-bytes how r h k after a x = ap (textDue how) (x .same)
+
+-- ---- THE BOUNDARY: `vilggodan_write` with `keep`, and then `vilggodan_read`
+
+module _ (W : ℕ) (truncate escape : Bool) (r : Rooms) (ns old new : List ℕ) (w : Writing) (call : WriteTold (howOf true W truncate escape) r ns old new w) where
+  number-is : w .number ≡ writeNumber (call .answer)
+  number-is = ap (λ (x : Writing). x .number) (call .is)
+
+  pub told-thirteen : 60 ≤ W → W ≤ 132 → roomsFine r (headFrom ns) ≡ true → wellFormed W truncate escape (tableOf r (headFrom ns)) ≡ true →
+      (w .number ≡ 13) ↔ (keeps W truncate escape (tableOf r (headFrom ns)) ≡ false)
+  told-thirteen l u f g = rw number-is (thirteen W truncate escape r (headFrom ns) old new (call .answer) (call .answered) l u f g)
+
+  module _ (done : w .number ≡ 0) where
+    done-is : call .answer ≡ write.Done (w .count)
+    done-is = zero-done (call .answer) (w .count) .0 (sym number-is ∙ done, sym (ap (λ (x : Writing). x .count) (call .is)))
+
+    wrote : WriteAnswered (howOf true W truncate escape) r (headFrom ns) old new (write.Done (w .count))
+    wrote = subst (λ (x : WriteAnswer). WriteAnswered (howOf true W truncate escape) r (headFrom ns) old new x) done-is (call .answered)
+
+    pub told-as-plain : (new′ : List ℕ) (v : Writing) → WriteTold (howOf false W truncate escape) r ns old new′ v → (v ≡ w) × (new′ ≡ new)
+    told-as-plain new′ v plain =
+        let p = as-plain W truncate escape r (headFrom ns) old new (w .count) wrote (plain .answer) new′ (plain .answered) in
+        (plain .is ∙ (ap writing (p .0 ∙ sym done-is) ∙ sym (call .is)), p .1)
+
+    -- the head that is told is understood by the writer as the same table's
+    pub told-the-same : w .count ≤ most → (before after : Rooms) (told : Reading) → fits (sizes (tableOf r (headFrom ns))) before ≡ true →
+        ReadTold (take (w .count) new) 0 before after told → SameTold r ns (w .count) after told
+    told-the-same m before after told f again =
+        let t = tableOf r (headFrom ns) in
+        let b = back W truncate escape r (headFrom ns) old new (w .count) wrote m before f in
+        let passed = keeping-passed W truncate escape r (headFrom ns) (length old) (w .count) (sym (wrote .is)) in
+        let is : told ≡ reading 0 (read.Done (rooms.headOf t) (w .count)) = again .is ∙ ap (λ (x : ReadAnswer). reading 0 x) (again .answered .is ∙ b .done) in
+        let head-is : headFrom (told .head) ≡ rooms.headOf t =
+        ap (λ (x : Reading). headFrom (x .head)) is ∙ head-back (rooms.headOf t) (head-small W truncate escape r (headFrom ns) (passed .rooms) (passed .formed) (wrote .fits)) in
+        record {
+          done = ap (λ (x : Reading). x .number) is;
+          place = ap (λ (x : Reading). x .place) is;
+          same =
+              ap (tableOf after) head-is ∙
+              (ap (λ (x : Rooms). tableOf x (rooms.headOf t)) (rooms-after (take (w .count) new) 0 before after (again .answer) (again .answered)) ∙ b .same);
+        }
+
+-- ---- THE FUNCTION BEHIND THE PROGRAMS: a record that was read, and then written by the keeping rules, is read again as the table that was read
+
+module _
+    (s : List ℕ) (at : ℕ) (old : Rooms) (W : ℕ) (truncate escape : Bool) (t rf cm q l out new : List ℕ) (h : Head) (place k : ℕ)
+    (call : Rounds s at old (howOf true W truncate escape) t rf cm q l out new (read.Done h place) (write.Done k)) where
+  pub round-the-same : k ≤ most → (before after : Rooms) (a : ReadAnswer) → fits (sizes (tableOf (roomsAfter s at old) h)) before ≡ true → Answered (take k new) 0 before after a →
+      Same (roomsAfter s at old) h k after a
+  round-the-same m before after a f again = still-the-same W truncate escape (roomsAfter s at old) h out new k (call .wrote) m before after a f again
