@@ -56,53 +56,68 @@ fn rooms_as_stored(
     text_as_stored(s, e, letters)
 }
 
-fn sizes_as_stored(stored: &[usize], sizes: Sizes) -> bool {
-    let texts = sizes.texts == number_at(stored, 1);
-    let references = sizes.references == number_at(stored, 2);
-    let comments = sizes.comments == number_at(stored, 3);
-    let features = sizes.features == number_at(stored, 4);
-    let qualifiers = sizes.qualifiers == number_at(stored, 5);
-    let letters = sizes.letters == number_at(stored, 6);
-    texts && (references && (comments && (features && (qualifiers && letters))))
-}
-
-fn head_as_stored(stored: &[usize], head: [usize; 31]) -> bool {
+// Of `count` stored numbers, those behind the first are the head's.
+fn head_as_stored(stored: &[usize], count: usize, head: [usize; 31]) -> bool {
+    if count != 32 {
+        return false;
+    }
     if stored.len() < 32 {
         return false;
     }
-    let from = 1;
-    let to = 32;
-    same_numbers(&stored[from..to], &head)
+    same_numbers(&stored[1..32], &head)
 }
 
-// What is told with the number is the n numbers that are stored: the place, and with 0 the head, with 6 the sizes.
-fn told_as_stored(stored: &[usize], n: usize, answer: Reading) -> bool {
-    if answer.place != number_at(stored, 0) {
+// Of `count` stored numbers, those behind the first are the sizes.
+fn sizes_as_stored(stored: &[usize], count: usize, n: Sizes) -> bool {
+    if count != 7 {
+        return false;
+    }
+    if stored.len() < 7 {
+        return false;
+    }
+    let sizes = [
+        n.texts,
+        n.references,
+        n.comments,
+        n.features,
+        n.qualifiers,
+        n.letters,
+    ];
+    same_numbers(&stored[1..7], &sizes)
+}
+
+// What is told with the number: the place, and behind it with 0 the head, with 6 the sizes.
+fn told_as_stored(stored: &[usize], count: usize, answer: Reading) -> bool {
+    if number_at(stored, 0) != answer.place {
         return false;
     }
     if answer.number == 0 {
         let head = answer.head;
-        return n == 32 && head_as_stored(stored, head);
+        return head_as_stored(stored, count, head);
     }
     if answer.number == 6 {
         let sizes = answer.sizes;
-        return n == 7 && sizes_as_stored(stored, sizes);
+        return sizes_as_stored(stored, count, sizes);
     }
-    n == 1
+    count == 1
 }
 
 // The number is one of those that may be answered, and what is told with it is as stored.
 fn answer_as_stored(s: &[u8], at: usize, answer: Reading, counts: &mut [usize]) -> Checked {
     let mut permitted = number_room();
-    let mut told = number_room();
-    let numbers = take_numbers(s, at, &mut permitted);
-    let field = take_numbers(s, numbers.next, &mut told);
-    count_answer(counts, number_at(&permitted, 0), numbers.count);
-    let same = told_as_stored(&told, field.count, answer);
-    Checked {
+    let mut stored = number_room();
+    let field = take_numbers(s, at, &mut permitted);
+    count_answer(counts, number_at(&permitted, 0), field.count);
+    let so_far = Checked {
         next: field.next,
-        same: same && among(&permitted, numbers.count, answer.number),
-    }
+        same: among(&permitted, field.count, answer.number),
+    };
+    let told = take_numbers(s, so_far.next, &mut stored);
+    and_then(
+        so_far,
+        told.next,
+        told_as_stored(&stored, told.count, answer),
+    )
 }
 
 // Reads into as much of each room as the call lends.
