@@ -68,7 +68,7 @@ struct vilggodan_sizes {
 /* What reading answers. */
 struct vilggodan_reading {
     size_t number;                /* 0 to 9 */
-    size_t place;                 /* with 0 the place after the record, with 3 the number 0, else the place given */
+    size_t place;                 /* with 0 the place after the record, with 3 it is 0, else the place given */
     size_t head[VILGGODAN_HEAD];  /* with 0 the head, else zeros */
     struct vilggodan_sizes sizes; /* with 6 what the record takes, exactly, else zeros */
 };
