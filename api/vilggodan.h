@@ -4,7 +4,7 @@
  * written to overlap no other. Nothing else is asked of the arguments: every call ends and has an answer, and changes nothing but what is said here.
  * No call allocates, and calls do not share anything, so threads may call at once.
  *
- * ANSWERS. Each function returns a number:
+ * ANSWERS. Each function returns a struct by value, whose first field is a number:
  *    0  done
  *    1  the place is the end of the input: no more records
  *    2  the input ends inside the record
@@ -19,7 +19,7 @@
  *   11  a text, date or sequence that cannot be laid out
  *   12  the width is not 60 to 132
  *   13  a keeping rule is broken: it may not read back the same
- * With any number but 0 no room and no output is changed; `told` is always written.
+ * With any number but 0 no lent byte is changed: nothing is lent for the answer itself.
  *
  * ROOMS. A table lies in six rooms: bytes of texts, four of rows, bytes of letters. A text in `texts` is a start and a length; one that may be absent is a start
  * and its length plus one, and 0, 0 where it is absent.
@@ -46,8 +46,8 @@
 extern "C" {
 #endif
 
-/* How many numbers a head has, and how many `told` wants for reading. */
-enum { VILGGODAN_HEAD = 31, VILGGODAN_TOLD = 32 };
+/* How many numbers a head has. */
+enum { VILGGODAN_HEAD = 31 };
 
 /* A text in `texts`. */
 struct vilggodan_span {
@@ -60,12 +60,27 @@ struct vilggodan_feature {
     size_t first, count; /* the first qualifier's row, and how many */
 };
 
-/* Reads the record that starts at the place `at` of `s` into the rooms. Returns 0 to 9. Told:
- *    0   [0] the place after the record, [1] to [31] the head. The rooms hold the table; what it does not take of them is unchanged.
- *    6   [0] `at`, [1] to [6] what the record takes: bytes of texts, rows of references, comments, features, qualifiers, and letters.
- *    3   [0] 0.    Any other: [0] `at`.
- * What falls past the end of `told` is lost. */
-size_t vilggodan_read(
+/* What a record takes: bytes of texts, rows of references, comments, features and qualifiers, and letters. */
+struct vilggodan_sizes {
+    size_t texts, references, comments, features, qualifiers, letters;
+};
+
+/* What reading answers. */
+struct vilggodan_reading {
+    size_t number;                /* 0 to 9 */
+    size_t place;                 /* with 0 the place after the record, with 3 it is 0, else the place given */
+    size_t head[VILGGODAN_HEAD];  /* with 0 the head, else zeros */
+    struct vilggodan_sizes sizes; /* with 6 what the record takes, exactly, else zeros */
+};
+
+/* What writing answers. */
+struct vilggodan_writing {
+    size_t number; /* 0, 6, 10, 11, 12 or, with `keep`, 13 */
+    size_t count;  /* with 0 the bytes written, with 6 the bytes that it takes, exactly, else 0 */
+};
+
+/* Reads the record that starts at the place `at` of `s` into the rooms. With 0 these hold the table; what it does not take of them is unchanged. */
+struct vilggodan_reading vilggodan_read(
     const uint8_t *s, size_t s_length,
     size_t at,
     uint8_t *texts, size_t texts_length,
@@ -73,15 +88,14 @@ size_t vilggodan_read(
     size_t *comments, size_t comments_length,
     struct vilggodan_feature *features, size_t features_length,
     size_t *qualifiers, size_t qualifiers_length,
-    uint8_t *letters, size_t letters_length,
-    size_t *told, size_t told_length);
+    uint8_t *letters, size_t letters_length);
 
-/* Writes the table in the rooms to `out` at a width of 60 to 132, as gb-io does. Returns 0, 6, 10, 11, 12 or, with `keep`, 13. Told: [0] the bytes written
- * with 0, the bytes that it takes with 6, and 0 with any other.
- * `keep` asks for the keeping writer: what it writes reads back as the same table, and it answers 13 where a keeping rule is broken.
- * `head` is 31 numbers, as read (told + 1). Fewer, or a length above 4,294,967,295, is 10; a date that is none is 11. Any number but 0 at [5] is circular.
+/* Writes the table in the rooms to `out` at a width of 60 to 132, as gb-io does.
+ * `keep` asks for the keeping writer, which answers 13 where a keeping rule is broken. What it writes reads back as the same table if it is at most 16,777,216
+ * bytes long, which is all that reading takes: a record of 13,250,000 letters is kept, and reading what was written is then answered by 3.
+ * `head` is 31 numbers, as read. Fewer, or a length above 4,294,967,295, is 10; a date that is none is 11. Any number but 0 at [5] is circular.
  * `truncate` cuts what is too long for the LOCUS line; `escape` joins the words of the name by `_`. */
-size_t vilggodan_write(
+struct vilggodan_writing vilggodan_write(
     uint8_t *out, size_t out_length,
     const uint8_t *texts, size_t texts_length,
     const size_t *references, size_t references_length,
@@ -90,8 +104,7 @@ size_t vilggodan_write(
     const size_t *qualifiers, size_t qualifiers_length,
     const uint8_t *letters, size_t letters_length,
     const size_t *head, size_t head_length,
-    size_t width, bool keep, bool truncate, bool escape,
-    size_t *told, size_t told_length);
+    size_t width, bool keep, bool truncate, bool escape);
 
 #ifdef __cplusplus
 }

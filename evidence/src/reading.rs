@@ -1,8 +1,8 @@
 //! Differential reading: each slice from two places, with rooms empty, exact, one short and too large.
-use crate::library::Lent;
+use crate::library::{Answer, Lent};
 use crate::random::Random;
 use crate::slices::Slices;
-use crate::table::{Rooms, HEAD, ROWS};
+use crate::table::{Rooms, ROWS};
 use crate::tally::Tally;
 use crate::{asis, departed, Reading};
 
@@ -82,17 +82,17 @@ pub fn departed_reading(bytes: &[u8]) -> Reading {
 /// The verdict, or what is wrong.
 pub fn judged(slice: &[u8], at: usize, r: &mut Random) -> Result<Judged, &'static str> {
     if at > slice.len() || slice.len() > MOST {
-        return Ok(Judged { number: refused(slice, at, &[3], 0, r)?, verdict: "departure 5, a place beyond the slice or a slice too long" });
+        return Ok(Judged { number: refused(slice, at, &[3], 0)?, verdict: "departure 5, a place beyond the slice or a slice too long" });
     }
     let bytes = &slice[at..];
     let unchanged = asis::read(bytes);
     let expected = departed_reading(bytes);
     let number = match &expected {
         Reading::Done(table, used) => done(slice, at, &Rooms::of(table, || 0), at + used, r)?,
-        _ if bytes.is_empty() => refused(slice, at, &[1], at, r)?,
-        Reading::Panicked => refused(slice, at, &[2], at, r)?,
-        Reading::Refused if unchanged != Reading::None => refused(slice, at, &[2, 4, 5, 7, 8, 9], at, r)?,
-        Reading::None | Reading::Refused => refused(slice, at, &[2, 4], at, r)?,
+        _ if bytes.is_empty() => refused(slice, at, &[1], at)?,
+        Reading::Panicked => refused(slice, at, &[2], at)?,
+        Reading::Refused if unchanged != Reading::None => refused(slice, at, &[2, 4, 5, 7, 8, 9], at)?,
+        Reading::None | Reading::Refused => refused(slice, at, &[2, 4], at)?,
     };
     let verdict = match expected {
         Reading::Panicked => Some("departure 5, the Rust panics"),
@@ -120,17 +120,13 @@ fn lengths(rooms: &Rooms) -> [usize; 6] {
     [sizes[0], sizes[1] * ROWS[0], sizes[2] * ROWS[1], sizes[3] * ROWS[2], sizes[4] * ROWS[3], sizes[5]]
 }
 
-fn lent(lengths: [usize; 6], told: usize) -> Lent {
-    let [a, b, c, d, e, f] = lengths;
-    Lent::new([a, b, c, d, e, f, told])
-}
-
 /// The library refuses with one of the numbers and touches nothing, whatever the rooms.
-fn refused(slice: &[u8], at: usize, numbers: &[usize], told: usize, r: &mut Random) -> Result<usize, &'static str> {
+fn refused(slice: &[u8], at: usize, numbers: &[usize], place: usize) -> Result<usize, &'static str> {
     let mut first = 0;
     for lengths in [[0; 6], [slice.len().min(1000); 6]] {
-        let mut rooms = lent(lengths, r.pick(&[1, 1, 1 + HEAD, 0]));
-        let number = rooms.read(slice, at);
+        let mut rooms = Lent::new(lengths);
+        let answer = rooms.read(slice, at);
+        let number = answer.number;
         if !numbers.contains(&number) {
             return Err("another number than a refusal that is due");
         }
@@ -141,8 +137,8 @@ fn refused(slice: &[u8], at: usize, numbers: &[usize], told: usize, r: &mut Rand
         if !rooms.holds(&Rooms::default()) {
             return Err("a refusal touched a room");
         }
-        if !rooms.told(&[told]) {
-            return Err("another place with a refusal");
+        if answer != Answer::new(number, place) {
+            return Err("another place with a refusal, or a head or sizes");
         }
     }
     Ok(first)
@@ -151,34 +147,32 @@ fn refused(slice: &[u8], at: usize, numbers: &[usize], told: usize, r: &mut Rand
 /// The library reads these rooms and this place, and asks for exactly that much room.
 fn done(slice: &[u8], at: usize, rooms: &Rooms, place: usize, r: &mut Random) -> Result<usize, &'static str> {
     let exact = lengths(rooms);
-    let mut sizes = vec![at];
-    sizes.extend(rooms.sizes());
     let mut short = exact;
     let needed: Vec<usize> = (0..6).filter(|&i| exact[i] > 0).collect();
     let i = r.pick(&needed);
     short[i] -= 1;
     for small in [[0; 6], short] {
-        let mut room = lent(small, r.pick(&[7, 7, 1 + HEAD, 3]));
-        if room.read(slice, at) != 6 {
+        let mut room = Lent::new(small);
+        let answer = room.read(slice, at);
+        if answer.number != 6 {
             return Err("not 6, though the rooms are too small");
         }
-        if !room.told(&sizes) {
-            return Err("other sizes with 6");
+        if answer != (Answer { sizes: rooms.sizes(), ..Answer::new(6, at) }) {
+            return Err("other sizes with 6, or another place, or a head");
         }
         if !room.holds(&Rooms::default()) {
             return Err("6 touched a room");
         }
     }
-    let mut answer = vec![place];
-    answer.extend(&rooms.head);
     let more = exact.map(|n| n + r.below(20));
     for large in [exact, more] {
-        let mut room = lent(large, r.pick(&[1 + HEAD, 1 + HEAD, 40, 9]));
-        if room.read(slice, at) != 0 {
+        let mut room = Lent::new(large);
+        let answer = room.read(slice, at);
+        if answer.number != 0 {
             return Err("not 0, though the rooms are large enough");
         }
-        if !room.told(&answer) {
-            return Err("another place or head");
+        if !answer.done(rooms, place) {
+            return Err("another place or head, or sizes");
         }
         if !room.holds(rooms) {
             return Err("other texts, rows or letters, or a canary is dead");

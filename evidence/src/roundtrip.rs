@@ -2,7 +2,7 @@
 use crate::library::{write, How, Lent};
 use crate::random::Random;
 use crate::rules::{kept, laid_out};
-use crate::table::{Rooms, Table, HEAD, ROWS};
+use crate::table::{Rooms, Table, ROWS};
 use crate::tables::{Job, Tables};
 use crate::tally::Tally;
 
@@ -53,13 +53,12 @@ pub fn round(table: &Table, how: How, r: &mut Random) -> Result<(), &'static str
     slice.extend(after.as_bytes());
     let [texts, references, comments, features, qualifiers, letters] = rooms.sizes();
     let rows = [references * ROWS[0], comments * ROWS[1], features * ROWS[2], qualifiers * ROWS[3]];
-    let mut lent = Lent::new([texts, rows[0], rows[1], rows[2], rows[3], letters, 1 + HEAD]);
-    if lent.read(&slice, at) != 0 {
+    let mut lent = Lent::new([texts, rows[0], rows[1], rows[2], rows[3], letters]);
+    let answer = lent.read(&slice, at);
+    if answer.number != 0 {
         return Err("the reader does not read it");
     }
-    let mut told = vec![end];
-    told.extend(&rooms.head);
-    if !lent.told(&told) || !lent.holds(&rooms) {
+    if !answer.done(&rooms, end) || !lent.holds(&rooms) {
         return Err("the reader reads another table");
     }
     Ok(())

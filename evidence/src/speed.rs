@@ -1,7 +1,7 @@
 //! Speed: gb-io, the proved library and memcpy on the same inputs, turn by turn.
 use crate::library::{self, How};
 use crate::random::Random;
-use crate::table::{Feature, Reference, Rooms, Table, HEAD, ROWS};
+use crate::table::{Feature, Reference, Rooms, Table, ROWS};
 use crate::{asis, Writing};
 use gb_io_asis::reader::{parse_slice, SeqReader};
 use gb_io_asis::seq::Seq;
@@ -88,13 +88,13 @@ const HOW: How = How { keeping: false, width: WIDTH, truncate: false, escape: fa
 
 /// Sizes first, then rooms of these sizes, then the record.
 fn read_asked(text: &[u8]) -> Option<Rooms> {
-    let mut told = [0; 1 + HEAD];
-    let number = library::read(text, 0, &mut [], [&mut [], &mut [], &mut [], &mut []], &mut [], &mut told);
-    if number != 6 {
+    let answer = library::read(text, 0, &mut [], [&mut [], &mut [], &mut [], &mut []], &mut []);
+    if answer.number != 6 {
         return None;
     }
-    let row = |i: usize| vec![0; told[2 + i] * ROWS[i]];
-    let mut rooms = Rooms { texts: vec![0; told[1]], references: row(0), comments: row(1), features: row(2), qualifiers: row(3), letters: vec![0; told[6]],
+    let sizes = answer.sizes;
+    let row = |i: usize| vec![0; sizes[1 + i] * ROWS[i]];
+    let mut rooms = Rooms { texts: vec![0; sizes[0]], references: row(0), comments: row(1), features: row(2), qualifiers: row(3), letters: vec![0; sizes[5]],
         head: Vec::new() };
     rooms.head = read_at_hand(text, &mut rooms)?;
     Some(rooms)
@@ -102,10 +102,9 @@ fn read_asked(text: &[u8]) -> Option<Rooms> {
 
 /// The head of the record that is read into these rooms.
 fn read_at_hand(text: &[u8], rooms: &mut Rooms) -> Option<Vec<usize>> {
-    let mut told = [0; 1 + HEAD];
     let Rooms { texts, references, comments, features, qualifiers, letters, .. } = rooms;
-    let number = library::read(text, 0, texts, [references, comments, features, qualifiers], letters, &mut told);
-    (number == 0).then(|| told[1..].to_vec())
+    let answer = library::read(text, 0, texts, [references, comments, features, qualifiers], letters);
+    (answer.number == 0).then(|| answer.head.to_vec())
 }
 
 fn size_of(rooms: &Rooms) -> Option<usize> {

@@ -1,7 +1,8 @@
 //! GenBank records, read and written by proved code.
 //!
 //! [`records`] goes through a file, [`Record::write`] and [`Record::keep`] give the bytes of a record. What the keeping writer gives
-//! reads back as the same record; where it cannot promise that, it refuses with number 13.
+//! reads back as the same record, if it is at most 16,777,216 bytes long, which is all that reading takes; where a keeping rule is broken, it
+//! refuses with number 13.
 //!
 //! ```no_run
 //! let file = std::fs::read("plasmids.gb").unwrap();
@@ -120,8 +121,6 @@ pub struct Qualifier<'a> {
     pub value: Option<&'a [u8]>,
 }
 
-const HEAD: usize = 31;
-
 /// A record in rooms of its own, which grow as reading needs it.
 #[derive(Clone, Debug)]
 pub struct Record {
@@ -131,7 +130,7 @@ pub struct Record {
     features: Vec<raw::Feature>,
     qualifiers: Vec<usize>,
     letters: Vec<u8>,
-    head: [usize; HEAD],
+    head: [usize; raw::HEAD],
 }
 
 impl Default for Record {
@@ -150,7 +149,7 @@ impl Record {
             features: Vec::new(),
             qualifiers: Vec::new(),
             letters: Vec::new(),
-            head: [0; HEAD],
+            head: [0; raw::HEAD],
         }
     }
 
@@ -158,9 +157,8 @@ impl Record {
     /// small. Where no record is read this one stays as it is.
     pub fn read(&mut self, s: &[u8], at: usize) -> Result<usize, Error> {
         loop {
-            let mut told = [0; 1 + HEAD];
             // Safety: each pointer is that of a slice with the length beside it, and those of one that is written to are borrowed here alone.
-            let number = unsafe {
+            let answer = unsafe {
                 raw::vilggodan_read(
                     s.as_ptr(),
                     s.len(),
@@ -177,29 +175,27 @@ impl Record {
                     self.qualifiers.len(),
                     self.letters.as_mut_ptr(),
                     self.letters.len(),
-                    told.as_mut_ptr(),
-                    told.len(),
                 )
             };
-            match number {
+            match answer.number {
                 0 => {
-                    self.head.copy_from_slice(&told[1..]);
-                    return Ok(told[0]);
+                    self.head = answer.head;
+                    return Ok(answer.place);
                 }
-                6 => self.grow(&told[1..7]),
-                _ => return Err(Error::of(number)),
+                6 => self.grow(answer.sizes),
+                number => return Err(Error::of(number)),
             }
         }
     }
 
     /// Makes each room at least as large as the sizes say.
-    fn grow(&mut self, sizes: &[usize]) {
-        grow(&mut self.texts, sizes[0]);
-        grow(&mut self.references, 14 * sizes[1]);
-        grow(&mut self.comments, 2 * sizes[2]);
-        grow(&mut self.features, sizes[3]);
-        grow(&mut self.qualifiers, 4 * sizes[4]);
-        grow(&mut self.letters, sizes[5]);
+    fn grow(&mut self, sizes: raw::Sizes) {
+        grow(&mut self.texts, sizes.texts);
+        grow(&mut self.references, 14 * sizes.references);
+        grow(&mut self.comments, 2 * sizes.comments);
+        grow(&mut self.features, sizes.features);
+        grow(&mut self.qualifiers, 4 * sizes.qualifiers);
+        grow(&mut self.letters, sizes.letters);
     }
 
     /// The record's bytes by the plain writer.
@@ -207,7 +203,8 @@ impl Record {
         self.written(false, layout)
     }
 
-    /// The record's bytes by the keeping writer: they read back as this record, or the answer is 13.
+    /// The record's bytes by the keeping writer, or 13 where a keeping rule is broken. They read back as this record if they are at most 16,777,216: of
+    /// 13,250,000 letters the bytes are more, and reading them is answered by 3.
     pub fn keep(&self, layout: Layout) -> Result<Vec<u8>, Error> {
         self.written(true, layout)
     }
@@ -215,9 +212,8 @@ impl Record {
     fn written(&self, keep: bool, layout: Layout) -> Result<Vec<u8>, Error> {
         let mut out = Vec::new();
         loop {
-            let mut told = [0];
-            // Safety: each pointer is that of a slice with the length beside it, and `out` and `told` are borrowed here alone.
-            let number = unsafe {
+            // Safety: each pointer is that of a slice with the length beside it, and `out` is borrowed here alone.
+            let answer = unsafe {
                 raw::vilggodan_write(
                     out.as_mut_ptr(),
                     out.len(),
@@ -239,17 +235,15 @@ impl Record {
                     keep,
                     layout.truncate,
                     layout.escape,
-                    told.as_mut_ptr(),
-                    told.len(),
                 )
             };
-            match number {
+            match answer.number {
                 0 => {
-                    out.truncate(told[0]);
+                    out.truncate(answer.count);
                     return Ok(out);
                 }
-                6 => grow(&mut out, told[0]),
-                _ => return Err(Error::of(number)),
+                6 => grow(&mut out, answer.count),
+                number => return Err(Error::of(number)),
             }
         }
     }

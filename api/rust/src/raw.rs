@@ -19,6 +19,42 @@ pub struct Feature {
     pub count: usize,
 }
 
+/// What a record takes.
+#[repr(C)]
+#[derive(Clone, Copy, Debug)]
+pub struct Sizes {
+    pub texts: usize,
+    pub references: usize,
+    pub comments: usize,
+    pub features: usize,
+    pub qualifiers: usize,
+    pub letters: usize,
+}
+
+/// How many numbers a head has.
+pub const HEAD: usize = 31;
+
+/// What reading answers.
+#[repr(C)]
+#[derive(Clone, Copy, Debug)]
+pub struct Reading {
+    pub number: usize,
+    pub place: usize,
+    /// With 0 the head, else zeros.
+    pub head: [usize; HEAD],
+    /// With 6 what the record takes, else zeros.
+    pub sizes: Sizes,
+}
+
+/// What writing answers.
+#[repr(C)]
+#[derive(Clone, Copy, Debug)]
+pub struct Writing {
+    pub number: usize,
+    /// With 0 the bytes written, with 6 the bytes that it takes, else 0.
+    pub count: usize,
+}
+
 extern "C" {
     pub fn vilggodan_read(
         s: *const u8,
@@ -36,9 +72,7 @@ extern "C" {
         qualifiers_length: usize,
         letters: *mut u8,
         letters_length: usize,
-        told: *mut usize,
-        told_length: usize,
-    ) -> usize;
+    ) -> Reading;
 
     pub fn vilggodan_write(
         out: *mut u8,
@@ -61,7 +95,5 @@ extern "C" {
         keep: bool,
         truncate: bool,
         escape: bool,
-        told: *mut usize,
-        told_length: usize,
-    ) -> usize;
+    ) -> Writing;
 }

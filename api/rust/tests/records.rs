@@ -80,3 +80,14 @@ fn larger_and_smaller_by_turns() {
     assert_eq!(record.features().count(), 0);
     assert_eq!(record.letters(), b"");
 }
+
+#[test]
+fn kept_and_too_long_to_read() {
+    let count = 13_250_000;
+    let mut file = format!("LOCUS       LONG {count} bp linear SYN 01-MAR-2024\nORIGIN\n").into_bytes();
+    file.resize(file.len() + count, b'a');
+    file.extend(b"\n//\n");
+    let text = first(&file).keep(Layout::default()).unwrap();
+    assert!(text.len() > 16_777_216);
+    assert_eq!(Record::new().read(&text, 0).unwrap_err().number, 3);
+}

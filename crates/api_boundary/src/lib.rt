@@ -1,13 +1,14 @@
 // What programs in other languages call: the reader and the writers over numbers and slices. No call asks anything of its arguments; api/vilggodan.h says how they
-// are passed, and specs/Told.antt what is returned and told.
+// are passed, and specs/Told.antt of `spec_contracts` what is returned.
 use api_head::head_from;
-use api_told::tell_read;
-use api_told::tell_written;
+use api_told::reading_of;
+use api_told::writing_of;
 use base_rows::Feature;
+use spec_contracts::Reading;
+use spec_contracts::Writing;
 use spec_format::How;
-use write_record::write;
-ghost use Rattle.api_boundary.specs.Told.{ReadTold, WriteTold};
 ghost use Rattle.spec_contracts.specs.Lent.{lent, left};
+ghost use Rattle.spec_contracts.specs.Told.{ReadTold, WriteTold, howOf};
 
 // Reads the record at a place of `s` into the rooms.
 #[no_mangle]
@@ -20,9 +21,8 @@ pub extern "C" fn vilggodan_read(
     features: &mut [Feature],
     qualifiers: &mut [usize],
     letters: &mut [u8],
-    told: &mut [usize],
-) -> usize
-    ensures { λ r. ⌜ ReadTold (now (s .entry)) at (lent texts references comments features qualifiers letters) (left texts references comments features qualifiers letters) (now (told .entry)) (now (told .exit)) r ⌝ }
+) -> Reading
+    ensures { λ r. ⌜ ReadTold (now (s .entry)) at (lent texts references comments features qualifiers letters) (left texts references comments features qualifiers letters) r ⌝ }
 {
     let answer = read_record::read(
         s,
@@ -34,10 +34,10 @@ pub extern "C" fn vilggodan_read(
         qualifiers,
         letters,
     );
-    tell_read(told, at, answer)
+    reading_of(at, answer)
 }
 
-// Writes the table in the rooms by the keeping rules or plainly. Nothing is asked of the arguments; specs/Told.antt says what is returned and told.
+// Writes the table in the rooms by the keeping rules or plainly.
 #[no_mangle]
 pub extern "C" fn vilggodan_write(
     out: &mut [u8],
@@ -52,11 +52,10 @@ pub extern "C" fn vilggodan_write(
     keep: bool,
     truncate: bool,
     escape: bool,
-    told: &mut [usize],
-) -> usize
-    ensures { λ r. ⌜ WriteTold keep width truncate escape (lent texts references comments features qualifiers letters) (now (head .entry)) (now (out .entry)) (now (out .exit)) (now (told .entry)) (now (told .exit)) r ⌝ }
+) -> Writing
+    ensures { λ r. ⌜ WriteTold (howOf keep width truncate escape) (lent texts references comments features qualifiers letters) (now (head .entry)) (now (out .entry)) (now (out .exit)) r ⌝ }
 {
-    let answer = write(
+    let answer = write_record::write(
         out,
         texts,
         references,
@@ -72,5 +71,5 @@ pub extern "C" fn vilggodan_write(
             escape: escape,
         },
     );
-    tell_written(told, answer)
+    writing_of(answer)
 }

@@ -1,2 +1,2 @@
--- What a record read and written again ends in.
+-- Laws of a record read and written again.
 pub mod Rounds

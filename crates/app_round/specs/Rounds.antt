@@ -1,30 +1,26 @@
--- What a record read into rows of structs and written again from them ends in: the reader's answer and rooms, and the writer's answer and slice on what was read.
+-- A record read into rows of structs and written again from them: laws of what `spec_contracts` says of it.
 use Prim.Native.Nat.{ℕ}
 use mathlib.Core.Bool.{Bool, true, false}
 use mathlib.Core.List.{List}
 use mathlib.Core.Path.{_≡_, refl, subst}
-use lib.ListN.{length, replicate}
 use Rattle.spec_format.specs.Answers.{plainAnswer, keepingAnswer}
-use Rattle.spec_format.specs.Rooms.{Rooms, readAnswer, roomsAfter, roomsIn}
-use Rattle.spec_format.specs.declared.Dated.the-variants as date
+use Rattle.spec_format.specs.Rooms.{Rooms, roomsAfter, roomsIn}
 use Rattle.spec_format.specs.declared.Head.{Head}
-use Rattle.spec_format.specs.declared.Length.the-variants as bases
+use Rattle.spec_format.specs.declared.How.{How}
 use Rattle.spec_format.specs.declared.ReadAnswer.{ReadAnswer}
 use Rattle.spec_format.specs.declared.ReadAnswer.the-variants as read
 use Rattle.spec_format.specs.declared.Sizes.{Sizes}
-use Rattle.spec_format.specs.declared.SourceText.the-variants as source
-use Rattle.spec_format.specs.declared.Text.the-variants as text
 use Rattle.spec_format.specs.declared.Unread.{Unread}
 use Rattle.spec_format.specs.declared.Unwritten.the-variants as unwritten
 use Rattle.spec_format.specs.declared.WriteAnswer.{WriteAnswer}
 use Rattle.spec_format.specs.declared.WriteAnswer.the-variants as written
 use Rattle.base_rows.specs.declared.Feature.{Feature}
 use Rattle.base_rows.specs.Rows.{flat}
-use Rattle.write_record_parts.specs.Split.{rowsRooms}
-use Rattle.spec_format.specs.declared.How.{How}
-use Rattle.spec_contracts.specs.Reads.{Answered}
-use Rattle.spec_contracts.specs.Writes.{AnsweredBy, WriteAnswered}
 use Rattle.spec_contracts.specs.Equal.{rooms-after}
+use Rattle.spec_contracts.specs.Reads.{Answered}
+use Rattle.spec_contracts.specs.Rounds.{emptyHead, headOf, notAtAll, howAfter, Rounds}
+use Rattle.spec_contracts.specs.Told.{howOf}
+use Rattle.spec_contracts.specs.Writes.{WriteAnswered}
 
 pub head-done : (a : ReadAnswer) (h : Head) (place : ℕ) → a ≡ read.Done h place → h ≡ headOf a
 head-done a h place e = rw e
@@ -43,7 +39,7 @@ how-room a sizes how e = rw e
 
 module _ (s : List ℕ) (at : ℕ) (old : Rooms) (how : How) (t rf cm : List ℕ) (rows : List Feature) (q l before after : List ℕ) (r : ReadAnswer) (w : WriteAnswer) where
   -- the reader's contract and then the writer's
-  pub rounds : Answered s at old (roomsIn t rf cm (flat rows) q l) r → WriteAnswered (howAfter r how) (rowsRooms t rf cm q l rows) (headOf r) before after w
+  pub rounds : Answered s at old (roomsIn t rf cm (flat rows) q l) r → WriteAnswered (howAfter r how) (roomsIn t rf cm (flat rows) q l) (headOf r) before after w
       → Rounds s at old how t rf cm q l before after r w
   rounds a b =
       record {
@@ -60,7 +56,7 @@ module _ (s : List ℕ) (at : ℕ) (old : Rooms) (how : How) (t rf cm : List ℕ
 
 -- ---- where nothing was read, nothing is written
 
-refused : (keeping truncate escape : Bool) (rooms : Rooms) (h : Head) (before after : List ℕ) (w : WriteAnswer) → AnsweredBy keeping 0 truncate escape rooms h before after w
+refused : (keeping truncate escape : Bool) (rooms : Rooms) (h : Head) (before after : List ℕ) (w : WriteAnswer) → WriteAnswered (howOf keeping 0 truncate escape) rooms h before after w
     → (w ≡ written.Refused unwritten.BadWidth) × (after ≡ before)
 unfolding plainAnswer keepingAnswer
 refused true truncate escape rooms h before after w a = (a .is, rw (a .is) at (a .slice))

@@ -11,7 +11,7 @@ use spec_format::Text;
 use spec_format::WriteAnswer;
 ghost use mathlib.Core.Path.{_≡_};
 ghost use Rattle.base_rows.specs.Rows.{flat};
-ghost use Rattle.app_round.specs.Rounds.{emptyHead, emptyRows, headOf, howAfter, Rounds};
+ghost use Rattle.spec_contracts.specs.Rounds.{emptyHead, emptyRows, headOf, howAfter, Rounds};
 ghost use Rattle.spec_format.specs.Rooms.{roomsIn};
 
 // What the reader answered, and then the writer.

@@ -1,5 +1,7 @@
 // One stored reading: the slice is read again, and the number, what is told with it and all of each room are held against what is stored.
-use api_told::tell_read;
+use api_told::reading_of;
+use spec_contracts::Reading;
+use spec_format::Sizes;
 use test_stored_lines::Checked;
 use test_stored_lines::among;
 use test_stored_lines::count_answer;
@@ -54,22 +56,68 @@ fn rooms_as_stored(
     text_as_stored(s, e, letters)
 }
 
+// Of `count` stored numbers, those behind the first are the head's.
+fn head_as_stored(stored: &[usize], count: usize, head: [usize; 31]) -> bool {
+    if count != 32 {
+        return false;
+    }
+    if stored.len() < 32 {
+        return false;
+    }
+    same_numbers(&stored[1..32], &head)
+}
+
+// Of `count` stored numbers, those behind the first are the sizes.
+fn sizes_as_stored(stored: &[usize], count: usize, n: Sizes) -> bool {
+    if count != 7 {
+        return false;
+    }
+    if stored.len() < 7 {
+        return false;
+    }
+    let sizes = [
+        n.texts,
+        n.references,
+        n.comments,
+        n.features,
+        n.qualifiers,
+        n.letters,
+    ];
+    same_numbers(&stored[1..7], &sizes)
+}
+
+// What is told with the number: the place, and behind it with 0 the head, with 6 the sizes.
+fn told_as_stored(stored: &[usize], count: usize, answer: Reading) -> bool {
+    if number_at(stored, 0) != answer.place {
+        return false;
+    }
+    if answer.number == 0 {
+        let head = answer.head;
+        return head_as_stored(stored, count, head);
+    }
+    if answer.number == 6 {
+        let sizes = answer.sizes;
+        return sizes_as_stored(stored, count, sizes);
+    }
+    count == 1
+}
+
 // The number is one of those that may be answered, and what is told with it is as stored.
-fn answer_as_stored(
-    s: &[u8],
-    at: usize,
-    number: usize,
-    told: &[usize],
-    counts: &mut [usize],
-) -> Checked {
+fn answer_as_stored(s: &[u8], at: usize, answer: Reading, counts: &mut [usize]) -> Checked {
     let mut permitted = number_room();
+    let mut stored = number_room();
     let field = take_numbers(s, at, &mut permitted);
     count_answer(counts, number_at(&permitted, 0), field.count);
     let so_far = Checked {
         next: field.next,
-        same: among(&permitted, field.count, number),
+        same: among(&permitted, field.count, answer.number),
     };
-    numbers_as_stored(s, so_far, told)
+    let told = take_numbers(s, so_far.next, &mut stored);
+    and_then(
+        so_far,
+        told.next,
+        told_as_stored(&stored, told.count, answer),
+    )
 }
 
 // Reads into as much of each room as the call lends.
@@ -83,8 +131,7 @@ fn read_lent(
     features: &mut [usize],
     qualifiers: &mut [usize],
     letters: &mut [u8],
-    told: &mut [usize],
-) -> usize {
+) -> Reading {
     let a = lent(call, n, 1, texts.len());
     let b = lent(call, n, 2, references.len());
     let c = lent(call, n, 3, comments.len());
@@ -102,7 +149,7 @@ fn read_lent(
         &mut qualifiers[0..e],
         &mut letters[0..f],
     );
-    tell_read(told, at, answer)
+    reading_of(at, answer)
 }
 
 // Reads the slice at the place that the call names.
@@ -120,8 +167,7 @@ fn read_input(
     let mut features = number_room();
     let mut qualifiers = number_room();
     let mut letters = io::buffer();
-    let mut told = number_room();
-    let number = read_lent(
+    let answer = read_lent(
         input,
         call,
         n,
@@ -131,9 +177,8 @@ fn read_input(
         &mut features,
         &mut qualifiers,
         &mut letters,
-        &mut told,
     );
-    let answered = answer_as_stored(s, at, number, &told, counts);
+    let answered = answer_as_stored(s, at, answer, counts);
     rooms_as_stored(
         s,
         answered,

@@ -1,6 +1,7 @@
-// One stored writing: the table is written again by both writers, and their numbers, values and all of the slice are held against what is stored.
+// One stored writing: the table is written again by both writers, and their numbers, counts and all of the slice are held against what is stored.
 use api_head::head_from;
-use api_told::tell_written;
+use api_told::writing_of;
+use spec_contracts::Writing;
 use spec_format::Head;
 use spec_format::How;
 use spec_format::WriteAnswer;
@@ -53,25 +54,24 @@ fn slice_as_stored(number: usize, out: &[u8], bytes: &[u8]) -> bool {
     base_keys::same_text(out, &untouched)
 }
 
-// A writer's number and value are those that stand in `stored` from `from` on, and the slice is as stored.
+// A writer's number and count are those that stand in `stored` from `from` on, and the slice is as stored.
 fn answer_as_stored(
     stored: &[usize],
     from: usize,
-    number: usize,
-    value: usize,
+    answer: Writing,
     out: &[u8],
     bytes: &[u8],
 ) -> bool {
     if 2 < from {
         return false;
     }
-    if number != number_at(stored, from) {
+    if answer.number != number_at(stored, from) {
         return false;
     }
-    if value != number_at(stored, from + 1) {
+    if answer.count != number_at(stored, from + 1) {
         return false;
     }
-    slice_as_stored(number, out, bytes)
+    slice_as_stored(answer.number, out, bytes)
 }
 
 // Writes into as much of the slice as the call lends.
@@ -87,8 +87,7 @@ fn write_lent(
     head: &[usize],
     call: &[usize],
     n: usize,
-    told: &mut [usize],
-) -> usize {
+) -> Writing {
     let length = lent(call, n, 3, out.len());
     let answer = write_by(
         keeping,
@@ -102,10 +101,10 @@ fn write_lent(
         head_from(head),
         call,
     );
-    tell_written(told, answer)
+    writing_of(answer)
 }
 
-// One writer, whose number and value stand in `stored` from `from` on.
+// One writer, whose number and count stand in `stored` from `from` on.
 fn written_as_stored(
     keeping: bool,
     from: usize,
@@ -122,8 +121,7 @@ fn written_as_stored(
     bytes: &[u8],
 ) -> bool {
     let mut out = io::buffer();
-    let mut told = number_room();
-    let number = write_lent(
+    let answer = write_lent(
         keeping,
         &mut out,
         texts,
@@ -135,9 +133,8 @@ fn written_as_stored(
         head,
         call,
         n,
-        &mut told,
     );
-    answer_as_stored(stored, from, number, number_at(&told, 0), &out, bytes)
+    answer_as_stored(stored, from, answer, &out, bytes)
 }
 
 // Both writers.
@@ -190,7 +187,7 @@ fn both_as_stored(
     false
 }
 
-// The call and what is stored of it: the two writers' numbers and values, and the bytes.
+// The call and what is stored of it: the two writers' numbers and counts, and the bytes.
 fn write_table(
     s: &[u8],
     at: usize,

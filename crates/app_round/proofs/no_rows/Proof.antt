@@ -1,6 +1,6 @@
 -- The rows by the definition, and not one by one.
 use mathlib.Core.Path.{refl}
-use Rattle.app_round.specs.Rounds.{emptyRows}
+use Rattle.spec_contracts.specs.Rounds.{emptyRows}
 use Rattle.app_round.proofs.no_rows.Statement.{statement}
 use Rattle.app_round.proofs.no_rows.Tie as tie
 

@@ -49,12 +49,12 @@ use Rattle.base_walk.proofs.Calls.{splits, asks-nothing, lands-at}
 use Rattle.base_walk.proofs.Locals.{Cell, vacant, away, holds, locals, Dies, allocs-all, frees-all}
 use Rattle.base_walk.proofs.Loans.{Loan, again as slice-at, Own, Lent, Kept, Shared, lends, returned, shares, placed, LentCells, SharedCells, MineMut, MineShr, lends-cells, shares-cells, mut-cells-back, shr-cells-back}
 use Rattle.base_walk.proofs.Arrays.{Many, many-val, apart, together, big-lit}
-use Rattle.app_round.specs.Rounds.{Rounds, emptyRows, headOf, howAfter, rounds}
 use Rattle.base_rows.specs.Rows.{flat}
 use Rattle.spec_contracts.specs.Reads.{Answered}
+use Rattle.spec_contracts.specs.Rounds.{Rounds, emptyRows, headOf, howAfter}
 use Rattle.spec_contracts.specs.Writes.{WriteAnswered}
 use Rattle.spec_format.specs.Rooms.{roomsIn, Rooms}
-use Rattle.write_record_parts.specs.Split.{rowsRooms}
+use Rattle.app_round.specs.Rounds.{rounds}
 use Rattle.base_rows.specs.declared.Feature.{Feature}
 use Rattle.base_rows.proofs.Feature as Feature-is
 use Rattle.base_rows.proofs.Feature.Laws as Feature-has
@@ -652,8 +652,8 @@ module _ {M : Type 1} (𝓤 : URA M) (H : Heap 𝓤) (A : Atoms 𝓤) (W : Given
               ended : Rounds (s .now) at′ (roomsIn (texts .now) (references .now) (comments .now) (flat emptyRows) (qualifiers .now) (letters .now)) how (texts-read) (references-read) (comments-read) (qualifiers-read) (letters-read) (out .now) (out-write) (made-Round .read) (made-Round .wrote)
               ended = rounds (s .now) at′ (old emptyRows) how texts-read references-read comments-read array-read qualifiers-read letters-read (out .now) out-write r-read r-write
                   (subst (λ (f : List Feature). Answered (s .now) at′ (old f) (roomsIn texts-read references-read comments-read (flat array-read) qualifiers-read letters-read) r-read) said-no-rows said-read)
-                  (subst (λ (k : How). WriteAnswered k (rowsRooms texts-read references-read comments-read qualifiers-read letters-read array-read) (headOf r-read) (out .now) out-write r-write) said-how-after
-                  (subst (λ (h : Head). WriteAnswered r-how-after (rowsRooms texts-read references-read comments-read qualifiers-read letters-read array-read) h (out .now) out-write r-write) said-head-of said-write))
+                  (subst (λ (k : How). WriteAnswered k (roomsIn texts-read references-read comments-read (flat array-read) qualifiers-read letters-read) (headOf r-read) (out .now) out-write r-write) said-how-after
+                  (subst (λ (h : Head). WriteAnswered r-how-after (roomsIn texts-read references-read comments-read (flat array-read) qualifiers-read letters-read) h (out .now) out-write r-write) said-head-of said-write))
 
               abbrev at-last : List (Item 𝓤)
               at-last = ‵ (flft κ₀ q₀) ∷ ‵ (flft κ₁ q₁) ∷ ‵ (flft κ₂ q₂) ∷ ‵ (flft κ₃ q₃) ∷ ‵ (flft κ₄ q₄) ∷ ‵ (flft κ₅ q₅) ∷ ‵ (flft κ₆ q₆) ∷ ‵ (texts-last texts-read) ∷ ‵ (references-last references-read) ∷ ‵ (comments-last comments-read) ∷ ‵ (qualifiers-last qualifiers-read) ∷ ‵ (letters-last letters-read) ∷ ‵ (out-last out-write) ∷ []

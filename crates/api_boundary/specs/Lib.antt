@@ -1,2 +1,0 @@
--- What the exported functions return and tell.
-pub mod Told
