@@ -29,10 +29,17 @@ fn replay_numbers(counts: &mut [usize]) {
     test_stored_lines::say_source(b"numbers that neither has", counts);
 }
 
+fn replay_cases(counts: &mut [usize]) {
+    replay_file(b"cases-read.txt", counts);
+    replay_file(b"cases-write.txt", counts);
+    test_stored_lines::say_source(b"cases", counts);
+}
+
 fn main() {
     let mut counts = [0usize; 32];
     replay_rust(&mut counts);
     replay_vectors(&mut counts);
     replay_numbers(&mut counts);
+    replay_cases(&mut counts);
     test_stored_lines::say_counts(&counts);
 }

@@ -1,5 +1,5 @@
 // Stored answers, run again and counted. A line of a file is one answer, `R` a reading and `W` a writing; oracle/README.md has its fields. Lines that
-// begin `#` say how the file was made.
+// begin `#` say how the file was made, and what a case shows.
 use crate::reading::replay_reading;
 use crate::writing::replay_writing;
 use test_stored_lines::Checked;

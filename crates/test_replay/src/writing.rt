@@ -1,10 +1,9 @@
-// One stored writing: the table is written again by both writers, and their numbers, counts and all of the slice are held against what is stored.
+// One stored writing: the table is written again by both writers, and their numbers, values and all of the slice are held against what is stored.
 use api_head::head_from;
 use api_told::writing_of;
 use spec_contracts::Writing;
 use spec_format::Head;
 use spec_format::How;
-use spec_format::WriteAnswer;
 use test_stored_lines::Checked;
 use test_stored_lines::count_answer;
 use test_stored_lines::lent;
@@ -13,36 +12,14 @@ use test_stored_lines::number_room;
 use test_stored_lines::take_numbers;
 use test_stored_lines::take_text;
 
-// Writes by one of the two writers, as the call says: width, truncation, escaping.
-fn write_by(
-    keeping: bool,
-    out: &mut [u8],
-    texts: &[u8],
-    references: &[usize],
-    comments: &[usize],
-    features: &[usize],
-    qualifiers: &[usize],
-    letters: &[u8],
-    head: Head,
-    call: &[usize],
-) -> WriteAnswer {
-    let how = How {
+// One of the two writers, as the call says: width, truncation, escaping.
+fn how_asked(call: &[usize], keeping: bool) -> How {
+    How {
         keeping: keeping,
         width: number_at(call, 0),
         truncate: number_at(call, 1) != 0,
         escape: number_at(call, 2) != 0,
-    };
-    test_rows::write(
-        out,
-        texts,
-        references,
-        comments,
-        features,
-        qualifiers,
-        letters,
-        head,
-        how,
-    )
+    }
 }
 
 // The slice afterwards is as stored: the bytes with 0, else untouched.
@@ -54,7 +31,7 @@ fn slice_as_stored(number: usize, out: &[u8], bytes: &[u8]) -> bool {
     base_keys::same_text(out, &untouched)
 }
 
-// A writer's number and count are those that stand in `stored` from `from` on, and the slice is as stored.
+// A writer's number and value are those that stand in `stored` from `from` on, and the slice is as stored.
 fn answer_as_stored(
     stored: &[usize],
     from: usize,
@@ -74,7 +51,7 @@ fn answer_as_stored(
     slice_as_stored(answer.number, out, bytes)
 }
 
-// Writes into as much of the slice as the call lends.
+// One writer, on as much of the slice as the call lends.
 fn write_lent(
     keeping: bool,
     out: &mut [u8],
@@ -84,13 +61,12 @@ fn write_lent(
     features: &[usize],
     qualifiers: &[usize],
     letters: &[u8],
-    head: &[usize],
+    head: Head,
     call: &[usize],
     n: usize,
 ) -> Writing {
     let length = lent(call, n, 3, out.len());
-    let answer = write_by(
-        keeping,
+    let answer = test_rows::write(
         &mut out[0..length],
         texts,
         references,
@@ -98,13 +74,13 @@ fn write_lent(
         features,
         qualifiers,
         letters,
-        head_from(head),
-        call,
+        head,
+        how_asked(call, keeping),
     );
     writing_of(answer)
 }
 
-// One writer, whose number and count stand in `stored` from `from` on.
+// One writer, whose number and value stand in `stored` from `from` on.
 fn written_as_stored(
     keeping: bool,
     from: usize,
@@ -114,7 +90,7 @@ fn written_as_stored(
     features: &[usize],
     qualifiers: &[usize],
     letters: &[u8],
-    head: &[usize],
+    head: Head,
     call: &[usize],
     n: usize,
     stored: &[usize],
@@ -145,7 +121,7 @@ fn both_as_stored(
     features: &[usize],
     qualifiers: &[usize],
     letters: &[u8],
-    head: &[usize],
+    head: Head,
     call: &[usize],
     n: usize,
     stored: &[usize],
@@ -181,13 +157,45 @@ fn both_as_stored(
         stored,
         bytes,
     );
-    if plain {
-        return keeping;
-    }
-    false
+    plain && keeping
 }
 
-// The call and what is stored of it: the two writers' numbers and counts, and the bytes.
+// Both writers, on as much of each room as the call lends.
+fn lent_as_stored(
+    texts: &[u8],
+    references: &[usize],
+    comments: &[usize],
+    features: &[usize],
+    qualifiers: &[usize],
+    letters: &[u8],
+    head: &[usize],
+    call: &[usize],
+    n: usize,
+    stored: &[usize],
+    bytes: &[u8],
+) -> bool {
+    let a = lent(call, n, 4, texts.len());
+    let b = lent(call, n, 5, references.len());
+    let c = lent(call, n, 6, comments.len());
+    let d = lent(call, n, 7, features.len());
+    let e = lent(call, n, 8, qualifiers.len());
+    let f = lent(call, n, 9, letters.len());
+    both_as_stored(
+        &texts[0..a],
+        &references[0..b],
+        &comments[0..c],
+        &features[0..d],
+        &qualifiers[0..e],
+        &letters[0..f],
+        head_from(head),
+        call,
+        n,
+        stored,
+        bytes,
+    )
+}
+
+// The call and what is stored of it: the two writers' numbers and values, and the bytes.
 fn write_table(
     s: &[u8],
     at: usize,
@@ -209,7 +217,7 @@ fn write_table(
     let text = take_text(s, numbers.next, &mut bytes);
     count_answer(counts, number_at(&stored, 0), 1);
     count_answer(counts, number_at(&stored, 2), 1);
-    let same = both_as_stored(
+    let same = lent_as_stored(
         texts,
         references,
         comments,

@@ -60,15 +60,13 @@ fn is_digit(b: u8) -> bool {
     b <= b'9'
 }
 
-// The value with one more digit. A number that a usize might not hold stands in no line.
+// The value with one more digit. A number that a usize does not hold stands in no line.
 fn with_digit(value: usize, b: u8) -> usize {
-    if b < b'0' {
+    let digit = hex(b) as usize;
+    if (usize::MAX - digit) / 10 < value {
         return value;
     }
-    if 1800000000000000000 < value {
-        return value;
-    }
-    value * 10 + (b - 48) as usize
+    value * 10 + digit
 }
 
 // Puts the number that has been read, if there is one, and tells how many there are then.

@@ -1,0 +1,147 @@
+"""Records at the edges of document 01's numbers, by hand.
+
+A case: what it shows, a slice, and the number of its last reading after document 01 (the Rust refuses without a number; the script holds the number against what its
+refusal may be). Record after record is read from the slice's start up to a refusal, or, with `at`, only the record at that place. All but that number comes from the Rust.
+To add a case, add a line and run oracle/store --cases.
+"""
+import sys
+
+import cases
+import lines
+
+ROOMS = [4096, 3 * 14, 3 * 2, 4 * 6, 8 * 4, 4096]  # enough for every case
+
+
+def case(title, data, last, at=None):
+    return title, data, last, at
+
+
+P318 = b'''LOCUS       P318                      12 bp    DNA     circular SYN 01-MAR-2024
+DEFINITION  Test plasmid.
+FEATURES             Location/Qualifiers
+     misc_feature    1..12
+                     /note="says ""keep"""
+                     /pseudo
+ORIGIN     \x20
+        1 acgtacgtac gt
+//
+'''
+A = b"LOCUS a 3 bp linear SYN 1-JAN-2000\n"
+TWO = b"DEFINITION  a\nDEFINITION  b\n"
+TABLE = b"FEATURES             Location/Qualifiers\n"
+FEATURE = b"     misc_feature    1..3\n"
+QUALIFIER = b" " * 21
+END = b"//\n"
+
+CASES = [
+    # The record of document 01, and its run example that is about reading.
+    case("P318", P318, 1),
+    case("a kind of 16 bytes: the qualifier stands before its indent", A + TABLE + b"     abcdefghijklmnop 1..3\n" + QUALIFIER + b'/note="x"\n' + END, 7),
+    # Places, and what stands before LOCUS.
+    case("no input", b"", 1),
+    case("at the end", A + END, 1, at=38),
+    case("beyond the end", A + END, 3, at=39),
+    case("lines before LOCUS", b"first\n\nsecond\r\n" + A + END, 1),
+    case("a stray CR before LOCUS", b"a\rb\n" + A + END, 4),
+    case("no UTF-8 before LOCUS", b"\xff\n" + A + END, 4),
+    case("no LOCUS", b"abc\ndef\n", 4),
+    case("no line end before LOCUS", b"abcLOCUS x", 4),
+    case("a place inside the first record", A + END + A + END, 0, at=5),
+    case("the second record from its place", A + END + b"LOCUS b 0 bp linear SYN 1-JAN-2000\n" + END, 0, at=38),
+    case("three records one after another", A + END + b"LOCUS x\n" + END + b"\n\r\n" + P318, 1),
+    # The LOCUS line.
+    case("the bare word", b"LOCUS", 2),
+    case("the word and a CR at the end", b"LOCUS\r", 4),
+    case("the word and a line end", b"LOCUS\n" + END, 4),
+    case("cut after a CR", b"LOCUS x\r", 2),
+    case("a stray CR in it", b"LOCUS x\ry\n" + END, 4),
+    case("ended by CR LF", b"LOCUS x\r\n//\r\n", 1),
+    case("no end", b"LOCUS x", 2),
+    case("six tokens, tabs, blanks at the end", b"LOCUS\ta 3 bp\tlinear SYN 1-JAN-2000 \t\n" + END, 1),
+    case("seven tokens", b"LOCUS a 4294967295 bp mRNA circular PLN 31-DEC-9999\n" + END, 1),
+    case("a length too large", b"LOCUS a 4294967296 bp linear SYN 1-JAN-2000\n" + END, 1),
+    case("a colon in the name", b"LOCUS a:b 3 bp linear SYN 1-JAN-2000\n" + END, 1),
+    case("a day of 32", b"LOCUS a 3 bp linear SYN 32-JAN-2000\n" + END, 1),
+    case("a month in small letters", b"LOCUS a 3 bp linear SYN 1-jan-2000\n" + END, 1),
+    case("a byte above 126", b"LOCUS \xc3\xa9 3 bp linear SYN 1-JAN-2000\n" + END, 1),
+    # Sections that end early.
+    case("nothing after LOCUS", A, 2),
+    case("a slash", A + b"/", 2),
+    case("two slashes", A + b"//", 1),
+    case("two slashes and a CR", A + b"//\r", 4),
+    case("empty lines after the slashes", A + b"//\n\r\n\n", 1),
+    case("in the header", A + b"DEFINITION  a\n", 2),
+    case("in a word", A + b"DEFI", 2),
+    case("in FEATURES", A + b"FEATURES ", 2),
+    case("in a kind", A + TABLE + b"     misc", 2),
+    case("in a qualifier", A + TABLE + FEATURE + QUALIFIER + b'/note="abc', 2),
+    case("in CONTIG", A + b"CONTIG      join(", 2),
+    case("in ORIGIN", A + b"ORIGIN", 2),
+    case("the letters end the input", A + b"ORIGIN\nacg\n", 1),
+    case("a line that fits nothing, slashes later", A + TABLE + FEATURE + b"nothing\n" + END, 7),
+    case("a line that fits nothing, no slashes later", A + TABLE + FEATURE + b"nothing\n", 2),
+    # The header.
+    case("all entries", A + b"DEFINITION  d\n            e\nACCESSION   A\nVERSION     A.1\nDBLINK      P: 1\nKEYWORDS    .\nSOURCE      s\n"
+         b"  ORGANISM  o\nREFERENCE   1\n  AUTHORS   a\n  CONSRTM   c\n  TITLE     t\n  JOURNAL   j\n   PUBMED   12\n"
+         b"            34\n  REMARK    r\nCOMMENT     one\nCOMMENT     two\n" + END, 1),
+    case("repeats overwrite, references and comments append", A + b"ACCESSION   A\nACCESSION   B\nSOURCE      s\n  ORGANISM  o\nSOURCE      t\nREFERENCE   1\n  TITLE     t\n"
+         b"COMMENT     c\nREFERENCE   2\n  TITLE     u\n" + END, 1),
+    case("a reference without TITLE is dropped", A + b"REFERENCE   1\n  JOURNAL   j\n" + END, 1),
+    case("two DEFINITIONs", A + TWO + END, 5),
+    case("two DEFINITIONs, the second at the end", A + TWO, 2),
+    case("two DEFINITIONs and a byte", A + b"DEFINITION  a\nDEFINITION  b\nx", 5),
+    case("two DEFINITIONs in a record without an end", A + b"DEFINITION  a\nDEFINITION  b\nnothing\n", 5),
+    case("a character split over lines in PUBMED", A + b"REFERENCE   1\n  TITLE     t\n   PUBMED   \xc3\n            \xa9\n" + END, 1),
+    case("a character split over lines in a COMMENT", A + b"COMMENT     \xc3\n            \xa9\n" + END, 7),
+    case("a line that fits nothing is dropped", A + b"XYZ  a\nDEFINITION  d\n" + END, 1),
+    case("a stray CR ends the header", A + b"DEFINITION  d\nXYZ \r a\n" + END, 7),
+    # The feature table.
+    case("a kind with no location", A + TABLE + b"     misc_feature\n" + END, 7),
+    case("a quote split over lines", A + TABLE + FEATURE + QUALIFIER + b'/note="a"\n' + QUALIFIER + b'"b"\n' + END, 1),
+    case("a note over lines", A + TABLE + FEATURE + QUALIFIER + b'/note="a\n' + QUALIFIER + b'b"\n' + END, 1),
+    case("a translation over lines", A + TABLE + FEATURE + QUALIFIER + b'/translation="MA\n' + QUALIFIER + b'B"\r\n' + END, 1),
+    case("a bare reading after a quoted one", A + TABLE + FEATURE + QUALIFIER + b'/note="abc"x\n' + END, 1),
+    case("no value, an empty value, an empty text", A + TABLE + FEATURE + QUALIFIER + b"/a\n" + QUALIFIER + b"/b=\n" + QUALIFIER + b'/c=""\n' + END, 1),
+    case("a location over lines", A + TABLE + b"     CDS             join(1..2,\n" + QUALIFIER + b"3..3)\n" + END, 1),
+    case("slashes inside a location", A + TABLE + b"     CDS             1..2//3\n" + END, 1),
+    case("a space in a location", A + TABLE + b"     CDS             1 ..2\n" + END, 7),
+    case("two features", A + TABLE + FEATURE + QUALIFIER + b"/x=1\n" + QUALIFIER + b"/y=2\n" + b"     CDS             2..3\n" + QUALIFIER + b"/z=3\n" + END, 1),
+    case("a value that is not UTF-8", A + TABLE + FEATURE + QUALIFIER + b'/note="\xff"\n' + END, 7),
+    case("BASE COUNT and CONTIG", A + TABLE + FEATURE + b"BASE COUNT  1 a\nCONTIG      join(A.1:1..2,\n            B.1:1..2)\n" + END, 1),
+    case("CONTIG with a space", A + b"CONTIG      a b\n" + END, 7),
+    # The letters.
+    case("three letters", A + b"ORIGIN      \n        1 acg\n" + END, 1),
+    case("two letters", A + b"ORIGIN      \n        1 ac\n" + END, 8),
+    case("four letters", A + b"ORIGIN      \n        1 acgt\n" + END, 8),
+    case("a tab", A + b"ORIGIN      \n        1 ac\tg\n" + END, 9),
+    case("ORIGIN with text", A + b"ORIGIN      a text\n            and more\n        1 acg\n" + END, 1),
+    case("the end of the input after three letters", A + b"ORIGIN\n  1 acg", 1),
+    case("the end of the input after two letters", A + b"ORIGIN\n  1 ac", 2),
+    case("no length in LOCUS, the end of the input", b"LOCUS x\nORIGIN\n  1 ac", 2),
+    case("no length in LOCUS, one slash", b"LOCUS x\nORIGIN\n  1 ac\n/x\n", 2),
+    case("another length and one slash", A + b"ORIGIN\n  1 ac\n/x\n", 8),
+]
+
+
+def read_on(title, data, last, at):
+    """The readings of a case."""
+    place, found = at or 0, []
+    while True:
+        reading = lines.rust_reading(lines.ask([cases.Reading(data, place)])[0])
+        reading.title, reading.lent = title, ROOMS
+        found.append(reading)
+        if at is not None or reading.permitted != [0]:
+            break
+        place = reading.told[0]
+    if last not in reading.permitted:
+        sys.exit("store: %s: the Rust does not allow %d" % (title, last))
+    reading.permitted = [last]
+    return found
+
+
+def readings():
+    found = [r for c in CASES for r in read_on(*c)]
+    for reading in lines.short_rooms(found[:1]):
+        reading.title = "P318 into rooms of the exact size, into none, and with each room that it needs one short"
+        found.append(reading)
+    return found
