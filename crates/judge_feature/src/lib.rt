@@ -2,6 +2,7 @@
 use base_arith::both;
 use base_keys::comma_key;
 use judge_header::Rule;
+use judge_text::comma_fine;
 use judge_text::key_fine;
 use judge_text::kind_fine;
 use judge_text::kind_kept;
@@ -24,7 +25,7 @@ fn value_fine(key: &[u8], value: &[u8]) -> bool
     ensures { λ r. ⌜ r ≡ valueFine (now (key .entry)) (now (value .entry)) ⌝ }
 {
     if comma_key(key) {
-        return location_fine(value);
+        return comma_fine(value);
     }
     utf8_ok(value, 0, value.len())
 }

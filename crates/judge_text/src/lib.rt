@@ -12,7 +12,7 @@ ghost use Prim.Native.Nat.{_+_, _≤_, _<_};
 ghost use lib.ListN.{length, drop};
 ghost use Rattle.spec_format.specs.Bytes.{all, some, visible, printing, letter, but, space, starts};
 ghost use Rattle.spec_format.specs.Features.{locationText, kindText};
-ghost use Rattle.spec_format.specs.WellFormed.{kindFine, keyFine};
+ghost use Rattle.spec_format.specs.WellFormed.{commaText, kindFine, keyFine};
 ghost use Rattle.spec_format.specs.Keeping.{spaceless, linesKept, headerKept, noLineEnd, noQuoteFirst, kindKept, noSlash, translationKept, bareKept, valueKept};
 ghost use Rattle.judge_text.specs.Words.{sameByte, Passed, Small, columnAfter};
 ghost use Rattle.spec_format.specs.Record.{most};
@@ -169,13 +169,28 @@ fn begins(s: &[u8], c: u8) -> bool
     s[0] == c
 }
 
-pub fn location_fine(s: &[u8]) -> bool
-    ensures { λ r. ⌜ r ≡ locationText (now (s .entry)) ⌝ }
+// One byte or more, and all of them 33 to 126.
+fn visible_some(s: &[u8]) -> bool
+    ensures { λ r. ⌜ r ≡ (some (now (s .entry)) && all visible (now (s .entry))) ⌝ }
 {
     if s.len() == 0 {
         return false;
     }
     visible_all(s)
+}
+
+// A location, or CONTIG.
+pub fn location_fine(s: &[u8]) -> bool
+    ensures { λ r. ⌜ r ≡ locationText (now (s .entry)) ⌝ }
+{
+    visible_some(s)
+}
+
+// A value that is broken at commas.
+pub fn comma_fine(s: &[u8]) -> bool
+    ensures { λ r. ⌜ r ≡ commaText (now (s .entry)) ⌝ }
+{
+    visible_some(s)
 }
 
 fn kind_text(s: &[u8]) -> bool

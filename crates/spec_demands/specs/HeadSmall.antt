@@ -70,7 +70,8 @@ dated-fine : (W : ℕ) (truncate escape : Bool) (r : Rooms) (h : Head) → wellF
 unfolding wellFormed locusFine tableOf
 dated-fine W truncate escape r h e = search (and-left, and-right)
 
-pub head-small : (W : ℕ) (truncate escape : Bool) (r : Rooms) (h : Head) → roomsFine r h ≡ true → wellFormed W truncate escape (tableOf r h) ≡ true → LengthFits (h .length) → Small (headOf (tableOf r h))
+pub head-small : (W : ℕ) (truncate escape : Bool) (r : Rooms) (h : Head) → roomsFine r h ≡ true → wellFormed W truncate escape (tableOf r h) ≡ true → LengthFits (h .length) →
+    Small (headOf (tableOf r h))
 unfolding headOf tableOf
 head-small W truncate escape r h f g l =
     let m = texts-short r h f in

@@ -160,7 +160,11 @@ module _ (how : How) (r : Rooms) (h : Head) where
     long : length (replicate {A = ℕ} k 0) ≡ k
     long = length-replicate {A = ℕ} k 0
 
-    some-call : WriteAnswered how r h (replicate k 0) (sliceAfter (answerDue how r h (length (replicate {A = ℕ} k 0))) (textDue how (tableOf r h)) (replicate k 0)) (answerDue how r h (length (replicate {A = ℕ} k 0)))
+    due-then : WriteAnswer
+    due-then = answerDue how r h (length (replicate {A = ℕ} k 0))
+
+    some-call : WriteAnswered how r h (replicate k 0) (sliceAfter due-then (textDue how (tableOf r h)) (replicate k 0)) due-then
+    unfolding due-then
     some-call = record { is = refl; slice = refl; fits = call .fits }
 
     pub room-told : Due (answerDue how r h) (length (textDue how (tableOf r h))) → a ≡ write.Room k → MoreBytes how r h (length old) k
@@ -176,11 +180,12 @@ module _ (how : How) (r : Rooms) (h : Head) where
             rw v (more-bytes (length (textDue how (tableOf r h))) e (length old) (leb-false _ (length old) f))
 
     pub bytes-told : Due (answerDue how r h) (length (textDue how (tableOf r h))) → MoreBytes how r h (length old) k → a ≡ write.Room k
+    unfolding due-then
     bytes-told (never why e) m =
-        let z : writeNumber (answerDue how r h (length (replicate {A = ℕ} k 0))) ≡ 0 = m .exact _ _ _ some-call .1 (omega (arith, long)) in
+        let z : writeNumber due-then ≡ 0 = m .exact _ _ _ some-call .1 (omega (arith, long)) in
         absurd (unwritten-not-zero why (sym (ap writeNumber (e (length (replicate {A = ℕ} k 0)))) ∙ z))
     bytes-told (byRoom e) m =
-        let z : writeNumber (answerDue how r h (length (replicate {A = ℕ} k 0))) ≡ 0 = m .exact _ _ _ some-call .1 (omega (arith, long)) in
+        let z : writeNumber due-then ≡ 0 = m .exact _ _ _ some-call .1 (omega (arith, long)) in
         let v : length (textDue how (tableOf r h)) ≡ k =
         sym (room-counted (length (replicate {A = ℕ} k 0)) _) ∙ (sym (ap writeValue (e (length (replicate {A = ℕ} k 0)))) ∙ m .counted _ _ _ some-call z) in
         call .is ∙ (e (length old) ∙ rw v (room-short (length old) k (m .short)))

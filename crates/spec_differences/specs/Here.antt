@@ -77,11 +77,11 @@ location-read s = location-values (readAt (bytes "LOCUS x\nFEATURES  Location/Qu
 
 -- ---- writing
 
--- a record with that name, 123 bases and one qualifier
-table : List ℕ → List ℕ → List ℕ → Table
-table name key text =
+-- a record with that name, length, feature and letters
+table-of : List ℕ → ℕ → List ℕ → List ℕ → List ℕ → List ℕ → List ℕ → Table
+table-of name count kind location key text letters =
     record {
-      locus = record { name = is name; length = is 123; molecule = absent; circular = false; division = bytes "SYN"; date = dated.On (record { day = 1; month = 3; year = 2024 }) };
+      locus = record { name = is name; length = is count; molecule = absent; circular = false; division = bytes "SYN"; date = dated.On (record { day = 1; month = 3; year = 2024 }) };
       definition = absent;
       accession = absent;
       version = absent;
@@ -90,14 +90,27 @@ table name key text =
       source = absent;
       references = [];
       comments = [];
-      features = record { kind = bytes "gene"; location = bytes "1"; qualifiers = record { key = key; value = is text } ∷ [] } ∷ [];
+      features = record { kind = kind; location = location; qualifiers = record { key = key; value = is text } ∷ [] } ∷ [];
       contig = absent;
-      letters = [];
+      letters = letters;
     }
+
+-- of 123 bases, with one qualifier
+table : List ℕ → List ℕ → List ℕ → Table
+table name key text = table-of name 123 (bytes "gene") (bytes "1") key text []
+
+with-kind : List ℕ → List ℕ → Table
+with-kind kind location = table-of (bytes "x") 123 kind location (bytes "note") (bytes "a") []
+
+with-letters : ℕ → List ℕ → Table
+with-letters count letters = table-of (bytes "x") count (bytes "gene") (bytes "1") (bytes "note") (bytes "a") letters
 
 -- 11 where the table cannot be laid out at width 80, else the LOCUS line
 line-or-11 : Bool → Table → List ℕ
 line-or-11 truncate t = pick (wellFormed 80 truncate false t) (locusText truncate false t) (11 ∷ [])
+
+eleven : Table → Answer
+eleven t = record { got = line-or-11 false t; should = 11 ∷ [] }
 
 lines-of : ℕ → List ℕ → List ℕ → List ℕ
 lines-of W key text = qualifierLines W (record { key = key; value = is text })
@@ -110,28 +123,55 @@ pub answers : List Answer
 answers =
     -- 1
     record { got = answer (bytes "LOCUS x\n//\nLOCUS y\n//\n"); should = 0 ∷ 11 ∷ [] } ∷
+    record { got = answer (bytes "LOCUS x\n//\nVERSION y\nORIGIN\na//\n"); should = 0 ∷ 11 ∷ [] } ∷
     -- 2
     record { got = locus-read (bytes "LOCUS x 0 bp DNA linear"); should = unk } ∷
+    record { got = locus-read (bytes "LOCUS x 0 bp DNA linear SYN"); should = unk } ∷
+    record { got = locus-read (bytes "LOCUS x 0 bp DNA linear 01-JAN-2024"); should = unk } ∷
     record { got = locus-read (bytes "LOCUS x 0 bp DNA SYN"); should = unk } ∷
+    record { got = locus-read (bytes "LOCUS x 0 bp DNA SYN 01-JAN-2024"); should = unk } ∷
+    record { got = locus-read (bytes "LOCUS x 0 bp DNA"); should = unk } ∷
     record { got = locus-read (bytes "LOCUS x 0 bp linear SYN 01-JAN-2024"); should = bytes "x 0 - linear SYN 01-JAN-2024" } ∷
     record { got = locus-read (bytes "LOCUS x 0 bp DNA\tlinear SYN 01-JAN-2024"); should = bytes "x 0 DNA linear SYN 01-JAN-2024" } ∷
+    record { got = locus-read (bytes "LOCUS x 0 bp DNA" ++ 11 ∷ [] ++ bytes "linear SYN 01-JAN-2024"); should = unk } ∷
     record { got = locus-read (bytes "LOCUS x 0 bp D\nA linear SYN 01-JAN-2024"); should = unk } ∷
     record { got = locus-read (bytes "LOCUS " ++ 195 ∷ 169 ∷ [] ++ bytes " 0 bp DNA linear SYN 01-JAN-2024"); should = unk } ∷
+    record { got = locus-read (bytes "LOCUS " ++ 127 ∷ [] ++ bytes " 0 bp DNA linear SYN 01-JAN-2024"); should = unk } ∷
+    record { got = locus-read (bytes "LOCUS x 0 bp " ++ 195 ∷ 169 ∷ [] ++ bytes " linear SYN 01-JAN-2024"); should = unk } ∷
+    record { got = locus-read (bytes "LOCUS x 0 bp DNA RNA linear SYN 01-JAN-2024"); should = unk } ∷
     record { got = locus-read (bytes "LOCUS x 00000000000 bp DNA linear SYN 01-JAN-2024"); should = unk } ∷
-    record { got = locus-read (bytes "LOCUS x 0 bp DNA linear SYN 01-JAN-24"); should = unk } ∷
-    record { got = locus-read (bytes "LOCUS x 0 bp DNA SYN DNA"); should = unk } ∷
+    record { got = locus-read (bytes "LOCUS x 4294967296 bp DNA linear SYN 01-JAN-2024"); should = unk } ∷
+    record { got = locus-read (bytes "LOCUS x 0 bp DNA tandem SYN 01-JAN-2024"); should = unk } ∷
     record { got = locus-read (bytes "LOCUS x 0 bp DNA linear S1 01-JAN-2024"); should = bytes "x 0 DNA linear S1 01-JAN-2024" } ∷
+    record { got = locus-read (bytes "LOCUS x 0 bp DNA linear S.N 01-JAN-2024"); should = bytes "x 0 DNA linear S.N 01-JAN-2024" } ∷
+    record { got = locus-read (bytes "LOCUS x 0 bp DNA linear SYN 01-JAN-24"); should = unk } ∷
+    record { got = locus-read (bytes "LOCUS x 0 bp DNA linear SYN 01-JAN-12024"); should = unk } ∷
+    record { got = locus-read (bytes "LOCUS x 0 bp DNA linear SYN 01-JAN-+024"); should = unk } ∷
+    record { got = locus-read (bytes "LOCUS x 0 bp DNA linear SYN 001-JAN-2024"); should = unk } ∷
     record { got = locus-read (bytes "LOCUS x 0 bp DNA linear SYN 32-JAN-2024"); should = unk } ∷
+    record { got = locus-read (bytes "LOCUS x 0 bp DNA linear SYN 00-JAN-2024"); should = unk } ∷
+    record { got = locus-read (bytes "LOCUS x 0 bp DNA linear SYN 01-Jan-2024"); should = unk } ∷
+    record { got = locus-read (bytes "LOCUS x 0 bp DNA linear SYN 01/JAN/2024"); should = unk } ∷
+    record { got = locus-read (bytes "LOCUS x 0 bp DNA linear SYN 01-JAN"); should = unk } ∷
+    record { got = locus-read (bytes "LOCUS x 0 bp DNA linear SYN 01-JAN-2024 x"); should = unk } ∷
+    record { got = locus-read (bytes "LOCUS x 0 bp DNA SYN DNA"); should = unk } ∷
     record { got = answer (bytes "LOCUS x"); should = 2 ∷ 0 ∷ [] } ∷
     record { got = answer (bytes "LOC"); should = 4 ∷ 0 ∷ [] } ∷
     -- 3
     record { got = location-read (bytes " a 01..2\n//\n"); should = bytes "01..2" } ∷
     record { got = location-read (bytes " a 1..x\n//\n"); should = bytes "1..x" } ∷
+    record { got = location-read (bytes " a 1..<2\n//\n"); should = bytes "1..<2" } ∷
+    record { got = location-read (bytes " a 1.2\n//\n"); should = bytes "1.2" } ∷
+    record { got = location-read (bytes " a 1,2\n//\n"); should = bytes "1,2" } ∷
     record { got = location-read (bytes " a 1 2\n//\n"); should = 7 ∷ [] } ∷
+    record { got = location-read (bytes " a 1..2 \n//\n"); should = 7 ∷ [] } ∷
+    record { got = location-read (bytes " a join(1, 2)\n//\n"); should = 7 ∷ [] } ∷
+    record { got = location-read (bytes " a " ++ 195 ∷ 169 ∷ [] ++ bytes "\n//\n"); should = 7 ∷ [] } ∷
     record { got = location-read (bytes " a :\n//\n"); should = bytes ":" } ∷
     record { got = location-read (bytes " a\n 1\n//\n"); should = 7 ∷ [] } ∷
     record { got = location-read (bytes " /a 1\n//\n"); should = 7 ∷ [] } ∷
     record { got = location-read (bytes " " ++ 195 ∷ 169 ∷ [] ++ bytes " 1\n//\n"); should = 7 ∷ [] } ∷
+    record { got = location-read (bytes " a" ++ 127 ∷ [] ++ bytes " 1\n//\n"); should = 7 ∷ [] } ∷
     record { got = answer (bytes "LOCUS x\nCONTIG 1 2\n//\n"); should = 7 ∷ 0 ∷ [] } ∷
     -- 4
     record { got = lines-of 79 (bytes "note") (replicate 50 97 ++ bytes "\" b"); should = spaces 21 ++ bytes "/note=\"" ++ replicate 50 97 ++ bytes "\n" ++ spaces 21 ++ bytes "\"\" b\"\n" } ∷
@@ -140,8 +180,24 @@ answers =
     record { got = location-read (bytes " a -9223372036854775808\n//\n"); should = bytes "-9223372036854775808" } ∷
     record { got = location-read (bytes " a 1\n   " ++ 255 ∷ []); should = 2 ∷ [] } ∷
     record { got = line-or-11 true (table (replicate 23 97 ++ 195 ∷ 169 ∷ [] ++ bytes "a") (bytes "note") (bytes "a")); should = 11 ∷ [] } ∷
-    record { got = line-or-11 false (table (bytes "x") (replicate 60 97) (bytes "a")); should = 11 ∷ [] } ∷
-    record { got = line-or-11 false (table [] (bytes "note") (bytes "a")); should = 11 ∷ [] } ∷
+    eleven (table (bytes "x") (replicate 56 97) (bytes "a")) ∷
+    eleven (with-kind (replicate 74 97) (bytes "1")) ∷
+    eleven (with-letters 5 (bytes "acgt")) ∷
+    eleven (table [] (bytes "note") (bytes "a")) ∷
+    eleven (table (195 ∷ 169 ∷ []) (bytes "note") (bytes "a")) ∷
+    eleven (table (bytes "a\tb") (bytes "note") (bytes "a")) ∷
+    eleven (with-kind [] (bytes "1")) ∷
+    eleven (with-kind (bytes "a b") (bytes "1")) ∷
+    eleven (with-kind (bytes "/a") (bytes "1")) ∷
+    eleven (with-kind (195 ∷ 169 ∷ []) (bytes "1")) ∷
+    eleven (table (bytes "x") [] (bytes "a")) ∷
+    eleven (table (bytes "x") (bytes "a=b") (bytes "a")) ∷
+    eleven (table (bytes "x") (bytes "a b") (bytes "a")) ∷
+    eleven (with-kind (bytes "gene") []) ∷
+    eleven (with-kind (bytes "gene") (bytes "1 2")) ∷
+    eleven (table (bytes "x") (bytes "anticodon") []) ∷
+    eleven (table (bytes "x") (bytes "anticodon") (bytes "a b")) ∷
+    eleven (with-letters 4 (bytes "acg1")) ∷
     record { got = take 43 (line-or-11 true (table (replicate 27 97 ++ 255 ∷ []) (bytes "note") (bytes "a"))); should = bytes "LOCUS       " ++ replicate 24 97 ++ bytes " 123 bp" } ∷
     -- 6
     record { got = drop 55 (line-or-11 false (table (bytes "x") (bytes "note") (bytes "a"))); should = bytes "linear   SYN 01-MAR-2024\n" } ∷
@@ -168,5 +224,5 @@ the-writer = true
 
 -- THE PAGE'S ANSWERS ARE THOSE OF THE DEFINITIONS
 pub answers-hold : map (λ a. a .got) answers ≡ map (λ a. a .should) answers
-unfolding the-reader the-rules the-writer told answer may-text may-number may-date locus-values locus-read unk first-location location-values location-read table line-or-11 lines-of bare-line answers number
+unfolding the-reader the-rules the-writer told answer may-text may-number may-date locus-values locus-read unk first-location location-values location-read table-of table with-kind with-letters line-or-11 eleven lines-of bare-line answers number
 answers-hold = refl

@@ -4,11 +4,11 @@ use mathlib.Core.Bool.{Bool, true, false}
 use mathlib.Core.Path.{_≡_, refl}
 use mathlib.Core.List.{List, [], _∷_, _++_, map}
 use lib.ListN.{length, take, drop, replicate}
-use Rattle.spec_format.specs.Bytes.{May, absent, is, bytes, spaces, number, digits}
+use Rattle.spec_format.specs.Bytes.{absent, is, bytes, spaces, number, digits}
 use Rattle.spec_format.specs.Utf8.{utf8, chars}
 use Rattle.spec_format.specs.Readers.{Ans, Got, No, Cut, tag, until, line, lineEnd, members, membersUpTo, end, endUpTo}
 use Rattle.spec_format.specs.Dates.{monthName, dateText}
-use Rattle.spec_format.specs.Table.{Locus, Qualifier, Feature, Table}
+use Rattle.spec_format.specs.Table.{Qualifier, Table}
 use Rattle.spec_format.specs.Locus.{tokens}
 use Rattle.spec_format.specs.Features.{bare, escape, quotedTurn, quoted, value, valueOf, qualifier}
 use Rattle.spec_format.specs.Wrap.{fill, closing, linesAfter, wrapped, wrapText, lastComma, breakAt, commaLines, wrapLocation}

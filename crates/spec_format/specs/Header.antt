@@ -4,7 +4,7 @@ use mathlib.Core.Bool.{Bool, true, false}
 use mathlib.Core.List.{List, [], _∷_, _++_}
 use lib.ListN.{length}
 use Rattle.spec_format.specs.Bytes.{pick, May, absent, is, bytes, spaces, same, each}
-use Rattle.spec_format.specs.Readers.{Ans, Got, No, Cut, bind, mapped, orElse, optional, unless, tag, spaces1, line, utf8Of, many0}
+use Rattle.spec_format.specs.Readers.{Ans, Got, bind, mapped, orElse, optional, unless, tag, spaces1, line, utf8Of, many0}
 use Rattle.spec_format.specs.Table.{Source, Reference}
 
 -- a further line of a text, LF before it where line breaks are kept

@@ -1,12 +1,11 @@
 -- Reading, the beginning: the lines before LOCUS (`skip_preamble` of misc.rs) and the LOCUS line (locus.rs, with document 01's own tokens).
 use Prim.Native.Nat.{ℕ, zero, suc, _-_}
-use mathlib.Core.Bool.{Bool, true, false, _&&_, _||_}
+use mathlib.Core.Bool.{true, false, _&&_, _||_}
 use mathlib.Core.List.{List, [], _∷_}
 use lib.ListN.{length, take, drop, getD}
 use lib.Dec.{eqb, leb}
 use Rattle.spec_format.specs.Bytes.{pick, May, absent, is, bytes, some, starts, all, same, visible, digit, blank, notBlank, but, number}
-use Rattle.spec_format.specs.Utf8.{utf8}
-use Rattle.spec_format.specs.Readers.{Ans, Got, No, Cut, bind, mapped, tag, until, until1, line, utf8Of, Turn, more, stop, end}
+use Rattle.spec_format.specs.Readers.{Ans, Got, No, Cut, bind, mapped, tag, until1, line, utf8Of, Turn, more, stop, end}
 use Rattle.spec_format.specs.Dates.{made, isDate, months}
 use Rattle.spec_format.specs.Table.{Locus}
 use Rattle.spec_format.specs.declared.Dated.{Dated}

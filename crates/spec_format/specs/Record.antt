@@ -1,9 +1,9 @@
 -- Reading one record: `read_one_record` of stream_parser.rs, with document 01's numbers.
-use Prim.Native.Nat.{ℕ, _-_}
+use Prim.Native.Nat.{ℕ}
 use mathlib.Core.Bool.{Bool, true, false, _&&_, _||_}
 use mathlib.Core.List.{List, [], _∷_}
 use lib.ListN.{length, drop}
-use lib.Dec.{eqb, ltb, leb}
+use lib.Dec.{eqb, leb}
 use Rattle.spec_format.specs.Bytes.{pick, May, absent, is, bytes}
 use Rattle.spec_format.specs.Readers.{Ans, Got, No, Cut, bind, passing, optional, tag, lineEnd, whileFits}
 use Rattle.spec_format.specs.Table.{Locus, Feature, Table}

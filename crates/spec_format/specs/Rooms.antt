@@ -6,7 +6,7 @@ use mathlib.Core.List.{List, [], _∷_, _++_}
 use lib.ListN.{length, take, drop, getD}
 use lib.Dec.{eqb, leb}
 use Rattle.spec_format.specs.Bytes.{pick, May, absent, is, each}
-use Rattle.spec_format.specs.Table.{Locus, Source, Reference, Qualifier, Feature, Table}
+use Rattle.spec_format.specs.Table.{Source, Reference, Qualifier, Feature, Table}
 use Rattle.spec_format.specs.Record.{Outcome, Read, Not, most, readAt}
 use Rattle.spec_format.specs.declared.Span.{Span}
 use Rattle.spec_format.specs.declared.Text.{Text}

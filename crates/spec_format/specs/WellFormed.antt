@@ -57,13 +57,18 @@ kindFine W k = leb (length k) (W - 7) && kindText k
 abbrev pub keyFine : ℕ → List ℕ → Bool
 keyFine W k = leb (length k) (W - 25) && (some k && (all visible k && all (but 61) k))
 
--- "location, CONTIG or comma-broken value empty or with other bytes"; "text not UTF-8"
+-- "comma-broken value empty or with other bytes"
+abbrev pub commaText : List ℕ → Bool
+commaText v = some v && all visible v
+
+-- ".. text not UTF-8"
 abbrev pub valueFine : List ℕ → List ℕ → Bool
-valueFine k v = pick (commaKey k) (locationText v) (utf8 v)
+valueFine k v = pick (commaKey k) (commaText v) (utf8 v)
 
 unfoldable pub qualifierFine : ℕ → Qualifier → Bool
 qualifierFine W q = keyFine W (q .key) && ifIs (valueFine (q .key)) (q .value)
 
+-- "location, CONTIG .. empty or with other bytes"
 unfoldable pub featureFine : ℕ → Feature → Bool
 featureFine W f = kindFine W (f .kind) && (locationText (f .location) && all (qualifierFine W) (f .qualifiers))
 

@@ -4,7 +4,7 @@ use mathlib.Core.Bool.{Bool, true, false, _&&_, _||_}
 use mathlib.Core.List.{List, [], _∷_, _++_}
 use lib.ListN.{length, take, drop}
 use lib.Dec.{eqb, ltb, leb}
-use Rattle.spec_format.specs.Bytes.{pick, spaces}
+use Rattle.spec_format.specs.Bytes.{spaces}
 
 -- a line and the text after it; Over: the line is full, and no space stands in it where it could be broken
 pub data Line : Type 0 where

@@ -6,7 +6,7 @@ use lib.ListN.{length, take, getD}
 use lib.Dec.{eqb, ltb}
 use Rattle.spec_format.specs.Bytes.{pick, May, absent, is, bytes, spaces, among, each, between, decimal}
 use Rattle.spec_format.specs.Dates.{dateText, printedDate}
-use Rattle.spec_format.specs.Table.{Locus, Source, Reference, Qualifier, Feature, Table}
+use Rattle.spec_format.specs.Table.{Source, Reference, Qualifier, Feature, Table}
 use Rattle.spec_format.specs.Locus.{tokens}
 use Rattle.spec_format.specs.Wrap.{wrapText, wrapLocation}
 

@@ -10,11 +10,11 @@ use borrow.Author.Tests.{ltb-true, lt-ltb, leb-true, not-true}
 use Rattle.spec_format.specs.Bytes.{pick, May, absent, is, bytes, spaces, some, starts, all, same, visible, but, quote}
 use Rattle.spec_format.specs.Utf8.{chars, utf8}
 use Rattle.spec_format.specs.Readers.{Got, No, tag, until, lineEnd}
-use Rattle.spec_format.specs.Features.{bare, quoted, value, keyEnd, valueOf, qualifier, locationText}
+use Rattle.spec_format.specs.Features.{bare, quoted, value, keyEnd, valueOf, qualifier}
 use Rattle.spec_format.specs.Table.{Qualifier}
 use Rattle.spec_format.specs.Wrap.{commaLines, wrapLocation, wrapped, wrapText}
 use Rattle.spec_format.specs.Write.{commaKey, bareKey, keyText, valueLines, qualifierText, qualifierLines}
-use Rattle.spec_format.specs.WellFormed.{ifIs, keyFine, valueFine, qualifierFine}
+use Rattle.spec_format.specs.WellFormed.{commaText, ifIs, keyFine, valueFine, qualifierFine}
 use Rattle.spec_format.specs.Keeping.{linesKept, noSlash, noQuoteFirst, translationKept, bareKept, valueKept, qualifierKept}
 use Rattle.spec_texts_back.specs.Tests.{and-left, and-right, and-both, all-head, all-tail, all-and}
 use Rattle.spec_texts_back.specs.Pieces.{until-back, noEnd, visible-noEnd}
@@ -95,7 +95,7 @@ line-kept W indent used (b ∷ v) f c l =
     (line-kept W indent (suc used) v (all-tail (but 10) b v f) (all-tail (but 13) b v c) (omega arith))
 
 module _ (W : ℕ) (k v rest : List ℕ) (room : 25 + length k ≤ W) (fine : ends 21 rest ≡ true) where
-  comma-value : commaKey k ≡ true → locationText v ≡ true → (noSlash v && noQuoteFirst v) ≡ true → value 21 k (valueText W k v ++ rest) ≡ Got v rest
+  comma-value : commaKey k ≡ true → commaText v ≡ true → (noSlash v && noQuoteFirst v) ≡ true → value 21 k (valueText W k v ++ rest) ≡ Got v rest
   unfolding valueText
   comma-value p f h =
       let s : some v ≡ true = and-left (some v) (all visible v) f in

@@ -9,11 +9,11 @@ use Rattle.judge_feature.proofs.value_fine.Tie as tie
 comma-key-requires : tie.Need-comma-key-requires
 comma-key-requires c κs = search needs
 
-location-fine-requires : tie.Need-location-fine-requires
-location-fine-requires c κs = search needs
+comma-fine-requires : tie.Need-comma-fine-requires
+comma-fine-requires c κs = search needs
 
 returns : tie.Need-returns
-returns c = rw (← (c .before .before .comma-key .ensures), c .before .if1 .taken) (c .location-fine .ensures)
+returns c = rw (← (c .before .before .comma-key .ensures), c .before .if1 .taken) (c .comma-fine .ensures)
 
 utf8-ok-requires : tie.Need-utf8-ok-requires
 utf8-ok-requires c κs = search needs
@@ -24,4 +24,4 @@ returns-2 c = rw (← (c .before .before .comma-key .ensures), c .before .if1 .l
 pub value-fine-spec : {M : Type 1} → statement M
 value-fine-spec =
     tie.close
-    (tie.spec comma-key-requires location-fine-requires returns utf8-ok-requires returns-2)
+    (tie.spec comma-key-requires comma-fine-requires returns utf8-ok-requires returns-2)
