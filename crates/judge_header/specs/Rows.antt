@@ -1,11 +1,10 @@
 -- Rows tested one after the other, and texts that may be absent.
-use Prim.Native.Nat.{ℕ, zero, suc, _+_, _-_, _*_, _≤_, _<_}
-use mathlib.Core.Path.{_≡_, refl, sym, ap, _∙_}
-use mathlib.Core.Bool.{Bool, true, false, _&&_, not}
-use mathlib.Core.List.{List, [], _∷_}
+use Prim.Native.Nat.{ℕ, zero, suc, _+_, _-_, _*_}
+use mathlib.Core.Path.{_≡_, refl}
+use mathlib.Core.Bool.{Bool, true, false}
+use mathlib.Core.List.{List}
 use native.Mathlib.Omega.{arith}
-use lib.ListN.{length, getD}
-use Rattle.spec_format.specs.Bytes.{May, absent, is, all}
+use Rattle.spec_format.specs.Bytes.{all}
 use Rattle.spec_format.specs.Rooms.{rowsFrom, rowsFine, cut, perhapsText}
 use Rattle.spec_format.specs.WellFormed.{ifIs}
 

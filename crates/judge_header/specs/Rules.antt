@@ -2,7 +2,7 @@
 use Prim.Native.Nat.{ℕ, _+_, _*_, _≤_, _<_}
 use mathlib.Core.Bool.{Bool, _&&_}
 use mathlib.Core.List.{List}
-use lib.ListN.{length, getD}
+use lib.ListN.{length}
 use Rattle.spec_format.specs.Rooms.{Rooms}
 use Rattle.spec_format.specs.Table.{Reference}
 use Rattle.spec_format.specs.Utf8.{utf8}

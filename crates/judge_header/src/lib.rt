@@ -10,13 +10,13 @@ ghost use mathlib.Core.Path.{_≡_};
 ghost use mathlib.Core.Bool.{_&&_};
 ghost use mathlib.Core.List.{[]};
 ghost use Prim.Native.Nat.{_+_, _-_, _*_, _≤_, _<_};
-ghost use lib.ListN.{length, getD};
+ghost use lib.ListN.{length};
 ghost use Rattle.spec_format.specs.Bytes.{all, but};
 ghost use Rattle.spec_format.specs.Rooms.{cut, mayText, maySource, textIn, perhapsIn, rowsFrom, referenceIn, commentIn, tableOf, roomsIn};
 ghost use Rattle.spec_format.specs.WellFormed.{ifIs, sourceTexts, referenceTexts, headerTexts};
 ghost use Rattle.spec_format.specs.Keeping.{pubmedKept};
 ghost use Rattle.judge_rooms.specs.Parts.{referenceRooms, commentRooms};
-ghost use Rattle.judge_rooms.specs.Facts.{SpanIn, TextIn, SourceIn, RowText, RowPerhaps, ReferenceIn};
+ghost use Rattle.judge_rooms.specs.Facts.{TextIn, SourceIn, ReferenceIn};
 ghost use Rattle.judge_header.specs.Rules.{headerOf, referenceEnd, Known, RowKnown, PerhapsKnown, ReferencesKnown, CommentsKnown, HeaderKnown};
 ghost use Rattle.spec_format.specs.Record.{most};
 

@@ -7,13 +7,13 @@ use scan_bytes::is_between;
 use scan_bytes::is_letter;
 use scan_bytes::is_visible;
 ghost use mathlib.Core.Path.{_≡_};
-ghost use mathlib.Core.Bool.{_&&_, not};
+ghost use mathlib.Core.Bool.{_&&_};
 ghost use Prim.Native.Nat.{_+_, _≤_, _<_};
 ghost use lib.ListN.{length, drop};
-ghost use Rattle.spec_format.specs.Bytes.{all, some, visible, printing, letter, but, space, starts};
+ghost use Rattle.spec_format.specs.Bytes.{all, some, visible, printing, letter, but, starts};
 ghost use Rattle.spec_format.specs.Features.{locationText, kindText};
 ghost use Rattle.spec_format.specs.WellFormed.{commaText, kindFine, keyFine};
-ghost use Rattle.spec_format.specs.Keeping.{spaceless, linesKept, headerKept, noLineEnd, noQuoteFirst, kindKept, noSlash, translationKept, bareKept, valueKept};
+ghost use Rattle.spec_format.specs.Keeping.{spaceless, linesKept, headerKept, kindKept, translationKept, bareKept, valueKept};
 ghost use Rattle.judge_text.specs.Words.{sameByte, Passed, Small, columnAfter};
 ghost use Rattle.spec_format.specs.Record.{most};
 

@@ -1,6 +1,6 @@
 -- A whole bare text: its first line and the further ones, its tests, and its way into a room. Assumes nothing.
-use Prim.Native.Nat.{ℕ, suc, _+_, _-_, _≤_, _<_}
-use mathlib.Core.Path.{_≡_, refl, sym, ap, subst, _∙_}
+use Prim.Native.Nat.{ℕ, _+_, _-_, _≤_}
+use mathlib.Core.Path.{_≡_, refl, sym, subst, _∙_}
 use mathlib.Core.Bool.{Bool, true, false, _&&_}
 use mathlib.Core.List.{List, [], _∷_, _++_}
 use native.Mathlib.Omega.{arith}
@@ -9,7 +9,7 @@ use lib.Dec.{eqb, leb}
 use borrow.Author.Tests.{lt-ltb, leb-true}
 use Rattle.spec_format.specs.Bytes.{all, visible, concat}
 use Rattle.spec_format.specs.Utf8.{utf8}
-use Rattle.spec_format.specs.Readers.{Ans, Got, No, Cut, bind, mapped, passing, utf8Of, line, loop, end, members}
+use Rattle.spec_format.specs.Readers.{Ans, Got, No, Cut, bind, mapped, passing, utf8Of, line, loop, end}
 use Rattle.spec_format.specs.Features.{bareMore, bare, locationText}
 use Rattle.spec_loops.specs.Shrinks.{bareMore-small, bare-takes, leaves-length}
 use Rattle.scan_bytes.specs.Places.{part}
@@ -20,7 +20,6 @@ use Rattle.scan_bytes.specs.declared.Line.{Line}
 use Rattle.scan_bytes.specs.declared.Line.the-variants as line′
 use Rattle.read_feature_joined.specs.Taken.{taken, gathered, taken-more, taken-stop, taken-no, taken-cut, left-piece, left-none}
 use Rattle.read_feature_joined.specs.Views.{Valued, passing-got, passing-no}
-use Rattle.read_feature_joined.specs.declared.Value.{Value}
 use Rattle.read_feature_joined.specs.declared.Value.the-variants as value
 use Rattle.base_pen.specs.Pen.{Writes, Left, left-start, writes-append, writes-nil}
 use Rattle.scan_utf8.specs.declared.State.{State}
@@ -30,7 +29,7 @@ use Rattle.read_feature_bare.specs.declared.Further.{Further}
 use Rattle.read_feature_bare.specs.declared.Further.the-variants as further
 use Rattle.read_feature_bare.specs.declared.Bare.{Bare}
 use Rattle.read_feature_bare.specs.declared.Bare.the-variants as bare′
-use Rattle.read_feature_bare.specs.Bared.{bareText, Furthered, bareOf, BareSpan, PastBare, Bared}
+use Rattle.read_feature_bare.specs.Bared.{bareText, Furthered, BareSpan, PastBare, Bared}
 use Rattle.read_feature_bare.proofs.Lines.{further-places, further-is, and-all}
 
 -- ---- visible bytes are ASCII

@@ -1,6 +1,6 @@
 -- One further line of a bare text, and the loops over them. Assumes nothing.
 use Prim.Native.Nat.{ℕ, zero, suc, _+_, _-_, _≤_, _<_}
-use mathlib.Core.Path.{_≡_, refl, sym, ap, subst, _∙_}
+use mathlib.Core.Path.{_≡_, refl, sym, subst, _∙_}
 use mathlib.Core.Bool.{Bool, true, false, _&&_}
 use mathlib.Core.List.{List, [], _∷_, _++_}
 use native.Mathlib.Omega.{arith}
@@ -9,7 +9,7 @@ use lib.Seq.{drop-cons}
 use borrow.Author.Tests.{eq-eqb, ne-eqb}
 use lib.Dec.{eqb}
 use Rattle.spec_format.specs.Bytes.{all, visible, spaces}
-use Rattle.spec_format.specs.Readers.{Ans, Got, No, Cut, bind, tag, line, Turn, more, stop, end}
+use Rattle.spec_format.specs.Readers.{Ans, Got, No, Cut, bind, tag, line, Turn, end}
 use Rattle.spec_format.specs.Features.{notSlash, bareTurn, bareMore}
 use Rattle.spec_loops.specs.Loops.{end-on, end-stops, end-noes, end-cuts}
 use Rattle.spec_loops.specs.Shrinks.{bareMore-small}
@@ -26,9 +26,8 @@ use Rattle.scan_utf8.specs.declared.State.{State}
 use Rattle.scan_utf8.specs.States.{Ran}
 use Rattle.read_feature_bare.specs.declared.Further.{Further}
 use Rattle.read_feature_bare.specs.declared.Further.the-variants as further
-use Rattle.read_feature_bare.specs.declared.Bare.{Bare}
 use Rattle.read_feature_bare.specs.declared.Bare.the-variants as bare′
-use Rattle.read_feature_bare.specs.Bared.{LineSpan, Furthered, furtherOf, PastFurther, BareSpan, Bared}
+use Rattle.read_feature_bare.specs.Bared.{LineSpan, Furthered, furtherOf, PastFurther, Bared}
 
 module _ (s : List ℕ) (i : ℕ) where
   pub slash-end : length s ≤ i → No ≡ notSlash (drop i s)

@@ -6,7 +6,7 @@ use native.Mathlib.Omega.{arith}
 use lib.ListN.{length, length-append}
 use Rattle.spec_format.specs.Bytes.{concat}
 use Rattle.spec_format.specs.Readers.{Ans, Got, No, Cut, bind, Turn, more, stop, members, end, loop}
-use Rattle.spec_loops.specs.Loops.{Shrinks, members-more, members-stop, members-no, members-cut, end-more, end-stop, end-no, end-cut}
+use Rattle.spec_loops.specs.Loops.{Shrinks, members-more, members-stop, members-no, members-cut}
 use Rattle.scan_utf8.specs.declared.State.{State}
 use Rattle.scan_utf8.specs.States.{Ran, ran-none, ran-append}
 use Rattle.base_pen.specs.Pen.{Writes, Left, left-step, left-as, left-end}

@@ -1,9 +1,8 @@
 -- The code's answer as a reader's: the text stands beside it, as the slice does, since an answer holds no text.
 use Prim.Native.Nat.{ℕ, _+_, _≤_, _<_}
-use mathlib.Core.Path.{_≡_, refl, subst, ap, _∙_, sym}
+use mathlib.Core.Path.{_≡_, subst}
 use mathlib.Core.Bool.{Bool, true, false}
 use mathlib.Core.List.{List}
-use native.Mathlib.Omega.{arith}
 use lib.ListN.{length, drop}
 use Rattle.spec_format.specs.Readers.{Ans, Got, No, Cut, passing}
 use Rattle.read_feature_joined.specs.declared.Value.{Value}

@@ -1,12 +1,12 @@
 -- A run of ordinary bytes with what ends it, as a piece of the value. Assumes nothing.
-use Prim.Native.Nat.{ℕ, suc, _+_, _≤_, _<_}
-use mathlib.Core.Path.{_≡_, refl, sym, ap, subst, _∙_}
+use Prim.Native.Nat.{ℕ, _+_, _≤_, _<_}
+use mathlib.Core.Path.{_≡_, refl, sym, subst, _∙_}
 use mathlib.Core.Bool.{Bool, true, false, not}
 use mathlib.Core.List.{List, [], _∷_, _++_, append-assoc, append-nil}
 use native.Mathlib.Omega.{arith}
-use lib.ListN.{length, getD, drop}
-use Rattle.spec_format.specs.Readers.{Ans, Got, No, Cut, bind, mapped, tag, lineEnd, more, stop, end}
-use Rattle.spec_format.specs.Features.{escape, escaped, quotedEnd, quotedTurn}
+use lib.ListN.{length, drop}
+use Rattle.spec_format.specs.Readers.{Got, No, Cut, tag, lineEnd, more}
+use Rattle.spec_format.specs.Features.{escape, escaped, quotedTurn}
 use Rattle.spec_loops.specs.Loops.{end-on, end-stops, end-noes, end-cuts}
 use Rattle.spec_loops.specs.Shrinks.{quotedTurn-small}
 use Rattle.scan_bytes.specs.Places.{part}
@@ -23,7 +23,7 @@ use Rattle.read_feature_quoted.specs.declared.Escape.the-variants as esc
 use Rattle.read_feature_quoted.specs.declared.Turn.{Turn}
 use Rattle.read_feature_quoted.specs.declared.Turn.the-variants as turn
 use Rattle.read_feature_quoted.specs.declared.Piece.the-variants as piece
-use Rattle.read_feature_quoted.specs.Escapes.{QuoteSpan, QuoteStep, Escaped, PastEscape, Known, Plain, closing, Closed, PastTurn, turnOf, Turned, feedText, GoesOn, GoesOff, Pieced}
+use Rattle.read_feature_quoted.specs.Escapes.{QuoteSpan, QuoteStep, Escaped, PastEscape, Known, Plain, closing, Closed, PastTurn, turnOf, Turned, feedText, Pieced}
 use Rattle.read_feature_quoted.proofs.Steps.{quote-is, quote-span}
 
 -- ---- the closing quote

@@ -1,8 +1,8 @@
 -- Runs of ordinary bytes in a quoted value. Assumes nothing.
-use Prim.Native.Nat.{ℕ, suc, _+_, _≤_, _<_}
-use mathlib.Core.Path.{_≡_, refl, sym, ap, _∙_}
+use Prim.Native.Nat.{ℕ, _+_, _≤_, _<_}
+use mathlib.Core.Path.{_≡_, refl, sym, _∙_}
 use mathlib.Core.Bool.{Bool, true, false, _&&_, _||_}
-use mathlib.Core.List.{List, [], _∷_, _++_, append-assoc}
+use mathlib.Core.List.{List, [], _∷_, append-assoc}
 use native.Mathlib.Omega.{arith}
 use native.Mathlib.Nat.{le-refl, add-zero}
 use native.Mathlib.Numerals.{add-one}
@@ -10,15 +10,14 @@ use borrow.Author.Tests.{eq-eqb, ne-eqb, eqb-true, lt-ltb, le-ltb, ltb-true}
 use lib.Dec.{eqb, ltb}
 use lib.ListN.{length, getD, drop, drop-of-length-le}
 use lib.Seq.{drop-cons}
-use Rattle.spec_format.specs.Readers.{Ans, Got, No, Cut, tag, Turn, more, end}
-use Rattle.spec_format.specs.Features.{special, escape, quotedEnd, quotedTurn}
+use Rattle.spec_format.specs.Readers.{Got, tag, more, end}
+use Rattle.spec_format.specs.Features.{special, escape, quotedTurn}
 use Rattle.spec_loops.specs.Loops.{end-more}
 use Rattle.spec_loops.specs.Shrinks.{quotedTurn-small}
-use Rattle.scan_bytes.specs.Places.{part}
 use Rattle.scan_bytes.specs.Parts.{part-none, part-snoc, part-append}
 use Rattle.scan_utf8.specs.States.{ascii}
 use Rattle.scan_utf8.specs.Every.{all-on}
-use Rattle.read_feature_joined.specs.Taken.{taken, taken-more}
+use Rattle.read_feature_joined.specs.Taken.{taken-more}
 use Rattle.read_feature_quoted.specs.Escapes.{Runs, AsciiRuns, Onward, Plain, PlainRun}
 
 pub ruleset tests = (eq-eqb, ne-eqb, lt-ltb, le-ltb)

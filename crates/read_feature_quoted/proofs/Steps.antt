@@ -1,6 +1,6 @@
 -- Quotes, line ends and indents in a row, as escapes. Assumes nothing.
-use Prim.Native.Nat.{ℕ, suc, _+_, _≤_, _<_}
-use mathlib.Core.Path.{_≡_, refl, sym, ap, subst, _∙_}
+use Prim.Native.Nat.{ℕ, _+_, _≤_, _<_}
+use mathlib.Core.Path.{_≡_, refl, subst}
 use mathlib.Core.Bool.{Bool, true, false}
 use mathlib.Core.List.{List, [], _∷_}
 use native.Mathlib.Omega.{arith}
@@ -9,11 +9,11 @@ use lib.ListN.{length, getD, drop, drop-of-length-le}
 use lib.Seq.{drop-cons}
 use lib.Dec.{eqb}
 use borrow.Author.Tests.{eq-eqb, ne-eqb}
-use Rattle.spec_format.specs.Bytes.{bytes, spaces}
+use Rattle.spec_format.specs.Bytes.{spaces}
 use Rattle.spec_format.specs.Readers.{Ans, Got, No, Cut, bind, mapped, orElse, tag, lineEnd}
 use Rattle.spec_format.specs.Features.{escape}
 use Rattle.scan_bytes.specs.Views.{Stepped, Emptied}
-use Rattle.scan_bytes.specs.Sequence.{step-places, step-is, empty-places}
+use Rattle.scan_bytes.specs.Sequence.{empty-places}
 use Rattle.scan_bytes.specs.declared.Step.{Step}
 use Rattle.scan_bytes.specs.declared.Step.the-variants as step
 use Rattle.read_feature_quoted.specs.declared.Escape.{Escape}

@@ -1,6 +1,6 @@
 -- The loops over the pieces of a quoted value, and the whole of it. Assumes nothing.
-use Prim.Native.Nat.{ℕ, suc, _+_, _-_, _≤_, _<_}
-use mathlib.Core.Path.{_≡_, refl, sym, ap, subst, _∙_}
+use Prim.Native.Nat.{ℕ, _+_, _-_, _≤_, _<_}
+use mathlib.Core.Path.{_≡_, refl, sym, subst, _∙_}
 use mathlib.Core.Bool.{Bool, true, false}
 use mathlib.Core.List.{List, [], _∷_, _++_, append-assoc, append-nil}
 use native.Mathlib.Omega.{arith}
@@ -8,14 +8,14 @@ use lib.ListN.{length, drop, length-append}
 use lib.Dec.{eqb}
 use borrow.Author.Tests.{eqb-true}
 use Rattle.spec_format.specs.Utf8.{utf8}
-use Rattle.spec_format.specs.Readers.{Ans, Got, No, Cut, bind, passing, utf8Of, tag, loop, end}
+use Rattle.spec_format.specs.Readers.{Ans, Got, No, Cut, utf8Of, tag, end}
 use Rattle.spec_format.specs.Features.{quotedTurn, quoted}
 use Rattle.scan_bytes.specs.Places.{part}
 use Rattle.scan_bytes.specs.Parts.{length-part}
 use Rattle.scan_bytes.specs.declared.Step.{Step}
 use Rattle.scan_bytes.specs.declared.Step.the-variants as step
 use Rattle.read_feature_joined.specs.Taken.{taken, gathered, gathered-got, gathered-no, gathered-cut, SoFar, so-none, so-more, so-size, so-ran, left-piece, left-none}
-use Rattle.read_feature_joined.specs.Views.{Span, PastValue, Valued, passing-got, passing-no}
+use Rattle.read_feature_joined.specs.Views.{Valued, passing-got, passing-no}
 use Rattle.read_feature_joined.specs.declared.Value.{Value}
 use Rattle.read_feature_joined.specs.declared.Value.the-variants as value
 use Rattle.base_pen.specs.Pen.{Writes, Left, left-start, writes-append, writes-nil, writes-as}

@@ -12,7 +12,6 @@ use Rattle.spec_format.specs.Readers.{Cut, line}
 use Rattle.scan_bytes.specs.Views.{Lined}
 use Rattle.scan_bytes.specs.declared.Line.{Line}
 use Rattle.scan_bytes.specs.declared.Line.the-variants as lines
-use Rattle.scan_lines.specs.declared.Taken.{Taken}
 use Rattle.scan_lines.specs.Reached.{afterLine, afterFeed, Fetched, Fed}
 
 pub drop-past : {X : Type 0} (s : List X) (i : ℕ) → length s ≤ i → drop i s ≡ []

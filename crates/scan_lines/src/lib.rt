@@ -1,9 +1,8 @@
 // The line reader: it keeps the input and the place reached in it. Its functions are thin: each takes it apart and asks one that has the slice and the place.
 use scan_bytes::Line;
 ghost use mathlib.Core.Path.{_≡_};
-ghost use Prim.Native.Nat.{_≤_};
-ghost use lib.ListN.{length, drop};
-ghost use Rattle.scan_lines.specs.Reached.{Fetched, NextLine, NextFeed, afterLine, afterFeed, Fed};
+ghost use lib.ListN.{drop};
+ghost use Rattle.scan_lines.specs.Reached.{Fetched, NextLine, NextFeed, afterLine, Fed};
 
 pub struct LineReader<'a> {
     pub input: &'a [u8],

@@ -14,7 +14,7 @@ use Rattle.spec_format.specs.Origin.{originTag, letters}
 use Rattle.spec_format.specs.Readers.{tag, until, line, lineEnd, membersUpTo, endUpTo, members, end}
 use Rattle.spec_format.specs.Numbers.{unreadNumber, unreadPlace}
 use Rattle.spec_format.specs.Record.{Outcome, Read, Not, features, slashesLater, middle, tableFrom, readRecord, readAt}
-use Rattle.spec_format.specs.Table.{Locus, Source, Reference, Qualifier, Feature, Table}
+use Rattle.spec_format.specs.Table.{Feature, Table}
 use Rattle.spec_format.specs.Utf8.{chars, utf8}
 use Rattle.spec_format.specs.WellFormed.{referenceTexts, headerTexts, locusFine, qualifierFine, featureFine, lettersFine, wellFormed}
 use Rattle.spec_format.specs.Wrap.{fill, closing, linesAfter, wrapped, wrapText, lastComma, breakAt, commaLines, wrapLocation}

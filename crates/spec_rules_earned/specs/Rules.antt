@@ -5,8 +5,8 @@ use mathlib.Core.Bool.{Bool, true, false, _&&_}
 use mathlib.Core.Path.{_≡_, refl}
 use mathlib.Core.List.{List, [], _∷_, _++_, map}
 use lib.ListN.{length, replicate}
-use Rattle.spec_format.specs.Bytes.{May, absent, is, pick, bytes, same, all}
-use Rattle.spec_format.specs.Table.{Locus, Source, Reference, Qualifier, Feature, Table}
+use Rattle.spec_format.specs.Bytes.{May, absent, is, bytes, same}
+use Rattle.spec_format.specs.Table.{Locus, Reference, Qualifier, Feature, Table}
 use Rattle.spec_format.specs.Record.{Outcome, Read, Not}
 use Rattle.spec_format.specs.declared.Dated.{Dated}
 use Rattle.spec_format.specs.declared.Dated.the-variants as dated

@@ -1,6 +1,5 @@
 -- The part of the store.
 use Prim.Native.Nat.{_+_, _-_}
-use Rattle.judge_header.specs.Rules.{headerOf}
 use borrow.Author.Needs.{needs}
 use mathlib.Core.Path.{_≡_}
 use native.Mathlib.Omega.{arith}

@@ -1,8 +1,7 @@
 -- `empty_lines`: the loop has passed empty lines only, and stops at the first line that is not.
-use Prim.Native.Nat.{ℕ, suc, _+_, _-_, _*_, _/_, _%_, _≤_, _<_}
-use mathlib.Core.Path.{_≡_, refl, sym, ap, _∙_}
-use lib.ListN.{length, getD, take, drop, set}
-use native.Mathlib.Omega.{arith}
+use Prim.Native.Nat.{_-_, _≤_}
+use mathlib.Core.Path.{_≡_}
+use lib.ListN.{length, drop}
 use borrow.Author.Needs.{needs}
 use Rattle.read_slashes.proofs.Laws.{emptyEnd, emptying}
 use Rattle.read_slashes.proofs.empty_lines.Statement.{statement}

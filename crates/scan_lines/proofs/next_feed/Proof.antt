@@ -29,7 +29,7 @@ use denote.Plain.{uint-tells, uint-makes, uint-lawful}
 use denote.Builtin.{u8, usize}
 use denote.Ref.{RefT, NamedLft, MutRef, now, ptr-vals, mut-tells}
 use denote.Signature.{Slot, plain, namedLft}
-use denote.Slice.{sliceVal, ShrSlice, Room}
+use denote.Slice.{sliceVal, ShrSlice}
 use denote.Steps.{only, opens, closes, owned, peeks, heard, nothing}
 use denote.Struct.Steps.{spelt}
 use denote.Struct.Declared.{Declared}
@@ -42,9 +42,8 @@ use denote.Triple.Entry.{Vals, onEntry}
 use denote.Triple.Spec.{Meets, tripleOf}
 use denote.Triple.Table.{entered, cited}
 use denote.Triple.Walked.{says, Stays, stay-ref, walkOf, goes-ref, Walks, ends-at, walked, walk-meets}
-use denote.Exit.{yes}
 use denote.Triple.Clauses.{ensured, lasts}
-use Rattle.scan_lines.specs.Reached.{Fed, NextFeed, reached}
+use Rattle.scan_lines.specs.Reached.{Fed, reached}
 use Rattle.scan_lines.specs.declared.LineReader.{LineReader}
 use Rattle.scan_lines.proofs.LineReader as T
 use Rattle.scan_lines.proofs.LineReader.Laws as T′

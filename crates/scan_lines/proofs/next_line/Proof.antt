@@ -29,7 +29,7 @@ use denote.Plain.{uint-makes}
 use denote.Builtin.{u8, usize}
 use denote.Ref.{RefT, NamedLft, MutRef, now, ptr-vals, mut-tells}
 use denote.Signature.{Slot, plain, namedLft}
-use denote.Slice.{sliceVal, ShrSlice, Room}
+use denote.Slice.{sliceVal, ShrSlice}
 use denote.Steps.{only, opens, closes, owned, peeks, heard, nothing}
 use denote.Struct.Steps.{spelt}
 use denote.Enum.Laws as EL
@@ -43,9 +43,8 @@ use denote.Triple.Entry.{Vals, onEntry}
 use denote.Triple.Spec.{Meets, tripleOf}
 use denote.Triple.Table.{entered, cited}
 use denote.Triple.Walked.{says, Stays, stay-ref, walkOf, goes-ref, Walks, ends-at, walked, walk-meets}
-use denote.Exit.{yes}
 use denote.Triple.Clauses.{ensured, lasts}
-use Rattle.scan_lines.specs.Reached.{Fetched, NextLine, reached}
+use Rattle.scan_lines.specs.Reached.{Fetched, reached}
 use Rattle.scan_lines.specs.declared.LineReader.{LineReader}
 use Rattle.scan_bytes.specs.declared.Line.{Line}
 use Rattle.scan_lines.specs.declared.Taken.{Taken}

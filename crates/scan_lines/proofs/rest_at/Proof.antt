@@ -1,5 +1,5 @@
 -- `scan_lines::rest_at`: a part from the place to the end, or the empty part at the end.
-use mathlib.Core.Path.{_≡_, sym, _∙_, ap}
+use mathlib.Core.Path.{sym, _∙_}
 use lib.Seq.{drop-length}
 use Rattle.scan_lines.proofs.Feeds.{rest-within, drop-past}
 use borrow.Author.Needs.{needs}
