@@ -1,25 +1,21 @@
 -- A record read into rows of structs and written again from them: laws of what `spec_contracts` says of it.
 use Prim.Native.Nat.{ℕ}
-use mathlib.Core.Bool.{Bool, true, false}
+use mathlib.Core.Bool.{true, false}
 use mathlib.Core.List.{List}
-use mathlib.Core.Path.{_≡_, refl, subst}
-use Rattle.spec_format.specs.Answers.{plainAnswer, keepingAnswer}
-use Rattle.spec_format.specs.Rooms.{Rooms, roomsAfter, roomsIn}
+use mathlib.Core.Path.{_≡_, subst}
+use Rattle.spec_format.specs.Rooms.{Rooms, roomsIn}
 use Rattle.spec_format.specs.declared.Head.{Head}
 use Rattle.spec_format.specs.declared.How.{How}
 use Rattle.spec_format.specs.declared.ReadAnswer.{ReadAnswer}
 use Rattle.spec_format.specs.declared.ReadAnswer.the-variants as read
 use Rattle.spec_format.specs.declared.Sizes.{Sizes}
 use Rattle.spec_format.specs.declared.Unread.{Unread}
-use Rattle.spec_format.specs.declared.Unwritten.the-variants as unwritten
 use Rattle.spec_format.specs.declared.WriteAnswer.{WriteAnswer}
-use Rattle.spec_format.specs.declared.WriteAnswer.the-variants as written
 use Rattle.base_rows.specs.declared.Feature.{Feature}
 use Rattle.base_rows.specs.Rows.{flat}
 use Rattle.spec_contracts.specs.Equal.{rooms-after}
 use Rattle.spec_contracts.specs.Reads.{Answered}
 use Rattle.spec_contracts.specs.Rounds.{emptyHead, headOf, notAtAll, howAfter, Rounds}
-use Rattle.spec_contracts.specs.Told.{howOf}
 use Rattle.spec_contracts.specs.Writes.{WriteAnswered}
 
 pub head-done : (a : ReadAnswer) (h : Head) (place : ℕ) → a ≡ read.Done h place → h ≡ headOf a
@@ -53,18 +49,3 @@ module _ (s : List ℕ) (at : ℕ) (old : Rooms) (how : How) (t rf cm : List ℕ
             subst (λ (rooms : Rooms). WriteAnswered (howAfter r how) rooms (headOf r) before after w)
             (rooms-after s at old (roomsIn t rf cm (flat rows) q l) r a) b;
       }
-
--- ---- where nothing was read, nothing is written
-
-refused : (keeping truncate escape : Bool) (rooms : Rooms) (h : Head) (before after : List ℕ) (w : WriteAnswer) → WriteAnswered (howOf keeping 0 truncate escape) rooms h before after w
-    → (w ≡ written.Refused unwritten.BadWidth) × (after ≡ before)
-unfolding plainAnswer keepingAnswer
-refused true truncate escape rooms h before after w a = (a .is, rw (a .is) at (a .slice))
-refused false truncate escape rooms h before after w a = (a .is, rw (a .is) at (a .slice))
-
-module _ (s : List ℕ) (at : ℕ) (old : Rooms) (how : How) (t rf cm q l before after : List ℕ) (w : WriteAnswer) where
-  pub unread-unwritten : (r : ReadAnswer) → ((h : Head) (place : ℕ) → r ≡ read.Done h place → ⊥) → Rounds s at old how t rf cm q l before after r w
-      → (w ≡ written.Refused unwritten.BadWidth) × (after ≡ before)
-  unread-unwritten (read.Done h place) n a = absurd (n h place refl)
-  unread-unwritten (read.Refused why) n a = refused (how .keeping) (how .truncate) (how .escape) (roomsAfter s at old) emptyHead before after w (a .wrote)
-  unread-unwritten (read.Room sizes) n a = refused (how .keeping) (how .truncate) (how .escape) (roomsAfter s at old) emptyHead before after w (a .wrote)

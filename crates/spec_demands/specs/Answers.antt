@@ -30,6 +30,8 @@ use Rattle.spec_format.specs.declared.WriteAnswer.{WriteAnswer}
 use Rattle.spec_format.specs.declared.WriteAnswer.the-variants as answer
 use Rattle.base_rows.specs.declared.Feature.{Feature}
 use Rattle.base_rows.specs.Flat.{flat-tells}
+use Rattle.api_head.specs.Back.{outside-refused}
+use Rattle.spec_contracts.specs.Numbers.{outside}
 use Rattle.spec_contracts.specs.Reads.{RowRooms, flatRooms}
 use Rattle.spec_contracts.specs.Writes.{answerBy, answerDue, textDue, LengthFits}
 
@@ -222,6 +224,18 @@ done-count how r h n k e = by (what-is-due how r h)
 pub length-below : (l : Length) → LengthFits l → (n : ℕ) → l ≡ bases.Bases n → n < 4294967296
 length-below bases.Absent f n e = impossible cc
 length-below (bases.Bases m) f n e = let x : m ≡ n = cc in omega (arith, f)
+
+-- no writer takes a width of 0
+pub no-width : (keeping truncate escape : Bool) (r : Rooms) (h : Head) (n : ℕ) → writeNumber (answerBy keeping 0 truncate escape r h n) ≡ 12
+unfolding plainAnswer keepingAnswer
+no-width true truncate escape r h n = refl
+no-width false truncate escape r h n = refl
+
+-- numbers that stand for no head are refused by 10, at every width that there is
+pub no-head : (keeping : Bool) (W : ℕ) (truncate escape : Bool) (r : Rooms) (n : ℕ) → widthFine W ≡ true → writeNumber (answerBy keeping W truncate escape r outside n) ≡ 10
+unfolding plainAnswer keepingAnswer
+no-head true W truncate escape r n e = rw (e, outside-refused r)
+no-head false W truncate escape r n e = rw (e, outside-refused r)
 
 -- a writer that is done passed 12, 10 and 11
 pub record Passed (W : ℕ) (truncate escape : Bool) (r : Rooms) (h : Head) : Type 0 where

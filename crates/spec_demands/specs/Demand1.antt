@@ -12,6 +12,7 @@ use Rattle.spec_format.specs.Answers.{sliceAfter}
 use Rattle.spec_format.specs.Impossible.{impossible}
 use Rattle.spec_format.specs.Numbers.{readNumber, writeNumber, writeValue}
 use Rattle.spec_format.specs.Rooms.{Rooms, tableOf, roomsAfter}
+use Rattle.spec_format.specs.WellFormed.{widthFine}
 use Rattle.spec_format.specs.declared.Head.{Head}
 use Rattle.spec_format.specs.declared.How.{How}
 use Rattle.spec_format.specs.declared.ReadAnswer.{ReadAnswer}
@@ -21,14 +22,14 @@ use Rattle.spec_format.specs.declared.Unwritten.the-variants as unwritten
 use Rattle.spec_format.specs.declared.WriteAnswer.{WriteAnswer}
 use Rattle.spec_format.specs.declared.WriteAnswer.the-variants as write
 use Rattle.spec_contracts.specs.Equal.{rooms-after}
-use Rattle.spec_contracts.specs.Numbers.{headFrom}
+use Rattle.spec_contracts.specs.Numbers.{headFrom, outside}
 use Rattle.spec_contracts.specs.Reads.{Answered, RowRooms, flatRooms}
 use Rattle.spec_contracts.specs.Rounds.{headOf, howAfter, Rounds}
 use Rattle.spec_contracts.specs.Told.{reading, writing, ReadTold, WriteTold}
 use Rattle.spec_contracts.specs.Writes.{textDue, WriteAnswered}
 use Rattle.spec_contracts.specs.declared.Reading.{Reading}
 use Rattle.spec_contracts.specs.declared.Writing.{Writing}
-use Rattle.spec_demands.specs.Answers.{unread-most, unread-not-six, rows-tell, room-of, after-same, slice-same, what-is-due}
+use Rattle.spec_demands.specs.Answers.{unread-most, unread-not-six, rows-tell, room-of, after-same, slice-same, no-width, no-head, what-is-due}
 use Rattle.spec_demands.specs.Six.{six-more, more-six, told-more, told-used, room-told, bytes-told}
 use Rattle.spec_demands.specs.What.{MoreRoom, Uses, MoreBytes}
 
@@ -135,6 +136,11 @@ module _ (how : How) (r : Rooms) (ns old new : List ℕ) (told : Writing) (call 
       let e = written-one how r (headFrom ns) old new (call .answer) (call .answered) new′ (other .answer) (other .answered) in
       (call .is ∙ (ap writing (e .0) ∙ sym (other .is)), e .1)
 
+  -- numbers that stand for no head (fewer than 31, or a length above 4,294,967,295) are refused by 10
+  pub written-told-headless : headFrom ns ≡ outside → widthFine (how .width) ≡ true → told .number ≡ 10
+  written-told-headless e f =
+      wrote-is ∙ (ap writeNumber (call .answered .is) ∙ rw e (no-head (how .keeping) (how .width) (how .truncate) (how .escape) r (length old) f))
+
   pub written-told-six : (k : ℕ) → ((told .number ≡ 6) × (told .count ≡ k)) ↔ MoreBytes how r (headFrom ns) (length old) k
   written-told-six k =
       let six = written-six how r (headFrom ns) old new (call .answer) (call .answered) k in (
@@ -170,7 +176,7 @@ module _
         ),
       )
 
-  -- where nothing is read the rooms are what they were; where nothing is written the slice is
+  -- where nothing is read the rooms are what they were
   pub round-unread : (readNumber r ≡ 0 → ⊥) → (t ≡ old .texts) × ((rf ≡ old .references) × ((cm ≡ old .comments) × ((q ≡ old .qualifiers) × (l ≡ old .letters))))
   round-unread n =
       let e = after-same s at old (λ z. n (ap readNumber (call .is) ∙ z)) in (
@@ -181,8 +187,17 @@ module _
         ),
       )
 
+  -- where nothing is read or nothing is written the slice is what it was
   pub round-unwritten : (writeNumber w ≡ 0 → ⊥) → after ≡ before
   round-unwritten n = written-untouched (howAfter r how) (roomsAfter s at old) (headOf r) before after w (call .wrote) n
+
+  pub round-unread-unwritten : (readNumber r ≡ 0 → ⊥) → after ≡ before
+  round-unread-unwritten n = round-unwritten (λ z. impossible (cc (z, width-none r refl n)))
+    where
+      width-none : (x : ReadAnswer) → r ≡ x → (readNumber r ≡ 0 → ⊥) → writeNumber w ≡ 12
+      width-none (read.Done h place) e n = absurd (n (ap readNumber e))
+      width-none (read.Refused why) e n = ap writeNumber (call .wrote .is) ∙ rw e (no-width (how .keeping) (how .truncate) (how .escape) (roomsAfter s at old) _ (length before))
+      width-none (read.Room sizes) e n = ap writeNumber (call .wrote .is) ∙ rw e (no-width (how .keeping) (how .truncate) (how .escape) (roomsAfter s at old) _ (length before))
 
   -- its two answers are the reader's and the writer's, so what is said of 6 above holds of them
   pub round-read : Answered s at old (roomsAfter s at old) r
