@@ -1,12 +1,11 @@
 -- A room that is being filled, where it is known that the place after the text is one that a usize can hold: then what was written is an equation.
 use mathlib.Core.Path.{_≡_, refl, sym, _∙_}
 use Prim.Native.Nat.{ℕ, _+_, _<_, _^_}
-use native.Mathlib.Nat.{add-zero}
 use native.Mathlib.Omega.{arith}
 use mathlib.Core.List.{List, [], _++_}
 use lib.ListN.{length, length-append}
 use lib.Seq.{sets}
-use Rattle.base_pen.specs.Pen.{Wrote, Writes, sets-append}
+use Rattle.base_pen.specs.Pen.{Wrote, sets-append}
 
 -- `rest` written from here makes of the room what `whole` would have made of the old one
 pub record Filling (old : List ℕ) (at : ℕ) (whole new : List ℕ) (next : ℕ) (rest : List ℕ) : Type 0 where

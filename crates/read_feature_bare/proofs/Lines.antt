@@ -9,7 +9,7 @@ use lib.Seq.{drop-cons}
 use borrow.Author.Tests.{eq-eqb, ne-eqb}
 use lib.Dec.{eqb}
 use Rattle.spec_format.specs.Bytes.{all, visible, spaces}
-use Rattle.spec_format.specs.Readers.{Ans, Got, No, Cut, bind, tag, line, Turn, end}
+use Rattle.spec_format.specs.Readers.{Ans, Got, No, bind, tag, line, Turn, end}
 use Rattle.spec_format.specs.Features.{notSlash, bareTurn, bareMore}
 use Rattle.spec_loops.specs.Loops.{end-on, end-stops, end-noes, end-cuts}
 use Rattle.spec_loops.specs.Shrinks.{bareMore-small}

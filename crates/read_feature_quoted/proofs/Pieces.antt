@@ -5,7 +5,7 @@ use mathlib.Core.Bool.{Bool, true, false, not}
 use mathlib.Core.List.{List, [], _∷_, _++_, append-assoc, append-nil}
 use native.Mathlib.Omega.{arith}
 use lib.ListN.{length, drop}
-use Rattle.spec_format.specs.Readers.{Got, No, Cut, tag, lineEnd, more}
+use Rattle.spec_format.specs.Readers.{Got, tag, lineEnd, more}
 use Rattle.spec_format.specs.Features.{escape, escaped, quotedTurn}
 use Rattle.spec_loops.specs.Loops.{end-on, end-stops, end-noes, end-cuts}
 use Rattle.spec_loops.specs.Shrinks.{quotedTurn-small}

@@ -12,7 +12,6 @@ use Rattle.scan_bytes.specs.Places.{part}
 use Rattle.scan_bytes.specs.Parts.{length-part}
 use Rattle.base_pen.specs.Pen.{Wrote, Writes, wrote-append}
 use Rattle.base_pen.specs.Filling.{wrote-as}
-use Rattle.base_rows.specs.declared.Feature as row
 use Rattle.read_feature_joined.specs.Views.{Valued}
 use Rattle.read_feature_joined.specs.declared.Value.{Value}
 use Rattle.read_feature_joined.specs.declared.Value.the-variants as value

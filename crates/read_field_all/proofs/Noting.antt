@@ -9,7 +9,6 @@ use lib.ListN.{length}
 use lib.Dec.{eqb, ltb}
 use borrow.Author.Tests.{ltb-true, ltb-false, lt-ltb, le-ltb}
 use Rattle.spec_format.specs.Bytes.{pick, May, absent, is, bytes, same}
-use Rattle.spec_format.specs.Table.{Source, Reference}
 use Rattle.spec_format.specs.Header as format
 use Rattle.spec_format.specs.Header.{latest, every, textIn, sourceIn, referenceIn}
 use Rattle.spec_format.specs.Rooms.{piecesText, referencePieces, commentPieces, textsOf}

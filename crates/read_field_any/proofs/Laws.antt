@@ -6,7 +6,7 @@ use mathlib.Core.List.{List}
 use native.Mathlib.Omega.{arith}
 use lib.ListN.{drop}
 use Rattle.spec_format.specs.Bytes.{bytes}
-use Rattle.spec_format.specs.Readers.{Ans, Got, No, Cut, mapped, orElse}
+use Rattle.spec_format.specs.Readers.{Ans, No, Cut, mapped, orElse}
 use Rattle.spec_format.specs.Table.{Source, Reference}
 use Rattle.spec_format.specs.Header as format
 use Rattle.spec_format.specs.Header.{source, reference, ignoredLine, headerField}

@@ -6,7 +6,6 @@ use mathlib.Core.List.{List, [], _∷_, _++_, append-assoc, append-nil}
 use native.Mathlib.Omega.{arith}
 use lib.ListN.{length, drop}
 use Rattle.spec_format.specs.Bytes.{May, absent, is}
-use Rattle.spec_format.specs.Readers.{No, Cut}
 use Rattle.spec_format.specs.Table.{Reference}
 use Rattle.spec_format.specs.Header as format
 use Rattle.spec_format.specs.Header.{headerField, every}

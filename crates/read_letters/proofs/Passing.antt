@@ -12,7 +12,7 @@ use lib.Dec.{eqb, leb, lit<}
 use lib.ListN.{length, take, drop, getD, set, length-append, length-drop, drop-of-length-le}
 use lib.Seq.{drop-cons, take-all, take-suc, take-suc-set, getD-drop, length-take-le}
 use Rattle.spec_format.specs.Bytes.{letter, digit}
-use Rattle.spec_format.specs.Origin.{AtSlash, AtEnd, Bad, skipped, letters}
+use Rattle.spec_format.specs.Origin.{skipped, letters}
 use Rattle.base_pen.specs.Pen.{Writes, Left, left-step, left-as, left-end}
 use Rattle.read_letters.specs.Runs.{Tally, slash, end, bad, tally, plus, sifted, Run, Runs, run-none, run-append, tally-keeps, Counts, PastCounted, one, lettersIn, spaced, ten, thirtyOf, sixtyOf}
 use Rattle.read_letters.specs.declared.Counted.{Counted}

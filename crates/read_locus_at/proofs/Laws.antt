@@ -1,10 +1,10 @@
 -- The laws of the three parts of a LOCUS line: each answer by the answer of the part before.
 use Prim.Native.Nat.{ℕ, _-_, _≤_, _<_}
 use native.Mathlib.Omega.{arith}
-use mathlib.Core.Path.{_≡_, refl, sym}
+use mathlib.Core.Path.{_≡_}
 use mathlib.Core.List.{List}
 use lib.ListN.{length, take, drop}
-use Rattle.spec_format.specs.Readers.{Ans, Got, No, Cut, bind, mapped, line}
+use Rattle.spec_format.specs.Readers.{Ans, bind, line}
 use Rattle.spec_format.specs.Table.{Locus}
 use Rattle.spec_format.specs.Locus.{locusLine}
 use Rattle.scan_bytes.specs.Places.{part}

@@ -12,7 +12,7 @@ use Rattle.spec_format.specs.Locus.{skipping, preambleTurn, preamble}
 use Rattle.spec_loops.specs.Loops.{end-more, end-stop, end-no, end-cut}
 use Rattle.spec_loops.specs.Shrinks.{preamble-small}
 use Rattle.scan_bytes.specs.Places.{part}
-use Rattle.scan_bytes.specs.Views.{Stepped, Lined}
+use Rattle.scan_bytes.specs.Views.{Stepped}
 use Rattle.scan_bytes.specs.Sequence.{line-places, line-is}
 use Rattle.scan_bytes.specs.declared.Step.{Step}
 use Rattle.scan_bytes.specs.declared.Step.the-variants as step

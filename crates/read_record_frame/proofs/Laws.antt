@@ -6,9 +6,8 @@ use mathlib.Core.Path.{_≡_, ap, subst, _∙_}
 use mathlib.Core.List.{List}
 use lib.ListN.{length, drop}
 use lib.Seq.{sets}
-use Rattle.spec_format.specs.Bytes.{is, bytes}
+use Rattle.spec_format.specs.Bytes.{bytes}
 use Rattle.spec_format.specs.Header.{fieldText, every, textIn, referenceIn}
-use Rattle.spec_format.specs.Record.{most}
 use Rattle.spec_format.specs.Rooms.{perhaps, pieceText, piecesText, headPieces, referencePieces, commentPieces, textsOf, rowsOf, referencesAt, commentsAt, featuresAt, contigAt, layout, sizes}
 use Rattle.spec_rooms.specs.LayoutLengths.{Lengths, layout-lengths}
 use Rattle.base_pen.specs.Pen.{Wrote, Writes, writes-nil, wrote-append}

@@ -7,7 +7,7 @@ use lib.ListN.{length, drop}
 use lib.Dec.{ltb, leb}
 use borrow.Author.Tests.{ltb-true, ltb-false, le-leb, lt-leb}
 use Rattle.spec_format.specs.Bytes.{bytes}
-use Rattle.spec_format.specs.Readers.{Got, No, Cut}
+use Rattle.spec_format.specs.Readers.{Got, Cut}
 use Rattle.spec_format.specs.Table.{Locus}
 use Rattle.spec_format.specs.Locus.{preamble, locus}
 use Rattle.spec_format.specs.Header.{Field, every, textIn}

@@ -7,7 +7,7 @@ use mathlib.Core.List.{List, [], _∷_}
 use lib.ListN.{length, getD, drop, length-drop}
 use lib.Dec.{eqb}
 use Rattle.spec_format.specs.Bytes.{bytes, pick}
-use Rattle.spec_format.specs.Readers.{Ans, Got, No, Cut, tag, lineEnd, tryTurn, end, whileFits}
+use Rattle.spec_format.specs.Readers.{Ans, Got, tag, lineEnd, tryTurn, end, whileFits}
 use Rattle.spec_format.specs.Record.{leftBy, slashesLater}
 use Rattle.spec_loops.specs.Loops.{try-end-more, try-end-no, try-end-cut}
 use Rattle.spec_loops.specs.Shrinks.{lineEnd-small}

@@ -8,7 +8,7 @@ use mathlib.Core.List.{List, [], _∷_}
 use lib.ListN.{length, getD, drop, take, length-drop}
 use lib.Seq.{drop-cons, take-all}
 use borrow.Author.Tests.{eq-eqb, ne-eqb}
-use Rattle.spec_format.specs.Readers.{Cut, line}
+use Rattle.spec_format.specs.Readers.{line}
 use Rattle.scan_bytes.specs.Views.{Lined}
 use Rattle.scan_bytes.specs.declared.Line.{Line}
 use Rattle.scan_bytes.specs.declared.Line.the-variants as lines

@@ -7,15 +7,14 @@ use native.Mathlib.Omega.{arith}
 use lib.ListN.{length, drop, length-drop}
 use lib.Seq.{drop-drop}
 use lib.Dec.{eqb}
-use Rattle.spec_format.specs.Bytes.{pick, absent, is, some, bytes, spaces, letter, notBlank, space, but}
+use Rattle.spec_format.specs.Bytes.{pick, absent, is, some, bytes, spaces, letter, space, but}
 use Rattle.spec_format.specs.Readers.{Ans, Got, No, Cut, bind, mapped, passing, orElse, optional, unless, tag, push, until, until1, lineFeed}
-use Rattle.spec_format.specs.Readers.{line, lineEnd, Turn, more, stop, endUpTo, end, loop, fitting, fitTurn, many0, trying, tryTurn, whileFits}
+use Rattle.spec_format.specs.Readers.{line, lineEnd, Turn, more, stop, endUpTo, end, loop, fitting, fitTurn, many0}
 use Rattle.spec_format.specs.Header.{furtherLine, fieldText, fieldBytes, field, maybeField, reference, source, Entry, SourceOf, ReferenceOf, Dropped, ignoredLine, entry, headerField}
-use Rattle.spec_format.specs.Features.{featuresHeader, notSlash, bareTurn, bareMore, bare, escape, quotedEnd, special, quotedTurn}
+use Rattle.spec_format.specs.Features.{notSlash, bareTurn, bareMore, bare, escape, quotedEnd, special, quotedTurn}
 use Rattle.spec_format.specs.Features.{quoted, value, keyEnd, valueOf, qualifier, kindText, locationText, featureFrom, feature}
-use Rattle.spec_format.specs.Locus.{skipping, preambleTurn, preamble, locusLine, locus}
-use Rattle.spec_format.specs.Origin.{originTag, Letters, AtSlash, AtEnd, Bad, keep, skipped, letters}
-use Rattle.spec_format.specs.Record.{features, contig, middle}
+use Rattle.spec_format.specs.Locus.{skipping, preambleTurn}
+use Rattle.spec_format.specs.Origin.{Letters, AtSlash, AtEnd, Bad, keep, skipped, letters}
 use Rattle.spec_format.specs.Utf8.{utf8}
 use Rattle.spec_loops.specs.Loops.{Shrinks, Takes}
 use Rattle.spec_format.specs.Impossible.{impossible}

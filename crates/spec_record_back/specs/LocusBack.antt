@@ -8,7 +8,7 @@ use lib.ListN.{length}
 use lib.Dec.{eqb, leb}
 use borrow.Author.Tests.{eqb-false, le-leb, leb-true, not-true, ne-eqb}
 use Rattle.spec_format.specs.Bytes.{May, absent, is, bytes, spaces, some, starts, all, same, visible, printing, digit, blank, notBlank, but, number, decimal}
-use Rattle.spec_format.specs.Readers.{Got, tag, until1, line, end, endUpTo}
+use Rattle.spec_format.specs.Readers.{Got, tag, until1, end, endUpTo}
 use Rattle.spec_format.specs.Dates.{isDate, dateText}
 use Rattle.spec_format.specs.Table.{Locus, Table}
 use Rattle.spec_format.specs.Locus.{preamble, tokens, dateToken, locusFrom, locusOf, locusLine, locus}

@@ -20,7 +20,6 @@ use Rattle.spec_format.specs.Write.{locusText, headerLines, featuresLines, cont
 use Rattle.spec_format.specs.Wrap.{wrapLocation}
 use Rattle.spec_format.specs.WellFormed.{widthFine, ifIs, headerTexts, featureFine, lettersFine, locusFine, wellFormed}
 use Rattle.spec_format.specs.Keeping.{switchesKept, locusKept, headerKept, pubmedKept, featureKept, keeps}
-use Rattle.spec_format.specs.declared.Unread.the-variants as unread
 use Rattle.spec_loops.specs.Loops.{tries-more, tries-no, tries-cut}
 use Rattle.spec_loops.specs.Shrinks.{lineEnd-small}
 use Rattle.spec_texts_back.specs.Tests.{and-left, and-right}

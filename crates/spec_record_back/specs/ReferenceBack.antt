@@ -6,9 +6,9 @@ use mathlib.Core.List.{List, [], _∷_, _++_, append-assoc}
 use lib.ListN.{length}
 use lib.Dec.{eqb, lit<}
 use borrow.Author.Tests.{not-true}
-use Rattle.spec_format.specs.Bytes.{May, absent, is, bytes, spaces, starts, all, but, each}
+use Rattle.spec_format.specs.Bytes.{May, absent, is, bytes, spaces, starts, all, but}
 use Rattle.spec_format.specs.Utf8.{utf8}
-use Rattle.spec_format.specs.Readers.{Ans, Got, No, Cut, tag, line}
+use Rattle.spec_format.specs.Readers.{Ans, Got, No, Cut, tag}
 use Rattle.spec_format.specs.Header.{fieldBytes, field, maybeField, reference, source}
 use Rattle.spec_format.specs.Table.{Source, Reference}
 use Rattle.spec_format.specs.Wrap.{wrapped, wrapText}

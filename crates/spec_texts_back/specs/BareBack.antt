@@ -1,14 +1,14 @@
 -- A location or a bare value, written and read.
 use Prim.Native.Nat.{ℕ, zero, suc, _+_, _-_, _<_, _≤_}
 use native.Mathlib.Omega.{arith}
-use mathlib.Core.Bool.{Bool, true, false, not}
+use mathlib.Core.Bool.{Bool, true, false}
 use mathlib.Core.Path.{_≡_, refl}
 use mathlib.Core.List.{List, [], _∷_, _++_, append-nil}
 use lib.ListN.{length, take, drop, length-drop, take-append-drop}
 use lib.Dec.{eqb, leb}
 use borrow.Author.Tests.{leb-false, not-true}
 use Rattle.spec_format.specs.Bytes.{spaces, some, starts, all, concat, visible, but}
-use Rattle.spec_format.specs.Readers.{Got, No, bind, tag, line, more}
+use Rattle.spec_format.specs.Readers.{Got, No, bind, tag, line}
 use Rattle.spec_format.specs.Features.{notSlash, bareMore, bare}
 use Rattle.spec_format.specs.Wrap.{lastComma, breakAt, commaLines}
 use Rattle.spec_loops.specs.Shrinks.{bareMore-small}

@@ -6,7 +6,6 @@ use mathlib.Core.Path.{_≡_, sym, _∙_}
 use lib.ListN.{length, take, getD, List·getD-eq-default}
 use lib.Seq.{take-suc, take-all}
 use native.Mathlib.Numerals.{add-one}
-use native.Mathlib.Omega.{arith}
 use Rattle.spec_format.specs.Impossible.{impossible}
 
 pub record Same (a b : List ℕ) (r : Bool) : Type 0 where

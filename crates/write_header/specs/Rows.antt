@@ -3,7 +3,7 @@ use Prim.Native.Nat.{ℕ, zero, suc, _+_, _-_, _*_, _≤_, _<_}
 use mathlib.Core.Path.{_≡_, refl, sym}
 use mathlib.Core.List.{List, [], _++_, append-nil}
 use native.Mathlib.Omega.{arith}
-use Rattle.spec_format.specs.Bytes.{May, absent, is, each}
+use Rattle.spec_format.specs.Bytes.{absent, is, each}
 use Rattle.spec_format.specs.Rooms.{rowsFrom, cut, perhapsText}
 use Rattle.base_pen.specs.Pen.{Writes, Left, left-step, left-as, left-end}
 

@@ -4,7 +4,6 @@ use mathlib.Core.Path.{_≡_, refl, sym}
 use mathlib.Core.Bool.{Bool, true, false, _&&_}
 use mathlib.Core.List.{List, [], _++_, append-assoc}
 use native.Mathlib.Omega.{arith}
-use Rattle.spec_format.specs.Answers.{room}
 use Rattle.spec_format.specs.Rooms.{rowsFrom}
 use Rattle.spec_format.specs.Table.{Feature as Described}
 use Rattle.spec_format.specs.Write.{featureLines}

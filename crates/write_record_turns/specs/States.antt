@@ -5,8 +5,7 @@ use mathlib.Core.Bool.{Bool, true, false, _&&_, _||_, not}
 use mathlib.Core.List.{List, []}
 use lib.ListN.{length}
 use Rattle.judge_feature.specs.Rules.{featureOf, FeatureKnown}
-use Rattle.spec_format.specs.Answers.{room}
-use Rattle.spec_format.specs.Bytes.{all, each}
+use Rattle.spec_format.specs.Bytes.{all}
 use Rattle.spec_format.specs.Rooms.{rowsFrom, featuresFine}
 use Rattle.spec_format.specs.Table.{Feature as Described}
 use Rattle.spec_format.specs.declared.Head.{Head}

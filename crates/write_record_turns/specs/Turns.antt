@@ -5,7 +5,6 @@ use mathlib.Core.Bool.{Bool, true, false}
 use mathlib.Core.List.{List}
 use native.Mathlib.Omega.{arith}
 use Rattle.write_feature_row.specs.Flat.{row-known}
-use Rattle.spec_format.specs.Keeping.{keeps}
 use Rattle.spec_format.specs.Rooms.{featuresFine}
 use Rattle.base_rows.specs.Rows.{rowAt}
 use Rattle.base_rows.specs.declared.Feature.{Feature}
