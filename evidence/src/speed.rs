@@ -27,6 +27,36 @@ pub fn run(rounds: u64) -> bool {
     println!("speed: {rounds} rounds, turn by turn; nanoseconds for a byte of the record's text, best and worst round;");
     println!("how many times the speed of the faster gb-io (best against best; worst round), and how many times memcpy's time");
     inputs.into_iter().all(|(name, table)| measured(name, &table, rounds).is_some())
+        && headers().into_iter().all(|(name, text)| measured_reading(name, &text, rounds).is_some())
+}
+
+/// Records of very many header lines, which are only read.
+fn headers() -> [(&'static str, Vec<u8>); 4] {
+    let record = |before: &str, n: usize, line: &str| [before, &line.repeat(n), if before.is_empty() { "LOCUS x\n" } else { "" }, "ORIGIN\n//\n"].concat().into_bytes();
+    [("a million unknown header lines", record("LOCUS x\n", 1_000_000, "UNKNOWN     a\n")), ("half a million comments", record("LOCUS x\n", 500_000, "COMMENT     a\n")),
+        ("half a million REFERENCE lines without TITLE", record("LOCUS x\n", 500_000, "REFERENCE   1\n")), ("four million empty lines before LOCUS", record("", 4_000_000, "\n"))]
+}
+
+fn measured_reading(name: &str, text: &[u8], rounds: u64) -> Option<()> {
+    let seq = parse_slice(text).ok()?.pop()?;
+    let mut room = read_asked(text)?;
+    let mut out = vec![0; text.len()];
+    let mut reading = vec![Vec::new(); GB_IO.len() + OTHERS.len()];
+    for _ in 0..rounds {
+        time_reading(&mut reading, text, &mut room, &mut out, 1);
+    }
+    println!("\n{name}: {} bytes, {} comments", text.len(), seq.comments.len());
+    show("reading", text.len(), &GB_IO, &reading);
+    Some(())
+}
+
+/// A turn of each contender.
+fn time_reading(reading: &mut [Vec<f64>], text: &[u8], room: &mut Rooms, out: &mut [u8], repeats: usize) {
+    reading[0].push(timed(repeats, || parse_slice(black_box(text)).unwrap()));
+    reading[1].push(timed(repeats, || SeqReader::new(black_box(text)).next().unwrap().unwrap()));
+    reading[2].push(timed(repeats, || read_asked(black_box(text)).unwrap()));
+    reading[3].push(timed(repeats, || read_at_hand(black_box(text), room)));
+    reading[4].push(timed(repeats, || out[..text.len()].copy_from_slice(black_box(text))));
 }
 
 fn measured(name: &str, table: &Table, rounds: u64) -> Option<()> {
@@ -42,11 +72,7 @@ fn measured(name: &str, table: &Table, rounds: u64) -> Option<()> {
     let mut reading = vec![Vec::new(); GB_IO.len() + OTHERS.len()];
     let mut writing = vec![Vec::new(); GB_IO_WRITES.len() + OTHERS.len()];
     for _ in 0..rounds {
-        reading[0].push(timed(repeats, || parse_slice(black_box(&text)).unwrap()));
-        reading[1].push(timed(repeats, || SeqReader::new(black_box(&text[..])).next().unwrap().unwrap()));
-        reading[2].push(timed(repeats, || read_asked(black_box(&text)).unwrap()));
-        reading[3].push(timed(repeats, || read_at_hand(black_box(&text), &mut room)));
-        reading[4].push(timed(repeats, || out[..text.len()].copy_from_slice(black_box(&text))));
+        time_reading(&mut reading, &text, &mut room, &mut out, repeats);
         writing[0].push(timed(repeats, || write_gb_io(black_box(&seq))));
         writing[1].push(timed(repeats, || write_asked(black_box(&rooms)).unwrap()));
         writing[2].push(timed(repeats, || library::write(&mut out[..size], black_box(&rooms), HOW)));
