@@ -32,9 +32,10 @@ pub fn run(rounds: u64) -> bool {
 
 /// Records of very many header lines, which are only read.
 fn headers() -> [(&'static str, Vec<u8>); 4] {
-    let record = |before: &str, n: usize, line: &str| [before, &line.repeat(n), if before.is_empty() { "LOCUS x\n" } else { "" }, "ORIGIN\n//\n"].concat().into_bytes();
-    [("a million unknown header lines", record("LOCUS x\n", 1_000_000, "UNKNOWN     a\n")), ("half a million comments", record("LOCUS x\n", 500_000, "COMMENT     a\n")),
-        ("half a million REFERENCE lines without TITLE", record("LOCUS x\n", 500_000, "REFERENCE   1\n")), ("four million empty lines before LOCUS", record("", 4_000_000, "\n"))]
+    let record = |before: String, header: String| format!("{before}LOCUS       x 1 bp    DNA     linear   SYN 01-JAN-2024\n{header}ORIGIN\n        1 a\n//\n").into_bytes();
+    let header = |n: usize, line: &str| record(String::new(), line.repeat(n));
+    [("a million unknown header lines", header(1_000_000, "UNKNOWN     a\n")), ("half a million comments", header(500_000, "COMMENT     a\n")),
+        ("half a million REFERENCE lines without TITLE", header(500_000, "REFERENCE   1\n")), ("four million empty lines before LOCUS", record("\n".repeat(4_000_000), String::new()))]
 }
 
 fn measured_reading(name: &str, text: &[u8], rounds: u64) -> Option<()> {
