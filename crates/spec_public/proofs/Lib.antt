@@ -1,0 +1,2 @@
+-- What the definitions say of usual lines.
+pub mod Examples
