@@ -32,11 +32,11 @@ abbrev pub baseCount : List ℕ → Ans (List ℕ)
 baseCount s = field 0 (bytes "BASE COUNT") false s
 
 -- `contig_text`, whose text has a reading as a location (ticket 1)
-abbrev pub contigRead : List ℕ → Contig
-contigRead t = record { text = t; rows = rowsIn true t }
+abbrev pub contigOf : List ℕ → Contig
+contigOf t = record { text = t; rows = rowsIn true t }
 
 abbrev pub contig : List ℕ → Ans Contig
-contig s = mapped contigRead (passing (locates true) (fieldBytes 0 (bytes "CONTIG") false s))
+contig s = mapped contigOf (passing (locates true) (fieldBytes 0 (bytes "CONTIG") false s))
 
 -- a line beginning `//` after the place where the sections end
 unfoldable pub slashesLater : List ℕ → Bool

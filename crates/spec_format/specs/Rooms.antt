@@ -5,7 +5,7 @@ use mathlib.Core.Bool.{Bool, true, false, _&&_, _||_}
 use mathlib.Core.List.{List, [], _∷_, _++_}
 use lib.ListN.{length, take, drop, getD}
 use lib.Dec.{eqb, leb}
-use Rattle.spec_format.specs.Bytes.{pick, May, absent, is, each, same}
+use Rattle.spec_format.specs.Bytes.{pick, May, absent, is, each, all, same}
 use Rattle.spec_format.specs.Table.{Source, Reference, Qualifier, LocationRow, Feature, Contig, Table}
 use Rattle.spec_format.specs.Location.{Reading, one, none, tooDeep, reading}
 use Rattle.spec_format.specs.Record.{Outcome, Read, Not, most, readAt}
@@ -368,6 +368,17 @@ abbrev pub readAs : Reading → List LocationRow → Bool
 readAs (one ls) rows = same (locationNumbers ls) (locationNumbers rows)
 readAs none rows = true
 readAs tooDeep rows = true
+
+-- each feature's rows, and CONTIG's, are those of its text, where this has a reading
+abbrev pub featureRead : Feature → Bool
+featureRead f = readAs (reading false (f .location)) (f .rows)
+
+abbrev pub contigRead : May Contig → Bool
+contigRead absent = true
+contigRead (is c) = readAs (reading true (c .text)) (c .rows)
+
+unfoldable pub locationsRead : Table → Bool
+locationsRead t = all featureRead (t .features) && contigRead (t .contig)
 
 -- `rows` location rows from `row` on lie in their room and are those of the text; where there are none, they start nowhere
 unfoldable pub locationFine : Bool → Rooms → List ℕ → ℕ → ℕ → Bool
