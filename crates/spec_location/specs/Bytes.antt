@@ -69,7 +69,7 @@ over-byte b h o = record { text = b ∷ o .text; is = ap (λ (z : List ℕ). b �
 
 -- ---- words, and bytes that pass
 
-run-past : (p : ℕ → Bool) (s : List ℕ) → s ≡ run p s ++ past p s
+pub run-past : (p : ℕ → Bool) (s : List ℕ) → s ≡ run p s ++ past p s
 unfolding run past
 run-past p [] = refl
 run-past p (b ∷ s) = go (run-past p s) (p b) refl
@@ -78,7 +78,7 @@ run-past p (b ∷ s) = go (run-past p s) (p b) refl
     go ih true e = cc
     go ih false e = cc
 
-run-all : (p : ℕ → Bool) (s : List ℕ) → all p (run p s) ≡ true
+pub run-all : (p : ℕ → Bool) (s : List ℕ) → all p (run p s) ≡ true
 unfolding run
 run-all p [] = refl
 run-all p (b ∷ s) = go (run-all p s) (p b) refl
