@@ -301,13 +301,13 @@ comma-is form s z h = go (eqb form 4) refl
 
 -- one member and a comma, or the last one
 module _ (k form : ℕ) (p : List ℕ → Found (List LocationRow)) (s : List ℕ) (rows : List LocationRow) (r : List ℕ) where
-  pub members-more : (z : List ℕ) → p s ≡ found rows r → commaIn form r ≡ is z → membersIn (suc k) form p s ≡ ahead rows (membersIn k form p z)
+  pub comma-more : (z : List ℕ) → p s ≡ found rows r → commaIn form r ≡ is z → membersIn (suc k) form p s ≡ ahead rows (membersIn k form p z)
   unfolding membersIn
-  members-more z e f = rw (membersIn, e, andThen, f)
+  comma-more z e f = rw (membersIn, e, andThen, f)
 
-  pub members-last : p s ≡ found rows r → commaIn form r ≡ absent → membersIn (suc k) form p s ≡ found rows r
+  pub comma-last : p s ≡ found rows r → commaIn form r ≡ absent → membersIn (suc k) form p s ≡ found rows r
   unfolding membersIn
-  members-last e f = rw (membersIn, e, andThen, f)
+  comma-last e f = rw (membersIn, e, andThen, f)
 
 members-read :
     (gaps : Bool) (k form : ℕ) (p : List ℕ → Found (List LocationRow)) → ((s : List ℕ) → ReadsRows gaps s (p s)) → (s : List ℕ) →
@@ -321,9 +321,9 @@ members-read gaps (suc k) form p h s = go (λ z. members-read gaps k form p h z)
       where
         inner : (y : May (List ℕ)) → commaIn form r ≡ y → ReadsRows gaps s (membersIn (suc k) form p s)
         inner (is z) f =
-            rw (members-more k form p s rows r z e f)
+            rw (comma-more k form p s rows r z e f)
             (rows-ahead rows (h s .over rows r e) (rows-after (word-over (bytes ",") r refl (comma-is form r z f)) (ih z)))
-        inner absent f = rw (members-last k form p s rows r e f) (rows-found rows (h s .least rows r e) (h s .over rows r e))
+        inner absent f = rw (comma-last k form p s rows r e f) (rows-found rows (h s .least rows r e) (h s .over rows r e))
     go ih fault e = rw (membersIn, e) rows-fault
     go ih deep e = rw (membersIn, e) rows-deep
 
