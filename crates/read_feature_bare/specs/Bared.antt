@@ -1,10 +1,8 @@
 -- The answers of scans over bare texts as readers' answers, and the text that a bare reading gives, as a function of the bytes alone.
 use Prim.Native.Nat.{ℕ, _+_, _≤_, _<_}
 use mathlib.Core.Path.{_≡_}
-use mathlib.Core.Bool.{Bool, _&&_}
 use mathlib.Core.List.{List, [], _++_}
 use lib.ListN.{length, drop}
-use Rattle.spec_format.specs.Bytes.{all, visible}
 use Rattle.spec_format.specs.Readers.{Ans, Got, No, Cut, Turn, more, stop, line}
 use Rattle.spec_format.specs.Features.{bareMore}
 use Rattle.scan_bytes.specs.Places.{part}
@@ -49,24 +47,23 @@ pub record Furthered (s : List ℕ) (at : ℕ) (o : Ans (Turn (List ℕ))) (r : 
   pub place : PastFurther s at r
 
 abbrev pub bareOf : List ℕ → List ℕ → Bare → Ans (List ℕ)
-bareOf s t (bare′.Got n next vis state) = Got t (drop next s)
+bareOf s t (bare′.Got n next state) = Got t (drop next s)
 bareOf s t bare′.No = No
 bareOf s t bare′.Cut = Cut
 
--- the text t comes from bytes from `at` up to `next`; the count and the tests went on from `first`, `seen` and `before`
-pub record BareSpan (s : List ℕ) (at first : ℕ) (seen : Bool) (before : State) (t : List ℕ) (n next : ℕ) (vis : Bool) (state : State) : Type 0 where
+-- the text t comes from bytes from `at` up to `next`; the count and the test went on from `first` and `before`
+pub record BareSpan (s : List ℕ) (at first : ℕ) (before : State) (t : List ℕ) (n next : ℕ) (state : State) : Type 0 where
   pub from : at ≤ next
   pub within : next ≤ length s
   pub long : n ≡ first + length t
   pub short : n + at ≤ next + first
-  pub shown : vis ≡ seen && all visible t
   pub ran : Ran before t state
 
-abbrev pub PastBare : List ℕ → ℕ → ℕ → Bool → State → List ℕ → Bare → Type 0
-PastBare s at first seen before t (bare′.Got n next vis state) = BareSpan s at first seen before t n next vis state
-PastBare s at first seen before t bare′.No = Unit
-PastBare s at first seen before t bare′.Cut = Unit
+abbrev pub PastBare : List ℕ → ℕ → ℕ → State → List ℕ → Bare → Type 0
+PastBare s at first before t (bare′.Got n next state) = BareSpan s at first before t n next state
+PastBare s at first before t bare′.No = Unit
+PastBare s at first before t bare′.Cut = Unit
 
-pub record Bared (s : List ℕ) (at first : ℕ) (seen : Bool) (before : State) (t : List ℕ) (o : Ans (List ℕ)) (r : Bare) : Type 0 where
+pub record Bared (s : List ℕ) (at first : ℕ) (before : State) (t : List ℕ) (o : Ans (List ℕ)) (r : Bare) : Type 0 where
   pub is : bareOf s t r ≡ o
-  pub place : PastBare s at first seen before t r
+  pub place : PastBare s at first before t r
