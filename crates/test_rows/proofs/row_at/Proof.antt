@@ -1,6 +1,6 @@
--- The six numbers from a place on.
+-- The eight numbers from a place on.
 use borrow.Author.Needs.{needs}
-use Rattle.test_rows.specs.Flats.{six-at}
+use Rattle.test_rows.specs.Flats.{eight-at}
 use Rattle.test_rows.proofs.row_at.Statement.{statement}
 use Rattle.test_rows.proofs.row_at.Tie as tie
 
@@ -56,7 +56,7 @@ shared-slice-read-t27 : tie.Need-shared-slice-read-t27
 shared-slice-read-t27 c = search needs
 
 returns : tie.Need-returns
-returns c = six-at _ _ (c .before .before .before .before .before .before .pre)
+returns c = eight-at _ _ (c .before .before .before .before .before .before .pre)
 
 pub row-at-spec : {M : Type 1} → statement M
 row-at-spec =
