@@ -43,10 +43,11 @@ pub record QualifiersPut (s : List ℕ) (at indent : ℕ) (t₀ : List ℕ) (pla
 
 -- ---- all features of a record, which others put one by one
 
--- the n features fs stand from `at` on, and the places after their texts and their qualifiers' rows are ones that a usize can hold
+-- the n features fs stand from `at` on, in a slice that may be read if there is one, and the places after their texts and their qualifiers' rows are ones that a usize can
+-- hold
 pub record Fits (s : List ℕ) (at n place : ℕ) (fs : List Feature) : Type 0 where
   pub within : at ≤ length s
-  pub short : length s ≤ most
+  pub short : 0 < n → length s ≤ most
   pub counted : n ≡ length fs
   pub texts : place + length (each featureText fs) < 2 ^ 64
   pub qualifiers : length (qualifierRows place fs) < 2 ^ 64

@@ -119,7 +119,7 @@ module _ (s : List ℕ) (at n place : ℕ) (t₀ : List ℕ) (l₀ : List Featur
 
   module _ (t : List ℕ) (l : List Feature) (q n′ : List ℕ) (p : Reached) (g : Storing s at n place t₀ l₀ q₀ n₀ t l q n′ p) where
     pub storing-ahead : p .row < n → n < 2 ^ 64 → Ahead s p
-    storing-ahead less m = record { few = g .few; rowed = g .rowed; within = g .within; short = h .short; next = omega arith }
+    storing-ahead less m = record { few = g .few; rowed = g .rowed; within = g .within; short = h .short (omega arith); next = omega arith }
 
     pub storing-on : (t′ q′ n″ : List ℕ) (m : Made) → p .row < n → FeaturePut s p (feature (drop (p .at) s)) t t′ q q′ n′ n″ m →
         length t′ ≡ length t → length q′ ≡ length q → length n″ ≡ length n′ → Storing s at n place t₀ l₀ q₀ n₀ t′ (set l (p .row) (m .row)) q′ n″ (m .reached)

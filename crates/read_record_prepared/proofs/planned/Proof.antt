@@ -38,6 +38,9 @@ same-length-3 c = search needs
 same-length-4 : tie.Need-same-length-4
 same-length-4 c = search needs
 
+same-length-5 : tie.Need-same-length-5
+same-length-5 c = search needs
+
 returns-2 : tie.Need-returns-2
 returns-2 c = search (planned-done, needs)
 
@@ -56,4 +59,5 @@ planned-spec =
     same-length-2
     same-length-3
     same-length-4
+    same-length-5
     returns-2)
