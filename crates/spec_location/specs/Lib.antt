@@ -1,3 +1,4 @@
 pub mod Tests
 pub mod Bytes
 pub mod SoFar
+pub mod Shallow
