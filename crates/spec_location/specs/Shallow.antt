@@ -1,14 +1,14 @@
 -- Where number 14 is not due: what has its reading is not too deep, so neither is a feature or CONTIG that was read.
 use Prim.Native.Nat.{ℕ, zero, suc, _+_, _<_}
 use mathlib.Core.Bool.{Bool, true, false, _&&_, _||_}
-use mathlib.Core.Path.{_≡_, refl, ap, _∙_}
-use mathlib.Core.List.{List, [], _∷_, _++_}
+use mathlib.Core.Path.{_≡_, refl}
+use mathlib.Core.List.{List, [], _∷_}
 use native.Mathlib.Omega.{arith}
 use borrow.Author.Tests.{not-true}
 use lib.ListN.{length}
 use lib.Dec.{eqb}
-use Rattle.spec_format.specs.Bytes.{pick, May, bytes, spaces, some, starts, but, space}
-use Rattle.spec_format.specs.Readers.{Ans, Got, No, Cut, bind, passing, optional, tag, until, until1, spaces1}
+use Rattle.spec_format.specs.Bytes.{May, bytes, spaces, starts, but, space}
+use Rattle.spec_format.specs.Readers.{Ans, Got, No, Cut, passing, optional, tag, until, until1, spaces1}
 use Rattle.spec_format.specs.Table.{Feature, Contig}
 use Rattle.spec_format.specs.Header.{fieldText, fieldBytes}
 use Rattle.spec_format.specs.Features.{kindText, bare, featureFrom, feature}
