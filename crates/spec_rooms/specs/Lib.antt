@@ -3,3 +3,4 @@ pub mod Rows
 pub mod LayoutBack
 pub mod LayoutLengths
 pub mod LayoutFine
+pub mod LocationRows
