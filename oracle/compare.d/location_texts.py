@@ -11,6 +11,9 @@ ODD = ["x", "A.1", "A:1", "A-B.1:1", "A.1:", ".1:5", "A.:5", "A.x:5", "A.1:B.2:5
        "é", "\x7f", ":", "/", "1/2", "9..1", "5..5", "1^7", "5^9", "<5..>5", "[1..5]", "join(1..2", "join(1,2..<5)", "complement(join(1..3,5..x))", "order(1,join)"]
 
 
+SCRAPS = ["1", "2", "0", "9", "12", ".", "..", "^", "<", ">", ",", "(", ")", ":", "_", "A", "A.1:", "9.1:", "-", "+", "/", " ", "x", "join(", "order(", "complement(", "gap(", "bond(", "one-of("]
+
+
 class LocationTexts:
     def __init__(self, r):
         self.r = r
@@ -77,6 +80,8 @@ class LocationTexts:
             return self.good(contig, r.choice([0, 1, 1, 2, 4]))
         if kind < 0.55:
             return self.deep(contig)
-        if kind < 0.7:
+        if kind < 0.65:
             return self.damaged(self.deep(contig))
+        if kind < 0.75:
+            return "".join(r.choice(SCRAPS) for _ in range(r.randint(1, 9)))
         return r.choice(ODD) if kind < 0.8 else self.damaged(self.good(contig, r.choice([0, 1, 2, 3])))

@@ -26,6 +26,10 @@ def read_request(mask, at, data):
     return "R %s %d x%s" % (mask, at, data.hex())
 
 
+def location_request(text):
+    return "L x%s" % text.hex()
+
+
 def write_request(mask, width, truncate, escape, table):
     return "W %s %d %d %d %s" % (mask, width, truncate, escape, table)
 
