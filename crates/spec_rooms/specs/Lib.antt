@@ -4,3 +4,4 @@ pub mod LayoutBack
 pub mod LayoutLengths
 pub mod LayoutFine
 pub mod LocationRows
+pub mod ReadRows
