@@ -8,7 +8,7 @@ ghost use Prim.Native.Nat.{_+_, _-_, _≤_, _<_, _^_};
 ghost use lib.ListN.{length, drop};
 ghost use Rattle.spec_format.specs.Features.{featureFrom, feature};
 ghost use Rattle.scan_bytes.specs.Places.{part};
-ghost use Rattle.read_feature_table.specs.Reads.{Located, featureRest};
+ghost use Rattle.read_feature_table.specs.Reads.{Placed, featureRest};
 ghost use Rattle.read_feature_row.specs.Makes.{noRow, Ahead, RowMade, FeaturePut};
 
 // Where reading goes on; where the next text goes; which row is the next; where the next qualifier's row goes; and how many qualifiers and location rows were put.
@@ -70,7 +70,7 @@ fn make_located(
     qualifiers: &mut [usize],
     reached: Reached,
 ) -> Made
-    requires { ⌜ Ahead (now s) reached × Located (now s) (reached .at) first end location long rows rest ⌝ }
+    requires { ⌜ Ahead (now s) reached × Placed (now s) (reached .at) first end location long rows rest ⌝ }
     ensures { λ r. ⌜ RowMade (now (s .entry)) reached (featureRest (now (s .entry)) (reached .at) first end location rest) (now (texts .entry)) (now (texts .exit)) (now (qualifiers .entry)) (now (qualifiers .exit)) r ⌝ }
 {
     let indent = location - reached.at;
@@ -130,8 +130,8 @@ fn make_kinded(
     ensures { λ r. ⌜ FeaturePut (now (s .entry)) reached (featureFrom (location - reached .at) (part first end (now (s .entry))) (drop location (now (s .entry)))) (now (texts .entry)) (now (texts .exit)) (now (qualifiers .entry)) (now (qualifiers .exit)) (now (locations .entry)) (now (locations .exit)) r ⌝ }
 {
     let indent = location - reached.at;
-    match read_feature_location::location_at(s, location, indent, locations, reached.location) {
-        Located::Got { length, rows, next } => make_located(
+    match read_feature_location::put_location(s, location, indent, locations, reached.location) {
+        Located::Got { length, next, rows } => make_located(
             s,
             first,
             end,
