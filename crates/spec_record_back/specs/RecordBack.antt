@@ -1,20 +1,20 @@
 -- THE ROUND TRIP: what the keeping writer writes of a table, the reader reads back as that table.
 use Prim.Native.Nat.{ℕ, _<_, _≤_}
 use native.Mathlib.Omega.{arith}
-use mathlib.Core.Bool.{Bool, true, false, _&&_, not}
+use mathlib.Core.Bool.{Bool, true, false, _&&_}
 use mathlib.Core.Path.{_≡_, refl, ap, _∙_}
 use mathlib.Core.List.{List, [], _∷_, _++_, append-assoc}
 use lib.ListN.{length}
 use lib.Dec.{leb}
-use borrow.Author.Tests.{leb-true, not-true}
+use borrow.Author.Tests.{leb-true}
 use Rattle.spec_format.specs.Bytes.{May, absent, is, bytes, spaces, starts, all, but, letter}
 use Rattle.spec_format.specs.Utf8.{utf8}
-use Rattle.spec_format.specs.Readers.{Ans, Got, No, Cut, optional, tag, until, lineEnd, whileFits}
+use Rattle.spec_format.specs.Readers.{Ans, Got, No, Cut, optional, tag, lineEnd, whileFits}
 use Rattle.spec_format.specs.Table.{Feature, Contig, Table}
 use Rattle.spec_format.specs.Locus.{preamble, locus}
 use Rattle.spec_format.specs.Header.{fieldBytes, field, reference, source, ignoredLine, headerField, every, textIn}
 use Rattle.spec_format.specs.Features.{featuresHeader}
-use Rattle.spec_format.specs.Deep.{deepFeature, deepContig}
+use Rattle.spec_format.specs.Deep.{deepContig}
 use Rattle.spec_format.specs.Origin.{originTag}
 use Rattle.spec_format.specs.Record.{Outcome, Read, features, baseCount, contig, slashesAt, promised, withLetters, afterOrigin, listOf, middle, deepIn, tableFrom, readRecord}
 use Rattle.spec_format.specs.Write.{locusText, headerLines, featuresLines, contigLines, originLines, written}
@@ -25,10 +25,11 @@ use Rattle.spec_format.specs.Keeping.{switchesKept, locusKept, headerKept, pubm
 use Rattle.spec_loops.specs.Loops.{tries-more, tries-no, tries-cut}
 use Rattle.spec_loops.specs.Shrinks.{lineEnd-small}
 use Rattle.spec_rooms.specs.LocationRows.{rows-are}
+use Rattle.spec_location.specs.Shallow.{shallow-start, shallow-none, shallow-contig, shallow-middle}
 use Rattle.spec_texts_back.specs.Tests.{and-left, and-right}
 use Rattle.spec_record_back.specs.LocusBack.{preamble-back, lengthFits, locus-back}
 use Rattle.spec_record_back.specs.OriginBack.{origin-back, numbered-back}
-use Rattle.spec_texts_back.specs.FieldBack.{contig-back, contig-shallow}
+use Rattle.spec_texts_back.specs.FieldBack.{contig-back}
 use Rattle.spec_record_back.specs.ReferenceBack.{refused, is-no}
 use Rattle.spec_record_back.specs.HeaderBack.{fieldsOf, header-back, definition-is, accession-is, version-is, dblink-is}
 use Rattle.spec_record_back.specs.HeaderBack.{keywords-is, source-is, references-are, comments-are, definitions-are, mayList}
@@ -90,6 +91,13 @@ no-contig : (l s : List ℕ) → contig (originLines l ++ (bytes "//\n" ++ s)) �
 unfolding fieldBytes tag
 no-contig l s = is-no _ (origin-test (λ s. refused (contig s)) (record { slashes = λ y. refl; origin = λ y. refl }) l s)
 
+no-word : (l s : List ℕ) → tag (bytes "CONTIG") (originLines l ++ (bytes "//\n" ++ s)) ≡ No
+unfolding tag
+no-word l s = is-no _ (origin-test (λ s. refused (tag (bytes "CONTIG") s)) (record { slashes = λ y. refl; origin = λ y. refl }) l s)
+
+origin-start : (l s : List ℕ) → starts (but 32) (originLines l ++ (bytes "//\n" ++ s)) ≡ true
+origin-start l s = origin-test (starts (but 32)) (record { slashes = λ y. refl; origin = λ y. refl }) l s
+
 no-further : (l s : List ℕ) → tag (spaces 12) (originLines l ++ (bytes "//\n" ++ s)) ≡ No
 unfolding tag
 no-further l s = is-no _ (origin-test (λ s. refused (tag (spaces 12) s)) (record { slashes = λ y. refl; origin = λ y. refl }) l s)
@@ -123,13 +131,17 @@ features-section W [] c l s w h k rows = features-none W c l s
 features-section W (f ∷ fs) c l s w h k rows =
     rw (table-back W f fs (contigLines W c ++ (originLines l ++ (bytes "//\n" ++ s))) w (contig-start W c l s) h k rows)
 
+contig-there :
+    (W : ℕ) (c : Contig) (l s : List ℕ) → contigFine c ≡ true → contigRead (is c) ≡ true →
+    contig (contigLines W (is c) ++ (originLines l ++ (bytes "//\n" ++ s))) ≡ Got c (originLines l ++ (bytes "//\n" ++ s))
+contig-there W c l s h e = contig-back W (originLines l ++ (bytes "//\n" ++ s)) (no-further l s) c h (rows-are true (c .text) (c .rows) e h)
+
 contig-section :
     (W : ℕ) (c : May Contig) (l s : List ℕ) → ifIs contigFine c ≡ true → contigRead c ≡ true →
     optional (contigLines W c ++ (originLines l ++ (bytes "//\n" ++ s))) (contig (contigLines W c ++ (originLines l ++ (bytes "//\n" ++ s)))) ≡
     Got c (originLines l ++ (bytes "//\n" ++ s))
 contig-section W absent l s h e = rw (no-contig l s)
-contig-section W (is c) l s h e =
-    rw (contig-back W (originLines l ++ (bytes "//\n" ++ s)) (no-further l s) c h (rows-are true (c .text) (c .rows) e h))
+contig-section W (is c) l s h e = rw (contig-there W c l s h e)
 
 middle-steps :
     (fs : List Feature) (c : May Contig) (s s₁ s₂ : List ℕ) → optional s (features s) ≡ Got (mayFeatures fs) s₁ → baseCount s₁ ≡ No →
@@ -139,26 +151,12 @@ middle-steps fs c s s₁ s₂ e₁ e₂ e₃ = rw (e₁, e₂, e₃, list-of fs)
 
 -- ---- number 14 is not due
 
-deep-steps :
-    (fs : List Feature) (s s₁ : List ℕ) → optional s (features s) ≡ Got (mayFeatures fs) s₁ → deepFeature s₁ ≡ false → baseCount s₁ ≡ No →
-    deepContig s₁ ≡ false → deepIn s ≡ false
-unfolding deepIn
-deep-steps [] s s₁ e f n c = rw (e, n) c
-deep-steps (x ∷ fs) s s₁ e f n c = rw (e, f, n) c
-
-not-deep-feature : (s : List ℕ) → starts (but 32) s ≡ true → deepFeature s ≡ false
-unfolding deepFeature until
-not-deep-feature [] h = cc
-not-deep-feature (b ∷ s) h = rw (h, until)
-
-origin-shallow : (l s : List ℕ) → deepContig (originLines l ++ (bytes "//\n" ++ s)) ≡ false
-unfolding deepContig tag
-origin-shallow l s = not-true _ (origin-test (λ s. not (deepContig s)) (record { slashes = λ y. refl; origin = λ y. refl }) l s)
-
-not-deep-contig :
-    (W : ℕ) (c : May Contig) (l s : List ℕ) → ifIs contigFine c ≡ true → deepContig (contigLines W c ++ (originLines l ++ (bytes "//\n" ++ s))) ≡ false
-not-deep-contig W absent l s h = origin-shallow l s
-not-deep-contig W (is c) l s h = contig-shallow W (originLines l ++ (bytes "//\n" ++ s)) (no-further l s) c h
+contig-shallow :
+    (W : ℕ) (c : May Contig) (l s : List ℕ) → ifIs contigFine c ≡ true → contigRead c ≡ true →
+    deepContig (contigLines W c ++ (originLines l ++ (bytes "//\n" ++ s))) ≡ false
+contig-shallow W absent l s h e = shallow-none (originLines l ++ (bytes "//\n" ++ s)) (no-word l s)
+contig-shallow W (is c) l s h e =
+    shallow-contig (contigLines W (is c) ++ (originLines l ++ (bytes "//\n" ++ s))) c (originLines l ++ (bytes "//\n" ++ s)) (contig-there W c l s h e) (origin-start l s)
 
 -- ---- from ORIGIN to the record's end
 
@@ -305,7 +303,8 @@ record-back W t rest w r n =
     (record-steps t (locusText false false t ++ s₁) s₁ s₂ s₃ (slashesAt t (bytes "//\n" ++ rest)) (preamble-none t s₁) (locus-back t s₁ (r .locusFine′) (r .locusKept′) n)
     (header-back W t s₂ (r .headerKept′) (r .headerUtf8) (r .pubmed) (features-start W (t .features) (t .contig) (t .letters) rest)
     (no-header W (t .features) (t .contig) (t .letters) rest))
-    (deep-steps (t .features) s₂ z f (not-deep-feature z (contig-start W (t .contig) (t .letters) rest)) c (not-deep-contig W (t .contig) (t .letters) rest (r .contigFine′)))
+    (shallow-middle s₂ (mayFeatures (t .features)) z f (shallow-start z (contig-start W (t .contig) (t .letters) rest)) c
+    (contig-shallow W (t .contig) (t .letters) rest (r .contigFine′) (r .contigRead′)))
     (middle-steps (t .features) (t .contig) s₂ z s₃ f c (contig-section W (t .contig) (t .letters) rest (r .contigFine′) (r .contigRead′)))
     o)
 

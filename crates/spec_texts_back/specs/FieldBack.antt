@@ -13,15 +13,13 @@ use Rattle.spec_format.specs.Readers.{Got, No, tag, line, many0}
 use Rattle.spec_format.specs.Header.{lineAfter, concatLines, furtherLine, fieldText, fieldBytes, field}
 use Rattle.spec_format.specs.Record.{contigOf, contig}
 use Rattle.spec_format.specs.Table.{Contig}
-use Rattle.spec_format.specs.Location.{Reading, one, none, tooDeep, reading, isOne, isDeep, locates, rowsIn}
-use Rattle.spec_format.specs.Deep.{deepContig}
+use Rattle.spec_format.specs.Location.{locates, rowsIn}
 use Rattle.spec_format.specs.Wrap.{wrapText, breakAt, commaLines, wrapLocation}
 use Rattle.spec_format.specs.Write.{padded, fieldLines, contigLines}
 use Rattle.spec_format.specs.Keeping.{linesKept, headerKept}
 use Rattle.spec_loops.specs.Loops.{many0-more, many0-stop}
 use Rattle.spec_loops.specs.Shrinks.{further-small}
 use Rattle.spec_location.specs.Bytes.{locates-visible}
-use Rattle.spec_location.specs.SoFar.{soFar-text}
 use Rattle.spec_texts_back.specs.Tests.{and-left, and-right, all-head, all-tail, all-left, all-right, all-imp}
 use Rattle.spec_texts_back.specs.Pieces.{tag-back, spaces-back, noEnd, visible-noEnd, visible-but}
 use Rattle.spec_texts_back.specs.WrapKept.{laid, wrapped-kept}
@@ -166,7 +164,7 @@ pub field-back :
     (keep || all (but 10) t) ≡ true → tag (spaces 12) rest ≡ No →
     field indent word keep (fieldLines W (spaces indent ++ word) t ++ rest) ≡ Got t rest
 unfolding field headerKept
-field-back W indent word t rest keep h k u whole stops =
+field-back W indent word t rest keep h k u one stops =
     let kept : linesKept false W 12 12 t ≡ true = and-left (linesKept false W 12 12 t) _ k in
     let g : ℕ = 11 - (indent + length word) in
     let e : indent + suc g + length word ≡ 12 = omega arith in
@@ -174,7 +172,7 @@ field-back W indent word t rest keep h k u whole stops =
     rw (
       lines-are W indent word t rest h kept,
       bytes-steps indent g word x t rest keep e (laid-starts t rest (and-right (linesKept false W 12 12 t) _ k))
-          (text-back W keep rest stops 12 t kept whole),
+          (text-back W keep rest stops 12 t kept one),
       u,
     )
 
@@ -226,11 +224,6 @@ commas-starts W (suc n) used t rest h = go (leb (used + length t) W) refl
 contig-steps : (s t r : List ℕ) → fieldBytes 0 (bytes "CONTIG") false s ≡ Got t r → locates true t ≡ true → contig s ≡ Got (contigOf t) r
 contig-steps s t r e h = rw (e, h)
 
-one-shallow : (o : Reading) → isOne o ≡ true → isDeep o ≡ false
-one-shallow (one rows) h = refl
-one-shallow none h = refl
-one-shallow tooDeep h = impossible cc
-
 module _ (W : ℕ) (rest : List ℕ) (stops : tag (spaces 12) rest ≡ No) where
   line-alone : (t : List ℕ) → all visible t ≡ true → Lines 12 false (t ++ 10 ∷ rest) t rest
   line-alone t h =
@@ -253,32 +246,14 @@ module _ (W : ℕ) (rest : List ℕ) (stops : tag (spaces 12) rest ≡ No) where
           (all-imp visible noEnd visible-noEnd (take k t) (all-take visible k t h))
           (text-line 12 false (commaLines n W 12 12 (drop k t) ++ rest) (drop k t) rest l)))
 
-  -- CONTIG's lines, from its text on
-  record Laid (t : List ℕ) : Type 0 where
-    first : starts (but 32) (commaLines (length t) W 12 12 t ++ rest) ≡ true
-    lines : Lines 12 false (commaLines (length t) W 12 12 t ++ rest) t rest
-
-  contig-laid : (t : List ℕ) → locates true t ≡ true → Laid t
-  contig-laid t h =
-      let v : all visible t ≡ true = locates-visible true t h in
-      record { first = commas-starts W (length t) 12 t rest v; lines = commas-back (length t) 12 t v }
-
   -- CONTIG is read as it was written, with the rows of its text
   pub contig-back : (c : Contig) → locates true (c .text) ≡ true → c .rows ≡ rowsIn true (c .text) → contig (contigLines W (is c) ++ rest) ≡ Got c rest
   unfolding wrapLocation
   contig-back c h e =
       let t : List ℕ = c .text in
-      let l : Laid t = contig-laid t h in
+      let v : all visible t ≡ true = locates-visible true t h in
       let x : List ℕ = commaLines (length t) W 12 12 t ++ rest in
       let o : contigOf t ≡ c = rw e in
-      rw o at (contig-steps (bytes "CONTIG      " ++ x) t rest (bytes-steps 0 5 (bytes "CONTIG") x t rest false refl (l .first) (l .lines)) h)
-
-  -- and number 14 is not due there
-  pub contig-shallow : (c : Contig) → locates true (c .text) ≡ true → deepContig (contigLines W (is c) ++ rest) ≡ false
-  unfolding wrapLocation deepContig
-  contig-shallow c h =
-      let t : List ℕ = c .text in
-      let l : Laid t = contig-laid t h in
-      let x : List ℕ = commaLines (length t) W 12 12 t ++ rest in
-      rw (tag-back (bytes "CONTIG") (spaces 6 ++ x), spaces-back 5 x (l .first), soFar-text 12 x t rest (text-is 12 false x t rest (l .lines)) stops)
-      (one-shallow (reading true t) h)
+      rw o at
+      (contig-steps (bytes "CONTIG      " ++ x) t rest
+      (bytes-steps 0 5 (bytes "CONTIG") x t rest false refl (commas-starts W (length t) 12 t rest v) (commas-back (length t) 12 t v)) h)
