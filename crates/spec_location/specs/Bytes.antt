@@ -292,7 +292,7 @@ module _ {gaps : Bool} {s : List ℕ} where
       go fault e = rows-fault
       go deep e = rows-deep
 
-comma-is : (form : ℕ) (s z : List ℕ) → commaIn form s ≡ is z → behind (bytes ",") s ≡ is z
+pub comma-is : (form : ℕ) (s z : List ℕ) → commaIn form s ≡ is z → behind (bytes ",") s ≡ is z
 comma-is form s z h = go (eqb form 4) refl
   where
     go : (x : Bool) → eqb form 4 ≡ x → behind (bytes ",") s ≡ is z
