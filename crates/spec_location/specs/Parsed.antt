@@ -14,7 +14,7 @@ use Rattle.spec_format.specs.Location.{inAccession, versionColon, accession, le
 use Rattle.spec_format.specs.Location.{closedBy, closed, ahead, commaIn, membersIn, single, locationFrom, location}
 use Rattle.spec_format.specs.Impossible.{impossible}
 use Rattle.spec_location.specs.Tests.{and-left, and-right}
-use Rattle.spec_location.specs.Bytes.{run-past, run-all, behind-is, comma-is, comma-more, comma-last}
+use Rattle.spec_location.specs.Bytes.{run-past, run-all, behind-is, comma-is, members-more, members-last}
 use Rattle.spec_location.specs.Decimals.{written-back, written-least}
 use Rattle.spec_location.specs.Grammar.{Bases, base, range, between, Accession, Tree, leaf as leafTree, gap, complement, join, order, Trees, last, before, basesText, accessionText, printed, printedAll}
 use Rattle.spec_location.specs.Grammar.{basesRow, closing, rowsAt, rowsAtAll, numberFine, basesFine, accessionFine, proper, properAll, nested, nestedAll}
@@ -332,9 +332,9 @@ module _ (gaps : Bool) (n left form : ℕ) (p : List ℕ → Found (List Locatio
           rest z deep g a b = impossible cc
 
           comma : (o : May (List ℕ)) → commaIn form y ≡ o → ParsedAll gaps n left form s rows r
-          comma (is z) g = rest z (membersIn k form p z) g refl (sym (comma-more k form p s l y z f g) ∙ e)
+          comma (is z) g = rest z (membersIn k form p z) g refl (sym (members-more k form p s l y z f g) ∙ e)
           comma absent g =
-              let a : found l y ≡ found rows r = sym (comma-last k form p s l y f g) ∙ e in
+              let a : found l y ≡ found rows r = sym (members-last k form p s l y f g) ∙ e in
               let u : l ≡ rows = cc in
               let v : y ≡ r = cc in rw (← u, ← v) (all-last gaps n left form s l y (h s l y f))
       go ih fault f = impossible (cc (rw (membersIn, f) at e))

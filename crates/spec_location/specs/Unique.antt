@@ -21,18 +21,18 @@ printed-reads gaps t h d =
     ap whole e
 
 -- and nothing else is read
-pub record Reads (gaps : Bool) (x : List ℕ) (rows : List LocationRow) : Type 0 where
+pub record PrintedBy (gaps : Bool) (x : List ℕ) (rows : List LocationRow) : Type 0 where
   pub tree : Tree
   pub text : printed tree ≡ x
   pub fine : proper gaps tree ≡ true
   pub depth : nested tree ≤ 16
   pub rows-are : rows ≡ rowsAt 0 tree
 
-pub reads-printed : (gaps : Bool) (x : List ℕ) (rows : List LocationRow) → reading gaps x ≡ one rows → Reads gaps x rows
+pub reads-printed : (gaps : Bool) (x : List ℕ) (rows : List LocationRow) → reading gaps x ≡ one rows → PrintedBy gaps x rows
 unfolding reading
 reads-printed gaps x rows h = go (location gaps (length x) 16 x) refl h
   where
-    go : (o : Found (List LocationRow)) → location gaps (length x) 16 x ≡ o → whole o ≡ one rows → Reads gaps x rows
+    go : (o : Found (List LocationRow)) → location gaps (length x) 16 x ≡ o → whole o ≡ one rows → PrintedBy gaps x rows
     go (found l []) e f =
         let p : Parsed gaps (length x) 16 x l [] = location-is gaps (length x) 16 x l [] e in
         let u : l ≡ rows = cc in
