@@ -30,34 +30,39 @@ use mathlib.Core.Path.{_≡_, refl}
 use mathlib.Core.List.{List, [], _∷_}
 use lib.Dec.{eqb}
 use Rattle.spec_format.specs.Bytes.{bytes, May, absent, is, pick, same, among}
-use Rattle.spec_format.specs.Table.{Locus, Source, Reference, Qualifier, Feature, Table}
-use Rattle.spec_format.specs.Record.{Outcome, Read, Not, number, placeWith}
+use Rattle.spec_format.specs.Table.{Locus, Source, Reference, Qualifier, LocationRow, Feature, Contig, Table}
+use Rattle.spec_format.specs.Record.{Outcome, Read, Not, most}
+use Rattle.spec_format.specs.Numbers.{unreadNumber, unreadPlace, writeNumber}
 use Rattle.spec_format.specs.declared.Dated.the-variants as dated
-use Rattle.spec_format.specs.declared.Unread.the-variants as unread
 %s
 -- a refusal: its number and what is returned with it
 abbrev refusal : ℕ → Outcome → List ℕ
 refusal at (Read t r) = []
-refusal at (Not u) = number u ∷ placeWith u at ∷ []
+refusal at (Not u) = unreadNumber u ∷ unreadPlace u at ∷ []
 
 -- refused with one of these numbers and the place given
 abbrev refusedBy : List (List ℕ) → ℕ → Outcome → Bool
 refusedBy numbers at (Read t r) = false
-refusedBy numbers at (Not u) = pick (eqb (placeWith u at) at) (among (number u ∷ []) numbers) false
+refusedBy numbers at (Not u) = pick (eqb (unreadPlace u at) at) (among (unreadNumber u ∷ []) numbers) false
 
--- both writers' numbers and the bytes
-pub data Written : Type 0 where
-  Refused : ℕ → Written
-  Wrote : ℕ → List ℕ → Written
+-- both writers' numbers for a table that lies in rooms, its location rows right or wrong, and the bytes of the one that lies there
+abbrev numbers : ℕ → Bool → Bool → Table → List ℕ
+numbers w truncate escape t =
+  writeNumber (Answers.plainAnswer w truncate escape (Rooms.layout t) (Rooms.headOf t) most) ∷
+  writeNumber (Answers.keepingAnswer w truncate escape (Rooms.layout t) (Rooms.headOf t) most) ∷ []
 
-abbrev writing : ℕ → Bool → Bool → Table → Written
-writing w truncate escape t =
-  pick (WellFormed.wellFormed w truncate escape t)
-  (Wrote (pick (Keeping.keeps w truncate escape t) 0 13) (Write.written w truncate escape t)) (Refused 11)
+abbrev bytesOf : ℕ → Bool → Bool → Table → List ℕ
+bytesOf w truncate escape t = Write.written w truncate escape (Rooms.tableOf (Rooms.layout t) (Rooms.headOf t))
 """
 
 
 # ---- what can be stated
+
+def location(contig, text, found):
+    """The reading of a location's text: rows, or "none", or "deep"."""
+    answer = {"none": "Location.none", "deep": "Location.tooDeep"}[found] if isinstance(found, str) else "Location.one %s" % tables.antt_rows(found)
+    return "Location.reading %s %s ≡ %s" % (tables.antt_bool(contig), tables.antt_bytes(text), answer)
+
 
 def reads(data, at, table, place):
     return "Record.readAt %s %d ≡ Read %s %s" % (tables.antt_bytes(data), at, tables.antt_table(table), tables.antt_bytes(data[place:]))
@@ -73,15 +78,15 @@ def refuses_by(data, at, numbers):
 
 
 def _writing(width, truncate, escape, table):
-    return "writing %d %s %s %s" % (width, tables.antt_bool(truncate), tables.antt_bool(escape), tables.antt_table(table))
+    return "%d %s %s %s" % (width, tables.antt_bool(truncate), tables.antt_bool(escape), tables.antt_table(table))
 
 
-def writes(width, truncate, escape, table, keeping, data):
-    return "%s ≡ Wrote %d %s" % (_writing(width, truncate, escape, table), keeping, tables.antt_bytes(data))
+def writes(width, truncate, escape, table, data):
+    return "bytesOf %s ≡ %s" % (_writing(width, truncate, escape, table), tables.antt_bytes(data))
 
 
-def writes_not(width, truncate, escape, table):
-    return "%s ≡ Refused 11" % _writing(width, truncate, escape, table)
+def numbers(width, truncate, escape, table, plain, keeping):
+    return "numbers %s ≡ %d ∷ %d ∷ []" % (_writing(width, truncate, escape, table), plain, keeping)
 
 
 # ---- the definitions
@@ -104,7 +109,7 @@ def _needed():
 
 def _unfoldable():
     """What must be unfolded for the definitions below to compute: all that can be, in their modules and those they use."""
-    wanted, texts = ["Record", "Write", "WellFormed", "Keeping"], {}
+    wanted, texts = ["Answers"], {}
     while wanted:
         module = wanted.pop()
         path = REPOSITORY / "crates" / "spec_format" / "specs" / (module + ".antt")
@@ -136,12 +141,12 @@ class Prover:
         for part in ("src", "specs"):
             (crate / part).mkdir(parents=True, exist_ok=True)
         (crate / "src" / "lib.rt").write_text(LIBRARY)
-        (crate / "specs" / "Lib.antt").write_text("pub mod Answers\n")
+        (crate / "specs" / "Lib.antt").write_text("pub mod Held\n")
         modules = sorted({n.split(".")[0] for n in self.names})
         text = [OPENING % "".join("use Rattle.spec_format.specs.%s as %s\n" % (m, m) for m in modules)]
         for i, statement in statements:
             text.append("case%d : %s\nunfolding %s\ncase%d = refl\n" % (i, statement, " ".join(self.names), i))
-        (crate / "specs" / "Answers.antt").write_text("\n".join(text))
+        (crate / "specs" / "Held.antt").write_text("\n".join(text))
 
     def _check(self, crates):
         listed = ["%s:%s" % item for item in self.needed.items()] + ["%s: spec_format" % name for name in crates]

@@ -1,4 +1,4 @@
--- Rows of texts: each piece that was laid out is read again from its row and the store, and stands inside the store.
+-- Rows: each piece that was laid out is read again from its row and the store, and stands inside the store; and rows of numbers alone stand one after the other.
 use Prim.Native.Nat.{ℕ, zero, suc, _+_, _-_, _*_}
 use native.Mathlib.Omega.{arith}
 use native.Mathlib.Nat.{add-comm}
@@ -9,7 +9,7 @@ use mathlib.Core.List.{List, [], _∷_}
 use lib.ListN.{length, getD, length-append}
 use lib.Dec.{eqb}
 use borrow.Author.Tests.{ne-eqb}
-use Rattle.spec_format.specs.Bytes.{pick, absent, is}
+use Rattle.spec_format.specs.Bytes.{pick, absent, is, each}
 use Rattle.spec_format.specs.Rooms.{Piece, always, perhaps, pieceText, pieceRow, piecesText, piecesRow, textsOf, rowsOf, spanFine, textIn, perhapsIn, rowsFrom, rowsFine}
 use Rattle.spec_rooms.specs.Held.{Held, held-left, held-right, held-head, held-tail, held-cut, held-fine, held-at}
 
@@ -107,6 +107,20 @@ module _ {A : Type 0} (f : A → List Piece) (w : ℕ) (wide : (x : A) (start : 
         row-good S R (w * i) (f x) start 0 (held-left S start (piecesText (f x)) (textsOf f xs) h) (held-left R (w * i) row (rowsOf f n xs) k),
         rows-good S R xs n (i + 1) (held-right S start (piecesText (f x)) (textsOf f xs) h)
             (held-at R _ _ (rowsOf f n xs) e (held-right R (w * i) row (rowsOf f n xs) k)),
+      )
+
+-- rows of w numbers, no texts among them
+module _ {A : Type 0} (g : A → List ℕ) (w : ℕ) (wide : (x : A) → length (g x) ≡ w) where
+  pub numbers-long : (xs : List A) → length (each g xs) ≡ w * length xs
+  numbers-long [] = simp unary-clauses
+  numbers-long (x ∷ xs) = rw (length-append (g x) (each g xs), wide x, numbers-long xs) (simp unary-clauses (add-comm w (w * length xs)))
+
+  pub numbers-held : (R : List ℕ) (xs : List A) (i : ℕ) → Held R (w * i) (each g xs) → EachRow (λ at x. Held R at (g x)) w i xs
+  numbers-held R [] i h = tt
+  numbers-held R (x ∷ xs) i h =
+      let e : w * i + length (g x) ≡ w * (i + 1) = rw (wide x) (simp unary-clauses) in (
+        held-left R (w * i) (g x) (each g xs) h,
+        numbers-held R xs (i + 1) (held-at R _ _ (each g xs) e (held-right R (w * i) (g x) (each g xs) h)),
       )
 
 module _ {A : Type 0} (P : ℕ → A → Type 0) (w : ℕ) where
