@@ -4,6 +4,8 @@ ghost use mathlib.Core.Path.{_≡_};
 ghost use Prim.Native.Nat.{_≤_, _<_};
 ghost use lib.ListN.{length, drop};
 ghost use Rattle.spec_format.specs.Location.{behind, inAccession, inGap};
+ghost use Rattle.spec_format.specs.Deep.{inLine, furtherStart};
+ghost use Rattle.scan_bytes.specs.Views.{Stepped};
 ghost use Rattle.scan_location_bytes.specs.Views.{overLines, view, lineFurther, inClass, Ready, Further, Peeked, Reached, Ran};
 
 // How a location's text lies in a slice: in one piece, or over lines with this indent, a feature's or CONTIG's.
@@ -27,31 +29,48 @@ pub enum Peek {
     Byte { byte: u8, next: usize },
 }
 
-// From a line's end to where a further line of the text starts.
+// The start of a further line of the text: the indent, and in a feature any byte but a slash.
+fn further_start(s: &[u8], contig: bool, indent: usize, at: usize) -> Step
+    requires { ⌜ at ≤ length (now s) ⌝ }
+    ensures { λ r. ⌜ Stepped (now (s .entry)) at (furtherStart contig indent (drop at (now (s .entry)))) r ⌝ }
+{
+    match scan_bytes::indent(s, at, indent) {
+        Step::Got(i) => {
+            if contig {
+                return Step::Got(i);
+            }
+            if s.len() <= i {
+                return Step::No;
+            }
+            if s[i] == b'/' {
+                return Step::No;
+            }
+            Step::Got(i)
+        }
+        Step::No => Step::No,
+        Step::Cut => Step::Cut,
+    }
+}
+
+// From a line's end to the start of a further line.
 fn further_line(s: &[u8], contig: bool, indent: usize, at: usize) -> Step
     requires { ⌜ at ≤ length (now s) ⌝ }
     ensures { λ r. ⌜ Further (now (s .entry)) at (lineFurther contig indent (drop at (now (s .entry)))) r ⌝ }
 {
     match scan_bytes::line_end(s, at) {
-        Step::Got(n) => match scan_bytes::indent(s, n, indent) {
-            Step::Got(i) => {
-                if contig {
-                    return Step::Got(i);
-                }
-                if s.len() <= i {
-                    return Step::No;
-                }
-                if s[i] == b'/' {
-                    return Step::No;
-                }
-                Step::Got(i)
-            }
-            Step::No => Step::No,
-            Step::Cut => Step::Cut,
-        },
+        Step::Got(n) => further_start(s, contig, indent, n),
         Step::No => Step::No,
         Step::Cut => Step::Cut,
     }
+}
+
+fn is_in_line(b: u8) -> bool
+    ensures { λ r. ⌜ r ≡ inLine b ⌝ }
+{
+    if b == b'\r' {
+        return false;
+    }
+    b != b'\n'
 }
 
 // The next byte of a text over lines. A line may hold nothing after its indent.
@@ -62,13 +81,11 @@ fn byte_in_lines(s: &[u8], contig: bool, indent: usize, at: usize) -> Peek
     let mut i = at;
     while i < s.len() {
         let b = s[i];
-        if b != b'\n' {
-            if b != b'\r' {
-                return Peek::Byte {
-                    byte: b,
-                    next: i + 1,
-                };
-            }
+        if is_in_line(b) {
+            return Peek::Byte {
+                byte: b,
+                next: i + 1,
+            };
         }
         match further_line(s, contig, indent, i) {
             Step::Got(n) => {
