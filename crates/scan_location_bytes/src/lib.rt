@@ -176,10 +176,13 @@ fn in_accession(b: u8) -> bool
 fn in_gap(b: u8) -> bool
     ensures { λ r. ⌜ r ≡ inGap b ⌝ }
 {
-    if !scan_bytes::is_visible(b) {
-        return false;
+    if scan_bytes::is_visible(b) {
+        if b == b'(' {
+            return false;
+        }
+        return b != b')';
     }
-    b != b'(' && b != b')'
+    false
 }
 
 fn in_class(class: Class, b: u8) -> bool
@@ -202,11 +205,12 @@ pub fn past_run(s: &[u8], laid: Laid, spot: Spot, class: Class) -> Spot
     loop {
         match byte_at(s, laid, at) {
             Peek::Byte { byte, next } => {
-                if !in_class(class, byte) {
+                if in_class(class, byte) {
+                    at = next;
+                    off += 1;
+                } else {
                     return Spot { at, off };
                 }
-                at = next;
-                off += 1;
             }
             Peek::End => {
                 return Spot { at, off };

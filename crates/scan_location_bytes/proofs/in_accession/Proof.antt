@@ -1,30 +1,23 @@
-use Prim.Native.Nat.{ℕ, suc, _+_, _-_, _*_, _/_, _%_, _≤_, _<_}
-use mathlib.Core.Path.{_≡_, refl, sym, ap, _∙_}
-use lib.ListN.{length, getD, take, drop, set}
-use native.Mathlib.Omega.{arith}
-use denote.Ref.{now}
+-- `scan_location_bytes::in_accession` meets its contract. Assumes nothing.
+use Rattle.scan_location_bytes.proofs.Words.{testing}
 use borrow.Author.Needs.{needs}
 use Rattle.scan_location_bytes.proofs.in_accession.Statement.{statement}
 use Rattle.scan_location_bytes.proofs.in_accession.Tie as tie
-use Rattle.scan_location_bytes.proofs.in_accession.Reads as reads
-use Rattle.scan_location_bytes.proofs.in_accession.Lts as lts
-use Rattle.scan_bytes.proofs.is_digit.Reads as is-digit-reads
-use Rattle.scan_bytes.proofs.is_letter.Reads as is-letter-reads
 
 is-letter-requires : tie.Need-is-letter-requires
-is-letter-requires c κs = search needs
+is-letter-requires c κs = search (testing, needs)
 
 returns : tie.Need-returns
-returns c = search needs
+returns c = search (testing, needs)
 
 is-digit-requires : tie.Need-is-digit-requires
-is-digit-requires c κs = search needs
+is-digit-requires c κs = search (testing, needs)
 
 returns-2 : tie.Need-returns-2
-returns-2 c = search needs
+returns-2 c = search (testing, needs)
 
 returns-3 : tie.Need-returns-3
-returns-3 c = search needs
+returns-3 c = search (testing, needs)
 
 pub in-accession-spec : {M : Type 1} → statement M
 in-accession-spec =

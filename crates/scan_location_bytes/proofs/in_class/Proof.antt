@@ -1,43 +1,35 @@
-use Prim.Native.Nat.{ℕ, suc, _+_, _-_, _*_, _/_, _%_, _≤_, _<_}
-use mathlib.Core.Path.{_≡_, refl, sym, ap, _∙_}
-use lib.ListN.{length, getD, take, drop, set}
-use native.Mathlib.Omega.{arith}
-use denote.Ref.{now}
+-- `scan_location_bytes::in_class` meets its contract. Assumes nothing.
+use Rattle.scan_location_bytes.proofs.Words.{classes}
 use borrow.Author.Needs.{needs}
 use Rattle.scan_location_bytes.proofs.in_class.Statement.{statement}
 use Rattle.scan_location_bytes.proofs.in_class.Tie as tie
-use Rattle.scan_location_bytes.proofs.in_class.Reads as reads
-use Rattle.scan_location_bytes.proofs.in_class.Lts as lts
-use Rattle.scan_bytes.proofs.is_digit.Reads as is-digit-reads
-use Rattle.scan_location_bytes.proofs.in_accession.Reads as in-accession-reads
-use Rattle.scan_location_bytes.proofs.in_gap.Reads as in-gap-reads
 
 enum-told : tie.Need-enum-told
-enum-told c = search needs
+enum-told c = search (classes, needs)
 
 is-digit-requires : tie.Need-is-digit-requires
-is-digit-requires c κs = search needs
+is-digit-requires c κs = search (classes, needs)
 
 enum-told-2 : tie.Need-enum-told-2
-enum-told-2 c = search needs
+enum-told-2 c = search (classes, needs)
 
 in-accession-requires : tie.Need-in-accession-requires
-in-accession-requires c κs = search needs
+in-accession-requires c κs = search (classes, needs)
 
 enum-told-3 : tie.Need-enum-told-3
-enum-told-3 c = search needs
+enum-told-3 c = search (classes, needs)
 
 in-gap-requires : tie.Need-in-gap-requires
-in-gap-requires c κs = search needs
+in-gap-requires c κs = search (classes, needs)
 
 returns : tie.Need-returns
-returns c = search needs
+returns c = search (classes, needs)
 
 returns-2 : tie.Need-returns-2
-returns-2 c = search needs
+returns-2 c = search (classes, needs)
 
 returns-3 : tie.Need-returns-3
-returns-3 c = search needs
+returns-3 c = search (classes, needs)
 
 pub in-class-spec : {M : Type 1} → statement M
 in-class-spec =
