@@ -38,16 +38,16 @@ fn digit_at(s: &[u8], laid: Laid, spot: Spot) -> Digit
 {
     match byte_at(s, laid, spot.at) {
         Peek::Byte { byte, next } => {
-            if !scan_bytes::is_digit(byte) {
-                return Digit::None;
+            if scan_bytes::is_digit(byte) {
+                return Digit::Is {
+                    value: (byte - b'0') as usize,
+                    spot: Spot {
+                        at: next,
+                        off: spot.off + 1,
+                    },
+                };
             }
-            Digit::Is {
-                value: (byte - b'0') as usize,
-                spot: Spot {
-                    at: next,
-                    off: spot.off + 1,
-                },
-            }
+            Digit::None
         }
         Peek::End => Digit::None,
     }
