@@ -1,5 +1,5 @@
 -- Base numbers, law by law, in the form in which the needs have their facts. Assumes nothing.
-use Prim.Native.Nat.{ℕ, _+_, _-_, _*_, _≤_, _<_}
+use Prim.Native.Nat.{ℕ, _+_, _-_, _*_, _^_, _≤_, _<_}
 use mathlib.Core.Path.{_≡_, refl, sym, ap, _∙_}
 use mathlib.Core.Bool.{Bool, true, false, _&&_, not}
 use mathlib.Core.List.{List, [], _∷_}
@@ -88,15 +88,18 @@ number-digit : (v d : ℕ) (ds : List ℕ) → number v ((48 + d) ∷ ds) ≡ nu
 unfolding number
 number-digit v d ds = let e : 48 + d - 48 ≡ d = omega arith in rw e
 
-module _ (laid : Laid) (s : List ℕ) (p : Spot) (v d : ℕ) (q : Spot) (a : AtDigit laid s p d q) where
+module _ (laid : Laid) (s : List ℕ) (p : Spot) (d : ℕ) (q : Spot) (a : AtDigit laid s p d q) where
   run-digit : run digit (view laid s (p .at)) ≡ (48 + d) ∷ run digit (view laid s (q .at))
   run-digit = ap (run digit) (a .is) ∙ run-more digit (48 + d) (view laid s (q .at)) (digit-of d (a .small))
 
   past-digit : past digit (view laid s (p .at)) ≡ past digit (view laid s (q .at))
   past-digit = ap (past digit) (a .is) ∙ past-more digit (48 + d) (view laid s (q .at)) (digit-of d (a .small))
 
-  number-on : number v (run digit (view laid s (p .at))) ≡ number (10 * v + d) (run digit (view laid s (q .at)))
-  number-on = ap (number v) run-digit ∙ number-digit v d (run digit (view laid s (q .at)))
+  number-on : (v : ℕ) → number v (run digit (view laid s (p .at))) ≡ number (10 * v + d) (run digit (view laid s (q .at)))
+  number-on v = ap (number v) run-digit ∙ number-digit v d (run digit (view laid s (q .at)))
+
+  number-first : number 0 (run digit (view laid s (p .at))) ≡ number d (run digit (view laid s (q .at)))
+  number-first = let e : 10 * 0 + d ≡ d = omega arith in number-on 0 ∙ rw e
 
 -- the loop: the number of the whole is that from here
 pub record Counting (laid : Laid) (s : List ℕ) (p₀ : Spot) (v₀ v : ℕ) (p : Spot) : Type 0 where
@@ -130,8 +133,8 @@ module _ (laid : Laid) (s : List ℕ) (p₀ : Spot) (v₀ v : ℕ) (p : Spot) (c
         let b = a .past in
         let o = c .onto in
         record {
-          is = c .is ∙ number-on laid s p v d q a;
-          rest = c .rest ∙ past-digit laid s p v d q a;
+          is = c .is ∙ number-on laid s p d q a v;
+          rest = c .rest ∙ past-digit laid s p d q a;
           small = l;
           ready = past-ready (c .ready) b;
           onto = record { up = omega (arith, o .up, b .up); within = b .within; ahead = omega (arith, o .ahead, b .ahead); below = b .below; total = b .total ∙ o .total };
@@ -141,7 +144,7 @@ module _ (laid : Laid) (s : List ℕ) (p₀ : Spot) (v₀ v : ℕ) (p : Spot) (c
     count-large l =
         let a = digit-at laid s p r h d q e in
         let n = number-least (10 * v + d) (run digit (view laid s (q .at))) in
-        let z = c .is ∙ number-on laid s p v d q a in
+        let z = c .is ∙ number-on laid s p d q a v in
         record { by = omega arith }
 
     pub count-less : length s - q .at < length s - p .at
@@ -185,23 +188,23 @@ module _ (laid : Laid) (s : List ℕ) (p : Spot) (r : Digit) (h : Digited laid s
     pub number-zero : d ≡ 0 → Numbered laid s p (baseNumber (view laid s (p .at))) numbers.Fault
     number-zero f =
         let a = digit-at laid s p r h d q e in
-        record { by = base-zero (view laid s (p .at)) (run digit (view laid s (q .at))) (run-digit laid s p 0 d q a ∙ rw f) }
+        record { by = base-zero (view laid s (p .at)) (run digit (view laid s (q .at))) (run-digit laid s p d q a ∙ rw f) }
 
     numbered : (z : Number) → (d ≡ 0 → ⊥) → CountedIs laid s q d z → NumberIs laid s p (baseNumber (view laid s (p .at))) z
     numbered (numbers.Of v w) f g =
         let a = digit-at laid s p r h d q e in
-        let n : number 0 (run digit (view laid s (p .at))) ≡ v = number-on laid s p 0 d q a ∙ g .is in
+        let n : number 0 (run digit (view laid s (p .at))) ≡ v = number-first laid s p d q a ∙ g .is in
         let l = g .small in
         record {
           is =
-              base-fine (view laid s (p .at)) (run digit (view laid s (q .at))) d (run-digit laid s p 0 d q a) f (omega arith) ∙
-              rw (n, past-digit laid s p 0 d q a, g .rest);
+              base-fine (view laid s (p .at)) (run digit (view laid s (q .at))) d (run-digit laid s p d q a) f (omega arith) ∙
+              rw (n, past-digit laid s p d q a, g .rest);
           past = past-onto (a .past) (g .onto);
         }
     numbered numbers.Fault f g =
         let a = digit-at laid s p r h d q e in
-        let n = number-on laid s p 0 d q a in
-        base-large (view laid s (p .at)) (run digit (view laid s (q .at))) d (run-digit laid s p 0 d q a) f (omega arith)
+        let n = number-first laid s p d q a in
+        base-large (view laid s (p .at)) (run digit (view laid s (q .at))) d (run-digit laid s p d q a) f (omega arith)
 
     pub number-of : (z : Number) → (d ≡ 0 → ⊥) → Counted laid s q d z → Numbered laid s p (baseNumber (view laid s (p .at))) z
     number-of z f g = record { by = numbered z f (g .by) }

@@ -98,7 +98,7 @@ module _ (laid : Laid) (s : List ℕ) (p : Spot) (start long n : ℕ) (r : Word)
     pub first-alone : t ≡ words.Other → (w : Row) → rowOf w ≡ leafRow start long 1 0 n n
         → Follows laid s p (afterFirst (leafRow start long) n (behind (bytes "..") (view laid s (p .at))) (view laid s (p .at))) (plains.Row w p)
     first-alone f w g =
-        record { from = λ u k. record { by = record { is = rw (word-absent laid s p _ r h e, word-absent laid s p _ t k f, g); past = k } } }
+        record { from = λ u l. record { by = record { is = rw (word-absent laid s p _ r h e, word-absent laid s p _ t k f, g); past = l } } }
 
 pub ruleset firsts = (less-range, less-not, first-range, first-between, first-alone, word-ready)
 
@@ -187,10 +187,13 @@ module _ (laid : Laid) (s : List ℕ) (p : Spot) (r : Word) (h : Reached laid s 
   unfolding leaf
   leaf-bare e z g = plain-as (rw (word-absent laid s p _ r h e)) g
 
-  pub leaf-ahead : (q : Spot) → r ≡ words.Past q → p .off < q .off
-  leaf-ahead q e = word-past laid s p _ r h q e .past .ahead
+  pub leaf-ahead : (q : Spot) → r ≡ words.Past q → p .off ≤ q .off
+  leaf-ahead q e = omega (arith, word-past laid s p _ r h q e .past .ahead)
 
-pub ruleset leaves = (leaf-named, leaf-bare, leaf-ahead, word-ready)
+  pub leaf-long : (q : Spot) → r ≡ words.Past q → 1 ≤ q .off - p .off
+  leaf-long q e = omega (arith, word-past laid s p _ r h q e .past .ahead)
+
+pub ruleset leaves = (leaf-named, leaf-bare, leaf-ahead, leaf-long, word-ready)
 
 -- ---- gaps
 
