@@ -1,27 +1,27 @@
 -- Base numbers, law by law, in the form in which the needs have their facts. Assumes nothing.
 use Prim.Native.Nat.{ℕ, _+_, _-_, _*_, _^_, _≤_, _<_}
 use mathlib.Core.Path.{_≡_, refl, sym, ap, _∙_}
-use mathlib.Core.Bool.{Bool, true, false, _&&_, not}
+use mathlib.Core.Bool.{Bool, true, false}
 use mathlib.Core.List.{List, [], _∷_}
 use native.Mathlib.Omega.{arith}
 use native.Mathlib.Nat.{le-trans}
 use lib.ListN.{length}
-use lib.Dec.{eqb, leb}
+use lib.Dec.{leb}
 use borrow.Author.Tests.{le-leb, lt-leb, leb-true, ne-eqb}
-use Rattle.spec_format.specs.Bytes.{pick, starts, but, digit, number}
-use Rattle.spec_format.specs.Location.{found, fault, run, past, baseFine, baseNumber}
+use Rattle.spec_format.specs.Bytes.{starts, but, digit, number}
+use Rattle.spec_format.specs.Location.{found, fault, run, past, baseNumber}
 use Rattle.spec_format.specs.Impossible.{impossible}
 use Rattle.scan_location_bytes.specs.declared.Laid.{Laid}
 use Rattle.scan_location_bytes.specs.declared.Spot.{Spot}
 use Rattle.scan_location_bytes.specs.declared.Peek.{Peek}
 use Rattle.scan_location_bytes.specs.declared.Peek.the-variants as peek
-use Rattle.scan_location_bytes.specs.Views.{view, Ready, Past, Onto, Peeked}
+use Rattle.scan_location_bytes.specs.Views.{view, Ready, Onto, Peeked}
 use Rattle.scan_location_bytes.specs.Spots.{spot, past-onto, onto-here, past-ready, byte-past, peek-byte, peek-none, run-more, past-more, run-none, past-none}
 use Rattle.scan_location.specs.declared.Digit.{Digit}
 use Rattle.scan_location.specs.declared.Digit.the-variants as digits
 use Rattle.scan_location.specs.declared.Number.{Number}
 use Rattle.scan_location.specs.declared.Number.the-variants as numbers
-use Rattle.scan_location.specs.Views.{AtDigit, DigitIs, Digited, AtCounted, CountedIs, Counted, NumberIs, Numbered}
+use Rattle.scan_location.specs.Views.{AtDigit, Digited, CountedIs, Counted, NumberIs, Numbered}
 
 -- ---- a digit
 

@@ -1,19 +1,19 @@
 -- Ranges, accessions, gaps and words, law by law, in the form in which the needs have their facts. Assumes nothing.
 use Prim.Native.Nat.{ℕ, _+_, _-_, _≤_, _<_}
-use mathlib.Core.Path.{_≡_, refl, sym, ap, _∙_}
+use mathlib.Core.Path.{_≡_, refl}
 use mathlib.Core.Bool.{Bool, true, false}
 use mathlib.Core.List.{List, [], _∷_}
 use native.Mathlib.Omega.{arith}
 use lib.ListN.{length}
-use Rattle.spec_format.specs.Bytes.{pick, May, absent, is, bytes, some, digit}
+use Rattle.spec_format.specs.Bytes.{May, is, bytes, some, digit}
 use Rattle.spec_format.specs.Table.{LocationRow}
-use Rattle.spec_format.specs.Location.{Found, found, fault, andThen, run, past, behind, baseNumber, leafRow, rangeEnd, rangeFrom, betweenOr, afterFirst, afterLess, basesFrom, bases}
-use Rattle.spec_format.specs.Location.{inAccession, versionColon, accession, leafFrom, leaf, inGap, gapRow, gapEnd, gapOr, plain, Begin, word, other, wordOr, begin}
+use Rattle.spec_format.specs.Location.{Found, fault, run, past, behind, baseNumber, leafRow, rangeFrom, afterFirst, afterLess, bases}
+use Rattle.spec_format.specs.Location.{inAccession, versionColon, accession, leaf, inGap, gapEnd, plain, other, begin}
 use Rattle.scan_location_bytes.specs.declared.Laid.{Laid}
 use Rattle.scan_location_bytes.specs.declared.Spot.{Spot}
 use Rattle.scan_location_bytes.specs.declared.Word.{Word}
 use Rattle.scan_location_bytes.specs.declared.Word.the-variants as words
-use Rattle.scan_location_bytes.specs.Views.{view, total, Ready, Past, Onto, AtReached, ReachedIs, Reached, Ran}
+use Rattle.scan_location_bytes.specs.Views.{view, total, Ready, Past, Onto, Reached, Ran}
 use Rattle.scan_location_bytes.specs.Spots.{past-past, onto-past, past-ready, onto-ready, word-past, word-absent, word-ready}
 use Rattle.scan_location.specs.declared.Row.{Row}
 use Rattle.scan_location.specs.declared.Number.{Number}
@@ -21,7 +21,7 @@ use Rattle.scan_location.specs.declared.Number.the-variants as numbers
 use Rattle.scan_location.specs.declared.Plain.{Plain}
 use Rattle.scan_location.specs.declared.Plain.the-variants as plains
 use Rattle.scan_location.specs.declared.Begun.the-variants as begun
-use Rattle.scan_location.specs.Views.{AtNumber, NumberIs, Numbered, rowOf, lastOf, AtPlain, PlainIs, Plained, Follows, Begins}
+use Rattle.scan_location.specs.Views.{AtNumber, Numbered, rowOf, lastOf, Plained, Follows, Begins}
 
 -- ---- an answer from a spot, as one from before it
 
@@ -200,7 +200,7 @@ pub ruleset leaves = (leaf-named, leaf-bare, leaf-ahead, leaf-long, word-ready)
 module _ (laid : Laid) (s : List ℕ) (p q : Spot) (g : Ran inGap laid s p q) (r : Word) (h : Reached laid s q (behind (bytes ")") (view laid s (q .at))) r) where
   pub gap-closed : (t : Spot) → r ≡ words.Past t
       → Plained laid s p (gapEnd (total laid s p) (view laid s (p .at)) (behind (bytes ")") (past inGap (view laid s (p .at)))))
-        (plains.Row (record { form = 7; marks = 0; from = 0; to = 0; start = p .off; length = q .off - p .off; inside = 0 }) t)
+      (plains.Row (record { form = 7; marks = 0; from = 0; to = 0; start = p .off; length = q .off - p .off; inside = 0 }) t)
   gap-closed t e =
       let a = word-past laid s q _ r h t e in
       let l = g .long in

@@ -1,12 +1,12 @@
 // What a location is made of but for its brackets: base numbers, ranges, accessions, gaps, and the words before brackets.
-use scan_location_bytes::byte_at;
-use scan_location_bytes::past_run;
-use scan_location_bytes::word_at;
 use scan_location_bytes::Class;
 use scan_location_bytes::Laid;
 use scan_location_bytes::Peek;
 use scan_location_bytes::Spot;
 use scan_location_bytes::Word;
+use scan_location_bytes::byte_at;
+use scan_location_bytes::past_run;
+use scan_location_bytes::word_at;
 ghost use mathlib.Core.Path.{_≡_};
 ghost use Prim.Native.Nat.{_≤_};
 ghost use Rattle.spec_format.specs.Bytes.{bytes, is};
@@ -148,14 +148,7 @@ fn last_at(
 }
 
 // The second number of a range, behind its dots.
-fn range_at(
-    s: &[u8],
-    laid: Laid,
-    spot: Spot,
-    name: Name,
-    marks: usize,
-    from: usize,
-) -> Plain
+fn range_at(s: &[u8], laid: Laid, spot: Spot, name: Name, marks: usize, from: usize) -> Plain
     requires { ⌜ Ready laid (now s) spot × (marks ≤ 1) ⌝ }
     ensures { λ r. ⌜ Plained laid (now (s .entry)) spot (rangeFrom (leafRow (name .start) (name .length)) marks from (view laid (now (s .entry)) (spot .at))) r ⌝ }
 {

@@ -7,23 +7,22 @@ use native.Mathlib.Numerals.{add-one}
 use native.Mathlib.Omega.{arith}
 use lib.ListN.{length, getD, drop, drop-of-length-le}
 use lib.Seq.{drop-cons}
-use lib.Dec.{eqb}
 use borrow.Author.Tests.{eq-eqb, ne-eqb}
-use Rattle.spec_format.specs.Bytes.{pick, starts, spaces}
-use Rattle.spec_format.specs.Readers.{Ans, Got, No, Cut, bind, lineEnd}
+use Rattle.spec_format.specs.Bytes.{pick, starts}
+use Rattle.spec_format.specs.Readers.{Ans, Got, No, Cut, lineEnd}
 use Rattle.spec_format.specs.Features.{notSlash}
 use Rattle.spec_format.specs.Deep.{inLine, furtherStart, soFar}
 use Rattle.spec_location.specs.SoFar.{soFar-nil, soFar-byte, soFar-stray, soFar-ends, soFar-on, soFar-other, soFar-short}
 use Rattle.scan_bytes.specs.declared.Step.{Step}
 use Rattle.scan_bytes.specs.declared.Step.the-variants as step
-use Rattle.scan_bytes.specs.Views.{stepOf, Stepped, Emptied, emptyOf, PastOne}
+use Rattle.scan_bytes.specs.Views.{stepOf, Stepped, Emptied, PastOne}
 use Rattle.scan_bytes.specs.Sequence.{empty-places, step-places}
 use Rattle.spec_format.specs.Impossible.{impossible}
 use Rattle.scan_location_bytes.specs.declared.Laid.{Laid}
 use Rattle.scan_location_bytes.specs.declared.Laid.the-variants as laids
 use Rattle.scan_location_bytes.specs.declared.Peek.{Peek}
 use Rattle.scan_location_bytes.specs.declared.Peek.the-variants as peek
-use Rattle.scan_location_bytes.specs.Views.{joined, overLines, view, lineFurther, Further, AtByte, PeekIs, Peeked}
+use Rattle.scan_location_bytes.specs.Views.{joined, overLines, lineFurther, Further, Peeked}
 
 -- ---- the start of a further line
 

@@ -9,7 +9,7 @@ use lib.ListN.{length, getD, drop, drop-of-length-le}
 use lib.Seq.{drop-cons}
 use lib.Dec.{eqb}
 use borrow.Author.Tests.{eq-eqb, ne-eqb}
-use Rattle.spec_format.specs.Bytes.{May, absent, is, starts, digit}
+use Rattle.spec_format.specs.Bytes.{absent, is, starts, digit}
 use Rattle.spec_format.specs.Location.{run, past, behind, inAccession, inGap}
 use Rattle.scan_location_bytes.specs.declared.Laid.{Laid}
 use Rattle.scan_location_bytes.specs.declared.Spot.{Spot}
@@ -18,8 +18,8 @@ use Rattle.scan_location_bytes.specs.declared.Peek.the-variants as peek
 use Rattle.scan_location_bytes.specs.declared.Word.the-variants as words
 use Rattle.scan_location_bytes.specs.declared.Class.{Class}
 use Rattle.scan_location_bytes.specs.declared.Class.the-variants as class
-use Rattle.scan_location_bytes.specs.Views.{view, total, Ready, Past, Onto, AtByte, Peeked, Reached, inClass, Ran}
-use Rattle.scan_location_bytes.specs.Spots.{spot, onto-here, onto-past, byte-past, peek-byte, peek-none, run-more, past-more, run-none, past-none}
+use Rattle.scan_location_bytes.specs.Views.{view, total, Ready, Past, Onto, Peeked, Reached, inClass, Ran}
+use Rattle.scan_location_bytes.specs.Spots.{spot, onto-here, byte-past, peek-byte, peek-none, peek-within, peek-less, run-more, past-more, run-none, past-none}
 
 -- ---- a word, byte by byte
 
@@ -88,7 +88,7 @@ module _ (laid : Laid) (s : List ℕ) (p : Spot) (w : List ℕ) (at j : ℕ) (g 
             total = omega arith;
           }
 
-pub ruleset spelling = (spell-start, spell-done, spell-none, spell-other, spell-more)
+pub ruleset spelling = (spell-start, spell-done, spell-none, spell-other, spell-more, peek-within)
 
 -- ---- classes
 
@@ -167,4 +167,4 @@ module _ (k : Class) (laid : Laid) (s : List ℕ) (p : Spot) (at off : ℕ) (g :
           onto = record { up = omega (arith, g .onto .up, q .up); within = q .within; ahead = omega (arith, g .onto .ahead); below = q .below; total = q .total ∙ g .onto .total };
         }
 
-pub ruleset running = (run-start, run-end, run-stop, run-on)
+pub ruleset running = (run-start, run-end, run-stop, run-on, peek-less)

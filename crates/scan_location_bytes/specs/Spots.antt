@@ -13,7 +13,7 @@ use Rattle.scan_location_bytes.specs.declared.Peek.{Peek}
 use Rattle.scan_location_bytes.specs.declared.Peek.the-variants as peek
 use Rattle.scan_location_bytes.specs.declared.Word.{Word}
 use Rattle.scan_location_bytes.specs.declared.Word.the-variants as words
-use Rattle.scan_location_bytes.specs.Views.{view, total, Ready, Past, Onto, AtByte, PeekIs, Peeked, AtReached, ReachedIs, Reached}
+use Rattle.scan_location_bytes.specs.Views.{view, total, Ready, Past, Onto, AtByte, Peeked, AtReached, Reached}
 
 abbrev pub spot : ℕ → ℕ → Spot
 spot at off = record { at = at; off = off }

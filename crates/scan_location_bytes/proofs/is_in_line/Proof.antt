@@ -5,10 +5,10 @@ use Rattle.scan_location_bytes.proofs.is_in_line.Statement.{statement}
 use Rattle.scan_location_bytes.proofs.is_in_line.Tie as tie
 
 returns : tie.Need-returns
-returns c = search (ne-eqb, eq-eqb, needs)
+returns c = search (eq-eqb, needs)
 
 returns-2 : tie.Need-returns-2
-returns-2 c = search (ne-eqb, eq-eqb, needs)
+returns-2 c = search (ne-eqb, needs)
 
 pub is-in-line-spec : {M : Type 1} → statement M
 is-in-line-spec = tie.close (tie.spec returns returns-2)

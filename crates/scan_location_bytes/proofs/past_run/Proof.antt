@@ -2,7 +2,7 @@
 use Prim.Native.Nat.{_-_}
 use lib.ListN.{length}
 use Rattle.scan_location_bytes.specs.Views.{inClass}
-use Rattle.scan_location_bytes.specs.Spots.{spot, peek-within, peek-less}
+use Rattle.scan_location_bytes.specs.Spots.{spot}
 use Rattle.scan_location_bytes.proofs.Words.{Running, running}
 use borrow.Author.Needs.{needs}
 use Rattle.scan_location_bytes.proofs.past_run.Statement.{statement}
@@ -15,34 +15,34 @@ abbrev μ-loop : tie.MeasureT-loop
 μ-loop s laid class at₀ off₀ at off = length s - at
 
 loop-holds : tie.Need-loop-holds Inv-loop μ-loop
-loop-holds c = search (running, peek-within, peek-less, needs)
+loop-holds c = search (running, needs)
 
 byte-at-requires : tie.Need-byte-at-requires Inv-loop μ-loop
-byte-at-requires c κs = search (running, peek-within, peek-less, needs)
+byte-at-requires c κs = search (running, needs)
 
 enum-known-byte : tie.Need-enum-known-byte Inv-loop μ-loop
-enum-known-byte c = search (running, peek-within, peek-less, needs)
+enum-known-byte c = search (running, needs)
 
 in-class-requires : tie.Need-in-class-requires Inv-loop μ-loop
-in-class-requires c κs = search (running, peek-within, peek-less, needs)
+in-class-requires c κs = search (running, needs)
 
 add-off : tie.Need-add-off Inv-loop μ-loop
-add-off c = search (running, peek-within, peek-less, needs)
+add-off c = search (running, needs)
 
 loop-less : tie.Need-loop-less Inv-loop μ-loop
-loop-less c = search (running, peek-within, peek-less, needs)
+loop-less c = search (running, needs)
 
 loop-again : tie.Need-loop-again Inv-loop μ-loop
-loop-again c = search (running, peek-within, peek-less, needs)
+loop-again c = search (running, needs)
 
 returns : tie.Need-returns Inv-loop μ-loop
-returns c = search (running, peek-within, peek-less, needs)
+returns c = search (running, needs)
 
 enum-told : tie.Need-enum-told Inv-loop μ-loop
-enum-told c = search (running, peek-within, peek-less, needs)
+enum-told c = search (running, needs)
 
 returns-2 : tie.Need-returns-2 Inv-loop μ-loop
-returns-2 c = search (running, peek-within, peek-less, needs)
+returns-2 c = search (running, needs)
 
 pub past-run-spec : {M : Type 1} → statement M
 past-run-spec =

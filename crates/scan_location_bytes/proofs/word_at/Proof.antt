@@ -1,7 +1,6 @@
 -- `scan_location_bytes::word_at` meets its contract. Assumes nothing.
 use Prim.Native.Nat.{_-_}
 use lib.ListN.{length}
-use Rattle.scan_location_bytes.specs.Spots.{peek-within}
 use Rattle.scan_location_bytes.proofs.Words.{Spelling, spelling}
 use borrow.Author.Needs.{needs}
 use Rattle.scan_location_bytes.proofs.word_at.Statement.{statement}
@@ -14,40 +13,40 @@ abbrev μ-loop : tie.MeasureT-loop
 μ-loop s laid spot word at₀ j₀ at j = length word - j
 
 loop-holds : tie.Need-loop-holds Inv-loop μ-loop
-loop-holds c = search (spelling, peek-within, needs)
+loop-holds c = search (spelling, needs)
 
 byte-at-requires : tie.Need-byte-at-requires Inv-loop μ-loop
-byte-at-requires c κs = search (spelling, peek-within, needs)
+byte-at-requires c κs = search (spelling, needs)
 
 enum-known-byte : tie.Need-enum-known-byte Inv-loop μ-loop
-enum-known-byte c = search (spelling, peek-within, needs)
+enum-known-byte c = search (spelling, needs)
 
 shared-slice-read-if1 : tie.Need-shared-slice-read-if1 Inv-loop μ-loop
-shared-slice-read-if1 c = search (spelling, peek-within, needs)
+shared-slice-read-if1 c = search (spelling, needs)
 
 returns : tie.Need-returns Inv-loop μ-loop
-returns c = search (spelling, peek-within, needs)
+returns c = search (spelling, needs)
 
 add-j : tie.Need-add-j Inv-loop μ-loop
-add-j c = search (spelling, peek-within, needs)
+add-j c = search (spelling, needs)
 
 loop-less : tie.Need-loop-less Inv-loop μ-loop
-loop-less c = search (spelling, peek-within, needs)
+loop-less c = search (spelling, needs)
 
 loop-again : tie.Need-loop-again Inv-loop μ-loop
-loop-again c = search (spelling, peek-within, needs)
+loop-again c = search (spelling, needs)
 
 enum-told : tie.Need-enum-told Inv-loop μ-loop
-enum-told c = search (spelling, peek-within, needs)
+enum-told c = search (spelling, needs)
 
 returns-2 : tie.Need-returns-2 Inv-loop μ-loop
-returns-2 c = search (spelling, peek-within, needs)
+returns-2 c = search (spelling, needs)
 
 add-t15 : tie.Need-add-t15 Inv-loop μ-loop
-add-t15 c = search (spelling, peek-within, needs)
+add-t15 c = search (spelling, needs)
 
 returns-3 : tie.Need-returns-3 Inv-loop μ-loop
-returns-3 c = search (spelling, peek-within, needs)
+returns-3 c = search (spelling, needs)
 
 pub word-at-spec : {M : Type 1} → statement M
 word-at-spec =
