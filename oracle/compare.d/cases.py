@@ -123,12 +123,12 @@ class Writing(Case):
     def statements(self):
         refusal = self.refusal()
         if refusal:
-            return [statements.numbers(*self.how, self.table, refusal, refusal)]
+            return [statements.writes_not(*self.how, self.table, refusal)]
         if not self.departed.startswith("ok "):
             return []
         data = bytes.fromhex(self.departed[len("ok x"):])
         kept = rules.kept(self.table, *self.how)
-        out = [statements.numbers(*self.how, self.table, 0, 0 if kept else 13), statements.writes(*self.how, self.table, data)]
+        out = [statements.writes(*self.how, self.table, 0 if kept else 13, data)]
         if kept:  # what the keeping writer writes is read back
             out.append(statements.reads(data, 0, self.table, len(data)))
         return out

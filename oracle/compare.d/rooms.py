@@ -3,15 +3,19 @@ import tables
 
 
 class Rooms:
-    """What a table leaves in each room, and its head."""
+    """What a table leaves in each room, and its head; nothing without a table."""
 
     def __init__(self, t):
-        self.texts = b""
+        self.texts, self.letters, self.head = b"", b"", []
+        self.references, self.comments, self.features, self.qualifiers, self.locations = [], [], [], [], []
+        if t is not None:
+            self.put(t)
+
+    def put(self, t):
         self.head = self.perhaps(t["name"]) + [0 if t["length"] is None else t["length"] + 1] + self.perhaps(t["molecule"])
         self.head += [int(t["topology"] == "circular")] + self.always(t["division"]) + list(t["date"] or (0, 0, 0))
         for k in tables.TEXTS:
             self.head += self.perhaps(t[k])
-        self.references, self.comments, self.features, self.qualifiers, self.locations = [], [], [], [], []
         for r in t["references"]:
             for k in tables.REFERENCE:
                 self.references += self.always(r[k]) if k in ("text", "title") else self.perhaps(r[k])

@@ -31,8 +31,8 @@ use mathlib.Core.List.{List, [], _∷_}
 use lib.Dec.{eqb}
 use Rattle.spec_format.specs.Bytes.{bytes, May, absent, is, pick, same, among}
 use Rattle.spec_format.specs.Table.{Locus, Source, Reference, Qualifier, LocationRow, Feature, Contig, Table}
-use Rattle.spec_format.specs.Record.{Outcome, Read, Not, most}
-use Rattle.spec_format.specs.Numbers.{unreadNumber, unreadPlace, writeNumber}
+use Rattle.spec_format.specs.Record.{Outcome, Read, Not}
+use Rattle.spec_format.specs.Numbers.{unreadNumber, unreadPlace}
 use Rattle.spec_format.specs.declared.Dated.the-variants as dated
 %s
 -- a refusal: its number and what is returned with it
@@ -45,14 +45,19 @@ abbrev refusedBy : List (List ℕ) → ℕ → Outcome → Bool
 refusedBy numbers at (Read t r) = false
 refusedBy numbers at (Not u) = pick (eqb (unreadPlace u at) at) (among (unreadNumber u ∷ []) numbers) false
 
--- both writers' numbers for a table that lies in rooms, its location rows right or wrong, and the bytes of the one that lies there
-abbrev numbers : ℕ → Bool → Bool → Table → List ℕ
-numbers w truncate escape t =
-  writeNumber (Answers.plainAnswer w truncate escape (Rooms.layout t) (Rooms.headOf t) most) ∷
-  writeNumber (Answers.keepingAnswer w truncate escape (Rooms.layout t) (Rooms.headOf t) most) ∷ []
+-- both writers' numbers and the bytes, for a table that lies in rooms, its location rows right or wrong: `plainAnswer` and `keepingAnswer` with room enough
+pub data Written : Type 0 where
+  Refused : ℕ → Written
+  Wrote : ℕ → List ℕ → Written
 
-abbrev bytesOf : ℕ → Bool → Bool → Table → List ℕ
-bytesOf w truncate escape t = Write.written w truncate escape (Rooms.tableOf (Rooms.layout t) (Rooms.headOf t))
+abbrev writtenFrom : ℕ → Bool → Bool → Table → Written
+writtenFrom w truncate escape t =
+  pick (WellFormed.wellFormed w truncate escape t)
+  (Wrote (pick (Keeping.keeps w truncate escape t) 0 13) (Write.written w truncate escape t)) (Refused 11)
+
+abbrev writing : ℕ → Bool → Bool → Table → Written
+writing w truncate escape t =
+  pick (Rooms.roomsFine (Rooms.layout t) (Rooms.headOf t)) (writtenFrom w truncate escape (Rooms.tableOf (Rooms.layout t) (Rooms.headOf t))) (Refused 10)
 """
 
 
@@ -78,15 +83,15 @@ def refuses_by(data, at, numbers):
 
 
 def _writing(width, truncate, escape, table):
-    return "%d %s %s %s" % (width, tables.antt_bool(truncate), tables.antt_bool(escape), tables.antt_table(table))
+    return "writing %d %s %s %s" % (width, tables.antt_bool(truncate), tables.antt_bool(escape), tables.antt_table(table))
 
 
-def writes(width, truncate, escape, table, data):
-    return "bytesOf %s ≡ %s" % (_writing(width, truncate, escape, table), tables.antt_bytes(data))
+def writes(width, truncate, escape, table, keeping, data):
+    return "%s ≡ Wrote %d %s" % (_writing(width, truncate, escape, table), keeping, tables.antt_bytes(data))
 
 
-def numbers(width, truncate, escape, table, plain, keeping):
-    return "numbers %s ≡ %d ∷ %d ∷ []" % (_writing(width, truncate, escape, table), plain, keeping)
+def writes_not(width, truncate, escape, table, number):
+    return "%s ≡ Refused %d" % (_writing(width, truncate, escape, table), number)
 
 
 # ---- the definitions

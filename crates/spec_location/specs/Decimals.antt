@@ -68,7 +68,7 @@ decimal-back n h = digits-each (λ n x. number 0 x ≡ n) one more 9 n (fits-ten
     more : (n : ℕ) (x : List ℕ) → 10 ≤ n → number 0 x ≡ n / 10 → number 0 (x ++ (48 + n % 10) ∷ []) ≡ n
     more n x l e = rw (number-append 0 x ((48 + n % 10) ∷ []), e, number-one (n / 10) (n % 10)) (omega arith)
 
-digit-of : (d : ℕ) → d < 10 → digit (48 + d) ≡ true
+pub digit-of : (d : ℕ) → d < 10 → digit (48 + d) ≡ true
 digit-of d h = cc (le-leb 48 (48 + d) (omega arith), le-leb (48 + d) 57 (omega arith))
 
 pub decimal-digits : (n : ℕ) → n ≤ 4294967295 → all digit (decimal n) ≡ true

@@ -132,7 +132,18 @@ unfoldable mutual
   nestedAll (last t) = nested t
   nestedAll (before t ts) = max (nested t) (nestedAll ts)
 
-example : printed (join (before (leaf absent (range false 1 false 3)) (last (complement (order (before (leaf absent (base 5)) (last (leaf (is (record { name = bytes "A"; version = bytes "1" })) (range true 7 false 8)))))))))
-    ≡ bytes "join(1..3,complement(order(5,A.1:<7..8)))"
+-- ---- for example
+
+abbrev example : Tree
+example =
+    join
+    (before (leaf absent (range false 1 false 3))
+    (last (complement (order (before (leaf absent (base 5)) (last (leaf (is (record { name = bytes "A"; version = bytes "1" })) (range true 7 false 8))))))))
+
+example-text : printed example ≡ bytes "join(1..3,complement(order(5,A.1:<7..8)))"
 unfolding printed digits
-example = refl
+example-text = refl
+
+example-rows : rowsAt 0 example ≡ leafRow 0 0 2 0 1 3 ∷ leafRow 0 0 1 0 5 5 ∷ leafRow 29 3 2 1 7 8 ∷ wordRow 6 2 ∷ wordRow 4 3 ∷ wordRow 5 5 ∷ []
+unfolding printed digits rowsAt
+example-rows = refl

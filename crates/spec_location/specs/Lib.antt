@@ -5,3 +5,5 @@ pub mod Shallow
 pub mod Decimals
 pub mod Grammar
 pub mod Printed
+pub mod Parsed
+pub mod Unique

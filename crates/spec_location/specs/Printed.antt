@@ -14,7 +14,7 @@ use Rattle.spec_format.specs.Location.{inAccession, versionColon, accession, le
 use Rattle.spec_format.specs.Location.{closed, commaIn, membersIn, locationFrom, location}
 use Rattle.spec_format.specs.Impossible.{impossible}
 use Rattle.spec_location.specs.Tests.{and-left, and-right, all-head, all-tail, all-imp}
-use Rattle.spec_location.specs.Bytes.{comma-more, comma-last}
+use Rattle.spec_location.specs.Bytes.{members-more, members-last}
 use Rattle.spec_location.specs.Decimals.{decimal-back, decimal-digits, decimal-starts}
 use Rattle.spec_location.specs.Grammar.{Bases, base, range, between, Accession, Tree, leaf as leafTree, gap, complement, join, order, Trees, last, before, basesText, accessionText, leafText, printed, printedAll}
 use Rattle.spec_location.specs.Grammar.{basesRow, leafRowAt, closing, rowsAt, rowsAtAll, numberFine, basesFine, accessionFine, proper, properAll, nested, nestedAll}
@@ -367,7 +367,7 @@ tree-complement gaps t ih n left at rest l k e =
     let m : n ≡ at + length (bytes "complement(" ++ x) = rw q at e in
     rw q
     (word-read gaps n left (nested t) 4 (bytes "complement(" ++ x) x (rowsAt (at + 11) t) rest (begin-complement x) l
-    (λ i h. comma-last (length x) 4 (λ z. location gaps n i z) x (rowsAt (at + 11) t) (41 ∷ rest) (ih n i (at + 11) (41 ∷ rest) h (bracket rest) (omega arith)) (comma-none 4 rest)))
+    (λ i h. members-last (length x) 4 (λ z. location gaps n i z) x (rowsAt (at + 11) t) (41 ∷ rest) (ih n i (at + 11) (41 ∷ rest) h (bracket rest) (omega arith)) (comma-none 4 rest)))
 
 -- a word with members: join( ) or order( )
 tree-word :
@@ -387,7 +387,7 @@ trees-last : (gaps : Bool) (t : Tree) → ReadAs gaps t → ReadAll gaps (last t
 unfolding printed rowsAt nested
 trees-last gaps t ih n left at zero form rest l e h f = absurd (omega arith)
 trees-last gaps t ih n left at (suc k) form rest l e h f =
-    comma-last k form (λ z. location gaps n left z) (printed t ++ 41 ∷ rest) (rowsAt at t) (41 ∷ rest) (ih n left at (41 ∷ rest) l (bracket rest) e) (comma-none form rest)
+    members-last k form (λ z. location gaps n left z) (printed t ++ 41 ∷ rest) (rowsAt at t) (41 ∷ rest) (ih n left at (41 ∷ rest) l (bracket rest) e) (comma-none form rest)
 
 trees-before : (gaps : Bool) (t : Tree) (ts : Trees) → ReadAs gaps t → ReadAll gaps ts → ReadAll gaps (before t ts)
 unfolding printed rowsAt nested
@@ -400,7 +400,7 @@ trees-before gaps t ts ih more n left at (suc k) form rest l e h f =
     let m : length (printed t ++ (44 ∷ y)) ≡ length (printed t) + suc (length y) = length-append (printed t) (44 ∷ y) in
     rw (
       q,
-      comma-more k form (λ z. location gaps n left z) (printed t ++ (44 ∷ y)) (rowsAt at t) (44 ∷ y) y (ih n left at (44 ∷ y) (omega arith) (comma y) e₂) (comma-here form y f),
+      members-more k form (λ z. location gaps n left z) (printed t ++ (44 ∷ y)) (rowsAt at t) (44 ∷ y) y (ih n left at (44 ∷ y) (omega arith) (comma y) e₂) (comma-here form y f),
       more n left (at + length (printed t) + 1) k form rest (omega arith) (omega arith) (omega arith) f,
     )
 

@@ -4,16 +4,16 @@ use native.Mathlib.Omega.{arith}
 use native.Mathlib.Nat.{mul-div-le, mul-le-mul-left}
 use mathlib.Core.Bool.{Bool, true, false, _&&_}
 use mathlib.Core.Path.{_≡_, refl}
-use mathlib.Core.List.{List, [], _∷_}
+use mathlib.Core.List.{List, [], _∷_, _++_}
 use lib.ListN.{length, length-append, length-drop}
 use lib.Dec.{leb}
 use borrow.Author.Tests.{leb-true}
 use Rattle.spec_format.specs.Bytes.{each}
 use Rattle.spec_format.specs.Table.{Feature, Table}
-use Rattle.spec_format.specs.Rooms.{Rooms, piecesText, referencePieces, commentPieces, featurePieces, qualifierPieces, featureText, featureRows, qualifierRows}
+use Rattle.spec_format.specs.Rooms.{Rooms, piecesText, piecesRow, referencePieces, commentPieces, featurePieces, qualifierPieces, featureText, featureRows, qualifierRows}
 use Rattle.spec_format.specs.Rooms.{qualifierCount, featureLocations, locationNumbers, contigRows, referencesAt, commentsAt, featuresAt, layout, sizes, fits, over, overRooms}
 use Rattle.spec_format.specs.declared.Sizes.{Sizes}
-use Rattle.spec_rooms.specs.Rows.{pieces-long, rows-long}
+use Rattle.spec_rooms.specs.Rows.{pieces-long, InRows, laid-long, rows-long}
 use Rattle.spec_rooms.specs.LayoutBack.{fourteen-wide, two-wide, four-wide, numbers-seven, locations-long}
 
 pub and-left : (x y : Bool) → (x && y) ≡ true → x ≡ true
@@ -27,16 +27,17 @@ and-right false false e = e
 
 -- ---- a layout's lengths: as many rows as the size says, of as many numbers as the row is wide
 
-feature-rows-long : (start q l : ℕ) (fs : List Feature) → length (featureRows start q l fs) ≡ 8 * length fs
+-- a feature's row hangs on where its texts, its qualifiers and its location rows start
+features-in-rows : InRows {S = ℕ × (ℕ × ℕ)} (λ s fs. featureRows (s .0) (s .1 .0) (s .1 .1) fs) 8
 unfolding featureRows
-feature-rows-long start q l [] = refl
-feature-rows-long start q l (f ∷ fs) =
-    simp length-append
-    (omega (
-      arith,
-      pieces-long start (featurePieces f),
-      feature-rows-long (start + length (featureText f)) (q + length (f .qualifiers)) (l + length (f .rows)) fs,
-    ))
+features-in-rows =
+    record {
+      row = λ s f. piecesRow (s .0) (featurePieces f) ++ s .1 .0 ∷ length (f .qualifiers) ∷ s .1 .1 ∷ length (f .rows) ∷ [];
+      next = λ s f. (s .0 + length (featureText f), (s .1 .0 + length (f .qualifiers), s .1 .1 + length (f .rows)));
+      wide = λ s f. simp length-append (omega (arith, pieces-long (s .0) (featurePieces f)));
+      none = λ s. refl;
+      more = λ s f fs. refl;
+    }
 
 qualifier-rows-long : (start : ℕ) (fs : List Feature) → length (qualifierRows start fs) ≡ 4 * qualifierCount fs
 unfolding qualifierRows qualifierCount
@@ -65,7 +66,7 @@ layout-lengths t =
       texts = refl;
       references = rows-long referencePieces 14 fourteen-wide (referencesAt t) (t .references);
       comments = rows-long commentPieces 2 two-wide (commentsAt t) (t .comments);
-      features = feature-rows-long (featuresAt t) 0 0 (t .features);
+      features = laid-long _ 8 features-in-rows (featuresAt t, (0, 0)) (t .features);
       qualifiers = qualifier-rows-long (featuresAt t) (t .features);
       locations =
           rw (length-append (each featureLocations (t .features)) (locationNumbers (contigRows (t .contig))))
