@@ -23,10 +23,10 @@ use Rattle.scan_location.specs.declared.Plain.the-variants as plains
 use Rattle.scan_location.specs.declared.Begun.{Begun}
 use Rattle.scan_location.specs.declared.Begun.the-variants as begun
 use Rattle.scan_location.specs.Views.{rowOf, AtPlain, Plained, AtBegun, Begins}
-use Rattle.read_location.specs.declared.Pen.{Pen}
+use Rattle.read_location_row.specs.declared.Pen.{Pen}
 use Rattle.read_location.specs.declared.RowsAt.{RowsAt}
 use Rattle.read_location.specs.declared.RowsAt.the-variants as rowsAt
-use Rattle.read_location.specs.Rows.{Noted, rows-append, rows-none}
+use Rattle.read_location_row.specs.Rows.{Noted, rows-append, rows-none}
 use Rattle.read_location.specs.Reads.{Stands, AtGot, LocatedIs, Located, Behind, Closable, Closes}
 use Rattle.read_location.proofs.Spots.{past-over, stands-past, got-behind, located-from, located-behind, located-ready}
 

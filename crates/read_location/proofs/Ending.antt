@@ -17,12 +17,12 @@ use Rattle.scan_location_bytes.specs.declared.Peek.{Peek}
 use Rattle.scan_location_bytes.specs.declared.Peek.the-variants as peek
 use Rattle.scan_location_bytes.specs.Views.{view, total, Peeked}
 use Rattle.scan_location_bytes.specs.Spots.{spot, peek-byte, peek-none}
-use Rattle.read_location.specs.declared.Pen.{Pen}
+use Rattle.read_location_row.specs.declared.Pen.{Pen}
 use Rattle.read_location.specs.declared.RowsAt.{RowsAt}
 use Rattle.read_location.specs.declared.RowsAt.the-variants as rowsAt
 use Rattle.read_location.specs.declared.Location.{Location}
 use Rattle.read_location.specs.declared.Location.the-variants as locations
-use Rattle.read_location.specs.Rows.{stand, Noted, numbers-length}
+use Rattle.read_location_row.specs.Rows.{stand, Noted, numbers-length}
 use Rattle.read_location.proofs.Spots.{located-behind}
 use Rattle.read_location.specs.Reads.{Stands, AtGot, Located, Behind, Closable, locationOf, Answered, Ends}
 

@@ -10,7 +10,7 @@ use Rattle.scan_location_bytes.specs.declared.Laid.{Laid}
 use Rattle.scan_location_bytes.specs.declared.Spot.{Spot}
 use Rattle.scan_location_bytes.specs.Views.{view, Ready, Past, Onto}
 use Rattle.scan_location_bytes.specs.Spots.{past-past, past-ready}
-use Rattle.read_location.specs.declared.Pen.{Pen}
+use Rattle.read_location_row.specs.declared.Pen.{Pen}
 use Rattle.read_location.specs.declared.RowsAt.{RowsAt}
 use Rattle.read_location.specs.declared.RowsAt.the-variants as rowsAt
 use Rattle.read_location.specs.Reads.{Stands, AtGot, LocatedIs, Located, Behind, Closable}

@@ -1,3 +1,2 @@
--- What it means to have put rows, and to have read a location at a place.
-pub mod Rows
+-- What it means to have read a location at a place.
 pub mod Reads

@@ -12,12 +12,12 @@ use Rattle.spec_format.specs.Location.{Found, found, fault, deep, closed, Readi
 use Rattle.scan_location_bytes.specs.declared.Laid.{Laid}
 use Rattle.scan_location_bytes.specs.declared.Spot.{Spot}
 use Rattle.scan_location_bytes.specs.Views.{view, Ready, Past}
-use Rattle.read_location.specs.declared.Pen.{Pen}
+use Rattle.read_location_row.specs.declared.Pen.{Pen}
 use Rattle.read_location.specs.declared.RowsAt.{RowsAt}
 use Rattle.read_location.specs.declared.RowsAt.the-variants as rowsAt
 use Rattle.read_location.specs.declared.Location.{Location}
 use Rattle.read_location.specs.declared.Location.the-variants as locations
-use Rattle.read_location.specs.Rows.{stand, Noted}
+use Rattle.read_location_row.specs.Rows.{stand, Noted}
 
 -- a spot and a pen from which to read: each row so far has a byte of its own, so that no number of a row wraps
 pub record Stands (laid : Laid) (s : List ℕ) (p : Spot) (pen : Pen) : Type 0 where

@@ -1,5 +1,5 @@
 // A location's text (document 02, ticket 1) read into rows: the reader calls itself on the inner text, and the nesting left falls.
-use base_arith::both;
+use read_location_row::Pen;
 use scan_location::Begun;
 use scan_location::Plain;
 use scan_location::Row;
@@ -7,81 +7,12 @@ use scan_location_bytes::Laid;
 use scan_location_bytes::Peek;
 use scan_location_bytes::Spot;
 use scan_location_bytes::Word;
-ghost use mathlib.Core.List.{[], _∷_};
+ghost use mathlib.Core.List.{[]};
 ghost use Prim.Native.Nat.{suc, _≤_};
 ghost use lib.ListN.{length};
-ghost use Rattle.spec_format.specs.Rooms.{rowNumbers};
 ghost use Rattle.spec_format.specs.Location.{word, commaIn, single, plain, membersIn, locationFrom, location, reading};
 ghost use Rattle.scan_location_bytes.specs.Views.{view, total, Ready, Reached};
-ghost use Rattle.scan_location.specs.Views.{rowOf};
-ghost use Rattle.read_location.specs.Rows.{NotedAt, Noted};
 ghost use Rattle.read_location.specs.Reads.{Stands, Located, Closable, Closes, Answered, Ends};
-
-// ---- rows, put and compared
-
-// A number put at its place, and whether it is the one that is there. Past the room's end nothing is put.
-fn note_number(out: &mut [usize], seen: &[usize], at: usize, v: usize) -> bool
-    requires { ⌜ at ≤ 1000000000 ⌝ }
-    ensures { λ r. ⌜ NotedAt (now (seen .entry)) (now (out .entry)) at (v ∷ []) (now (out .exit)) r ⌝ }
-{
-    base_pen::put_number(out, at, v);
-    if at < seen.len() {
-        return v == seen[at];
-    }
-    false
-}
-
-fn note_two(out: &mut [usize], seen: &[usize], at: usize, a: usize, b: usize) -> bool
-    requires { ⌜ at ≤ 900000000 ⌝ }
-    ensures { λ r. ⌜ NotedAt (now (seen .entry)) (now (out .entry)) at (a ∷ b ∷ []) (now (out .exit)) r ⌝ }
-{
-    let first = note_number(out, seen, at, a);
-    let second = note_number(out, seen, at + 1, b);
-    both(first, second)
-}
-
-fn note_four(
-    out: &mut [usize],
-    seen: &[usize],
-    at: usize,
-    a: usize,
-    b: usize,
-    c: usize,
-    d: usize,
-) -> bool
-    requires { ⌜ at ≤ 800000000 ⌝ }
-    ensures { λ r. ⌜ NotedAt (now (seen .entry)) (now (out .entry)) at (a ∷ b ∷ c ∷ d ∷ []) (now (out .exit)) r ⌝ }
-{
-    let first = note_two(out, seen, at, a, b);
-    let second = note_two(out, seen, at + 2, c, d);
-    both(first, second)
-}
-
-fn note_seven(out: &mut [usize], seen: &[usize], at: usize, row: Row) -> bool
-    requires { ⌜ at ≤ 700000000 ⌝ }
-    ensures { λ r. ⌜ NotedAt (now (seen .entry)) (now (out .entry)) at (rowNumbers (rowOf row)) (now (out .exit)) r ⌝ }
-{
-    let bases = note_four(out, seen, at, row.form, row.marks, row.from, row.to);
-    let text = note_two(out, seen, at + 4, row.start, row.length);
-    let inside = note_number(out, seen, at + 6, row.inside);
-    both(both(bases, text), inside)
-}
-
-// Where the next row goes, and whether all rows so far are those that are there.
-pub struct Pen {
-    pub row: usize,
-    pub same: bool,
-}
-
-fn note_row(out: &mut [usize], seen: &[usize], pen: Pen, row: Row) -> Pen
-    requires { ⌜ pen .row ≤ 100000000 ⌝ }
-    ensures { λ r. ⌜ Noted (now (seen .entry)) (now (out .entry)) pen (rowOf row ∷ []) (now (out .exit)) r ⌝ }
-{
-    let here = note_seven(out, seen, 7 * pen.row, row);
-    let same = both(pen.same, here);
-    let row = pen.row + 1;
-    Pen { row, same }
-}
 
 // ---- the cycle: a location, a word, its members
 
@@ -107,7 +38,7 @@ fn plain_in(
 {
     match scan_location::plain_at(s, laid, gaps, spot) {
         Plain::Row { row, spot: behind } => {
-            let to = note_row(out, seen, pen, row);
+            let to = read_location_row::note_row(out, seen, pen, row);
             RowsAt::Got {
                 spot: behind,
                 pen: to,
@@ -153,7 +84,7 @@ fn closed_by(
                     length: 0,
                     inside: pen.row - first,
                 };
-                let to = note_row(out, seen, pen, row);
+                let to = read_location_row::note_row(out, seen, pen, row);
                 RowsAt::Got {
                     spot: behind,
                     pen: to,

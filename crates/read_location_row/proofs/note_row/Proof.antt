@@ -1,9 +1,9 @@
--- `read_location::note_row` meets its contract. Assumes nothing.
+-- `read_location_row::note_row` meets its contract. Assumes nothing.
 use mathlib.Core.Path.{refl}
-use Rattle.read_location.specs.Rows.{row-noted}
+use Rattle.read_location_row.specs.Rows.{row-noted}
 use borrow.Author.Needs.{needs}
-use Rattle.read_location.proofs.note_row.Statement.{statement}
-use Rattle.read_location.proofs.note_row.Tie as tie
+use Rattle.read_location_row.proofs.note_row.Statement.{statement}
+use Rattle.read_location_row.proofs.note_row.Tie as tie
 
 mul-note-seven : tie.Need-mul-note-seven
 mul-note-seven c = search needs

@@ -1,8 +1,8 @@
--- `read_location::note_two` meets its contract. Assumes nothing.
-use Rattle.read_location.specs.Rows.{noted-append}
+-- `read_location_row::note_two` meets its contract. Assumes nothing.
+use Rattle.read_location_row.specs.Rows.{noted-append}
 use borrow.Author.Needs.{needs}
-use Rattle.read_location.proofs.note_two.Statement.{statement}
-use Rattle.read_location.proofs.note_two.Tie as tie
+use Rattle.read_location_row.proofs.note_two.Statement.{statement}
+use Rattle.read_location_row.proofs.note_two.Tie as tie
 
 note-number-requires : tie.Need-note-number-requires
 note-number-requires c κs = search needs

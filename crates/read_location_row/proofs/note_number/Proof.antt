@@ -1,8 +1,8 @@
--- `read_location::note_number` meets its contract. Assumes nothing.
-use Rattle.read_location.specs.Rows.{noted-past, noted-there}
+-- `read_location_row::note_number` meets its contract. Assumes nothing.
+use Rattle.read_location_row.specs.Rows.{noted-past, noted-there}
 use borrow.Author.Needs.{needs}
-use Rattle.read_location.proofs.note_number.Statement.{statement}
-use Rattle.read_location.proofs.note_number.Tie as tie
+use Rattle.read_location_row.proofs.note_number.Statement.{statement}
+use Rattle.read_location_row.proofs.note_number.Tie as tie
 
 put-number-requires : tie.Need-put-number-requires
 put-number-requires c κs = search needs

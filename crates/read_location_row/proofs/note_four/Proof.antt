@@ -1,8 +1,8 @@
--- `read_location::note_four` meets its contract. Assumes nothing.
-use Rattle.read_location.specs.Rows.{noted-append}
+-- `read_location_row::note_four` meets its contract. Assumes nothing.
+use Rattle.read_location_row.specs.Rows.{noted-append}
 use borrow.Author.Needs.{needs}
-use Rattle.read_location.proofs.note_four.Statement.{statement}
-use Rattle.read_location.proofs.note_four.Tie as tie
+use Rattle.read_location_row.proofs.note_four.Statement.{statement}
+use Rattle.read_location_row.proofs.note_four.Tie as tie
 
 note-two-requires : tie.Need-note-two-requires
 note-two-requires c κs = search needs

@@ -12,7 +12,7 @@ use Rattle.spec_format.specs.Bytes.{same, each}
 use Rattle.spec_format.specs.Table.{LocationRow}
 use Rattle.spec_format.specs.Rooms.{rowNumbers, locationNumbers}
 use Rattle.base_pen.specs.Pen.{Wrote, Writes, sets-append}
-use Rattle.read_location.specs.declared.Pen.{Pen}
+use Rattle.read_location_row.specs.declared.Pen.{Pen}
 
 -- whether numbers stand in a list from a place on
 abbrev pub stand : List ℕ → ℕ → List ℕ → Bool

@@ -1,8 +1,8 @@
--- `read_location::note_seven` meets its contract. Assumes nothing.
-use Rattle.read_location.specs.Rows.{noted-append}
+-- `read_location_row::note_seven` meets its contract. Assumes nothing.
+use Rattle.read_location_row.specs.Rows.{noted-append}
 use borrow.Author.Needs.{needs}
-use Rattle.read_location.proofs.note_seven.Statement.{statement}
-use Rattle.read_location.proofs.note_seven.Tie as tie
+use Rattle.read_location_row.proofs.note_seven.Statement.{statement}
+use Rattle.read_location_row.proofs.note_seven.Tie as tie
 
 note-four-requires : tie.Need-note-four-requires
 note-four-requires c κs = search needs
