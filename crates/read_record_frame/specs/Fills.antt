@@ -2,7 +2,6 @@
 use Prim.Native.Nat.{ℕ, _+_, _*_}
 use native.Mathlib.Omega.{arith}
 use mathlib.Core.Path.{_≡_}
-use mathlib.Core.Bool.{false}
 use mathlib.Core.List.{List, _++_}
 use lib.ListN.{length, length-append}
 use lib.Seq.{sets}
@@ -10,11 +9,12 @@ use Rattle.spec_format.specs.Table.{Table}
 use Rattle.spec_format.specs.Rooms.{perhaps, pieceText, contigText, contigRows, locationNumbers, locationCount, piecesText, headPieces, referencePieces, commentPieces, textsOf, rowsOf, referencesAt, commentsAt, featuresAt, contigAt}
 use Rattle.base_pen.specs.Pen.{Wrote}
 use Rattle.read_field_optional.specs.declared.MayEntry.{MayEntry}
-use Rattle.read_field_optional.specs.Fields.{MayStand}
-use Rattle.read_record_middle.specs.Middles.{contigIn}
+use Rattle.read_contig.specs.Contigs.{ContigStands}
 
-pub record ContigStands (s : List ℕ) (contig : MayEntry) : Type 0 where
-  pub stands : MayStand s 0 false (contigIn s contig) contig
+-- CONTIG's text stands where its entry says, with so many rows
+pub record ContigReady (s : List ℕ) (contig : MayEntry) : Type 0 where
+  pub rows : ℕ
+  pub stands : ContigStands s contig rows
 
 -- ---- what was put
 
