@@ -1,16 +1,16 @@
 -- A whole bare text: its first line and the further ones, its tests, and its way into a room. Assumes nothing.
 use Prim.Native.Nat.{ℕ, _+_, _-_, _≤_}
-use mathlib.Core.Path.{_≡_, refl, sym, subst, _∙_}
+use mathlib.Core.Path.{_≡_, refl, sym, _∙_}
 use mathlib.Core.Bool.{Bool, true, false}
 use mathlib.Core.List.{List, _++_}
 use native.Mathlib.Omega.{arith}
-use lib.ListN.{length, drop, length-append, length-drop}
+use lib.ListN.{length, drop, length-append}
 use lib.Dec.{eqb}
 use Rattle.spec_format.specs.Bytes.{concat}
 use Rattle.spec_format.specs.Utf8.{utf8}
 use Rattle.spec_format.specs.Readers.{Ans, Got, No, Cut, bind, mapped, passing, utf8Of, line, loop, end}
 use Rattle.spec_format.specs.Features.{bareMore, bare}
-use Rattle.spec_loops.specs.Shrinks.{bareMore-small, bare-takes, leaves-length}
+use Rattle.spec_loops.specs.Shrinks.{bareMore-small}
 use Rattle.scan_bytes.specs.Places.{part}
 use Rattle.scan_bytes.specs.Parts.{length-part}
 use Rattle.scan_bytes.specs.Views.{Lined}
@@ -27,7 +27,7 @@ use Rattle.read_feature_bare.specs.declared.Further.{Further}
 use Rattle.read_feature_bare.specs.declared.Further.the-variants as further
 use Rattle.read_feature_bare.specs.declared.Bare.{Bare}
 use Rattle.read_feature_bare.specs.declared.Bare.the-variants as bare′
-use Rattle.read_feature_bare.specs.Bared.{bareText, Furthered, BareSpan, PastBare, Bared}
+use Rattle.read_feature_bare.specs.Bared.{bareText, Furthered, Bared, bared-is, bared-span, bared-places}
 use Rattle.read_feature_bare.proofs.Lines.{further-places, further-is}
 
 -- ---- places of a line
@@ -109,30 +109,19 @@ module _ (s : List ℕ) (at indent : ℕ) (r : Bare) (h : Bared s at 0 start (ba
   bared-cut p q = record { is = rw (← h .is, q); place = tt }
 
   module _ (n next : ℕ) (state : State) (q : r ≡ bare′.Got n next state) where
-    bared-is : bare indent (drop at s) ≡ Got (bareText indent (drop at s)) (drop next s)
-    bared-is = rw (← h .is, q)
-
-    bared-span : BareSpan s at 0 start (bareText indent (drop at s)) n next state
-    bared-span = subst (λ (x : Bare). PastBare s at 0 start (bareText indent (drop at s)) x) q (h .place)
-
     passed : (p : List ℕ → Bool) → p (bareText indent (drop at s)) ≡ true
         → Valued s at (bareText indent (drop at s)) (passing p (bare indent (drop at s))) (value.Got n next)
-    passed p e =
-        let k = leaves-length (bare-takes indent (drop at s)) _ _ bared-is in
-        let b = bared-span in let w = b .within in let f = b .from in let y = b .short in let d = b .long in
-        let i : length (drop next s) ≡ length s - next = length-drop next s in
-        let j : length (drop at s) ≡ length s - at = length-drop at s in
-        record { is = passing-got p bared-is e; place = record { from = omega arith; within = w; long = omega arith; short = omega arith } }
+    passed p e = record { is = passing-got p (bared-is h q) e; place = bared-places s at indent r n next state h q }
 
     failed : (p : List ℕ → Bool) → p (bareText indent (drop at s)) ≡ false
         → Valued s at (bareText indent (drop at s)) (passing p (bare indent (drop at s))) value.No
-    failed p e = record { is = passing-no p bared-is e; place = tt }
+    failed p e = record { is = passing-no p (bared-is h q) e; place = tt }
 
     pub text-valid : (ok : Bool) → ok ≡ eqb (state .more) 0 → ok ≡ true → Valued s at (bareText indent (drop at s)) (utf8Of (bare indent (drop at s))) (value.Got n next)
-    text-valid ok e v = passed utf8 (ran-utf8 _ state (bared-span .ran) ∙ sym e ∙ v)
+    text-valid ok e v = passed utf8 (ran-utf8 _ state (bared-span h q .ran) ∙ sym e ∙ v)
 
     pub text-invalid : (ok : Bool) → ok ≡ eqb (state .more) 0 → ok ≡ false → Valued s at (bareText indent (drop at s)) (utf8Of (bare indent (drop at s))) value.No
-    text-invalid ok e v = failed utf8 (ran-utf8 _ state (bared-span .ran) ∙ sym e ∙ v)
+    text-invalid ok e v = failed utf8 (ran-utf8 _ state (bared-span h q .ran) ∙ sym e ∙ v)
 
   pub text-no : r ≡ bare′.No → Valued s at (bareText indent (drop at s)) (utf8Of (bare indent (drop at s))) value.No
   text-no q = bared-no utf8 q
