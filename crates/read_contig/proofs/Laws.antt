@@ -99,7 +99,7 @@ module _ (s : List ℕ) (at : ℕ) (e : Entry) (w : Known s at false (asEntry (d
           is = record {
             shallow = refl;
             is = rw (w .is, f);
-            stands = record { text = tt; counted = refl; few = omega arith };
+            stands = record { text = tt; counted = refl; few = omega arith; read = refl };
             within = h;
           };
         }
@@ -124,6 +124,7 @@ module _ (s : List ℕ) (at : ℕ) (e : Entry) (w : Known s at false (asEntry (d
               text = subst (λ (t : List ℕ). Stands s 0 false t e) z d;
               counted = a .1 ∙ ap (λ (t : List ℕ). length (rowsIn true t)) z;
               few = omega (arith, a .1, w .sized, locates-most true (w .the) (a .0));
+              read = subst (λ (t : List ℕ). locates true t ≡ true) z (a .0);
             };
             within = w .within;
           };
@@ -150,7 +151,7 @@ module _ (s : List ℕ) (at : ℕ) (b : Bool) (g : b ≡ deepContig (drop at s))
           is = record {
             shallow = sym g ∙ f;
             is = rw (no-entry h e);
-            stands = record { text = tt; counted = refl; few = omega arith };
+            stands = record { text = tt; counted = refl; few = omega arith; read = refl };
             within = l;
           };
         }

@@ -13,7 +13,7 @@ ghost use Rattle.spec_format.specs.Location.{reading, isDeep, locates};
 ghost use Rattle.spec_format.specs.Deep.{deepFeature};
 ghost use Rattle.scan_location_bytes.specs.Views.{view};
 ghost use Rattle.read_feature_bare.specs.Bared.{bareText};
-ghost use Rattle.read_feature_location.specs.Places.{LocationFound};
+ghost use Rattle.read_feature_location.specs.Places.{LocationFound, LocationPut};
 
 // A location's length, the place after it, and how many rows its reading has.
 pub enum Located {
@@ -26,17 +26,23 @@ pub enum Located {
     Cut,
 }
 
-// A text that has no reading is not taken, be it too deep.
-pub fn location_at(s: &[u8], at: usize, indent: usize) -> Located
-    requires { ⌜ (at ≤ length (now s)) × (length (now s) ≤ 16777216) ⌝ }
-    ensures { λ r. ⌜ LocationFound (now (s .entry)) at (bareText indent (drop at (now (s .entry)))) (passing (locates false) (bare indent (drop at (now (s .entry))))) r ⌝ }
+// The location at `at`, whose rows are put from row `first` on. A text that has no reading is not taken, be it too deep.
+pub fn put_location(
+    s: &[u8],
+    at: usize,
+    indent: usize,
+    out: &mut [usize],
+    first: usize,
+) -> Located
+    requires { ⌜ (at ≤ length (now s)) × ((length (now s) ≤ 16777216) × (first ≤ 16777216)) ⌝ }
+    ensures { λ r. ⌜ LocationPut (now (s .entry)) at (bareText indent (drop at (now (s .entry)))) (passing (locates false) (bare indent (drop at (now (s .entry))))) (now (out .entry)) (now (out .exit)) first r ⌝ }
 {
     match read_feature_bare::bare_at(s, at, indent) {
         Bare::Got {
             length,
             next,
             state: _,
-        } => match read_location::location_at(s, Laid::Feature(indent), false, at, &mut [], &[], 0) {
+        } => match read_location::location_at(s, Laid::Feature(indent), false, at, out, &[], first) {
             Location::Read { rows, same: _ } => Located::Got { length, next, rows },
             Location::None => Located::No,
             Location::TooDeep => Located::No,
@@ -44,6 +50,14 @@ pub fn location_at(s: &[u8], at: usize, indent: usize) -> Located
         Bare::No => Located::No,
         Bare::Cut => Located::Cut,
     }
+}
+
+// The same, with no row put.
+pub fn location_at(s: &[u8], at: usize, indent: usize) -> Located
+    requires { ⌜ (at ≤ length (now s)) × (length (now s) ≤ 16777216) ⌝ }
+    ensures { λ r. ⌜ LocationFound (now (s .entry)) at (bareText indent (drop at (now (s .entry)))) (passing (locates false) (bare indent (drop at (now (s .entry))))) r ⌝ }
+{
+    put_location(s, at, indent, &mut [], 0)
 }
 
 // Whether a seventeenth word opens in the text so far, with no fault before it.

@@ -1,70 +1,16 @@
--- `read_feature_location::location_at` meets its contract. Assumes nothing.
+-- `location_at`: what is found where no row is put.
 use borrow.Author.Needs.{needs}
-use Rattle.read_feature_location.proofs.Laws.{locating}
 use Rattle.read_feature_location.proofs.location_at.Statement.{statement}
 use Rattle.read_feature_location.proofs.location_at.Tie as tie
 
-bare-at-requires : tie.Need-bare-at-requires
-bare-at-requires c κs = search needs
+slice-aggregate-put-location : tie.Need-slice-aggregate-put-location
+slice-aggregate-put-location c = search needs
 
-enum-known-length : tie.Need-enum-known-length
-enum-known-length c = search needs
-
-slice-aggregate-location-at : tie.Need-slice-aggregate-location-at
-slice-aggregate-location-at c = search needs
-
-slice-aggregate-location-at-2 : tie.Need-slice-aggregate-location-at-2
-slice-aggregate-location-at-2 c = search needs
-
-location-at-requires : tie.Need-location-at-requires
-location-at-requires c κs = search needs
-
-enum-known-rows : tie.Need-enum-known-rows
-enum-known-rows c = search needs
-
-enum-told : tie.Need-enum-told
-enum-told c = search needs
-
-enum-told-2 : tie.Need-enum-told-2
-enum-told-2 c = search needs
-
-enum-told-3 : tie.Need-enum-told-3
-enum-told-3 c = search needs
-
-enum-told-4 : tie.Need-enum-told-4
-enum-told-4 c = search needs
+put-location-requires : tie.Need-put-location-requires
+put-location-requires c κs = search needs
 
 returns : tie.Need-returns
-returns c = search (locating, needs)
-
-returns-2 : tie.Need-returns-2
-returns-2 c = search (locating, needs)
-
-returns-3 : tie.Need-returns-3
-returns-3 c = search (locating, needs)
-
-returns-4 : tie.Need-returns-4
-returns-4 c = search (locating, needs)
-
-returns-5 : tie.Need-returns-5
-returns-5 c = search (locating, needs)
+returns c = c .before .put-location .ensures .found
 
 pub location-at-spec : {M : Type 1} → statement M
-location-at-spec =
-    tie.close
-    (tie.spec
-    bare-at-requires
-    enum-known-length
-    slice-aggregate-location-at
-    slice-aggregate-location-at-2
-    location-at-requires
-    enum-known-rows
-    enum-told
-    enum-told-2
-    enum-told-3
-    enum-told-4
-    returns
-    returns-2
-    returns-3
-    returns-4
-    returns-5)
+location-at-spec = tie.close (tie.spec slice-aggregate-put-location put-location-requires returns)
