@@ -4,6 +4,7 @@ use mathlib.Core.Path.{_≡_, refl, sym, _∙_}
 use mathlib.Core.Bool.{Bool, true, false}
 use mathlib.Core.List.{List}
 use lib.ListN.{length}
+use Rattle.spec_format.specs.Impossible.{impossible}
 use Rattle.spec_format.specs.Location.{Reading, one, none, tooDeep, isOne, isDeep, rowsOne}
 use Rattle.read_location.specs.declared.Location.{Location}
 use Rattle.read_location.specs.declared.Location.the-variants as location

@@ -1,4 +1,4 @@
-// A feature's location: a bare text that has a reading (document 02, ticket 1), found where it stands; and number 14. Nothing is written.
+// A feature's location: a bare text that has a reading (document 02, ticket 1), found where it stands, its rows put into lent room; and number 14.
 use read_feature_bare::Bare;
 use read_feature_names::Kind;
 use read_location::Location;
@@ -13,7 +13,7 @@ ghost use Rattle.spec_format.specs.Location.{reading, isDeep, locates};
 ghost use Rattle.spec_format.specs.Deep.{deepFeature};
 ghost use Rattle.scan_location_bytes.specs.Views.{view};
 ghost use Rattle.read_feature_bare.specs.Bared.{bareText};
-ghost use Rattle.read_feature_location.specs.Places.{LocationFound};
+ghost use Rattle.read_feature_location.specs.Places.{LocationFound, LocationPut};
 
 // A location's length, the place after it, and how many rows its reading has.
 pub enum Located {
@@ -26,17 +26,31 @@ pub enum Located {
     Cut,
 }
 
-// A text that has no reading is not taken, be it too deep.
-pub fn location_at(s: &[u8], at: usize, indent: usize) -> Located
-    requires { ⌜ (at ≤ length (now s)) × (length (now s) ≤ 16777216) ⌝ }
-    ensures { λ r. ⌜ LocationFound (now (s .entry)) at (bareText indent (drop at (now (s .entry)))) (passing (locates false) (bare indent (drop at (now (s .entry))))) r ⌝ }
+// Its rows are put into `out` from row `first` on; past the end of `out` nothing is put. A text that has no reading is not taken, be it too deep.
+pub fn put_location(
+    s: &[u8],
+    at: usize,
+    indent: usize,
+    out: &mut [usize],
+    first: usize,
+) -> Located
+    requires { ⌜ (at ≤ length (now s)) × (length (now s) ≤ 16777216) × (first ≤ 16777216) ⌝ }
+    ensures { λ r. ⌜ LocationPut (now (s .entry)) at (bareText indent (drop at (now (s .entry)))) (passing (locates false) (bare indent (drop at (now (s .entry))))) (now (out .entry)) (now (out .exit)) first r ⌝ }
 {
     match read_feature_bare::bare_at(s, at, indent) {
         Bare::Got {
             length,
             next,
             state: _,
-        } => match read_location::location_at(s, Laid::Feature(indent), false, at, &mut [], &[], 0) {
+        } => match read_location::location_at(
+            s,
+            Laid::Feature(indent),
+            false,
+            at,
+            out,
+            &[],
+            first,
+        ) {
             Location::Read { rows, same: _ } => Located::Got { length, next, rows },
             Location::None => Located::No,
             Location::TooDeep => Located::No,
@@ -44,6 +58,14 @@ pub fn location_at(s: &[u8], at: usize, indent: usize) -> Located
         Bare::No => Located::No,
         Bare::Cut => Located::Cut,
     }
+}
+
+// The same, and nothing is put.
+pub fn location_at(s: &[u8], at: usize, indent: usize) -> Located
+    requires { ⌜ (at ≤ length (now s)) × (length (now s) ≤ 16777216) ⌝ }
+    ensures { λ r. ⌜ LocationFound (now (s .entry)) at (bareText indent (drop at (now (s .entry)))) (passing (locates false) (bare indent (drop at (now (s .entry))))) r ⌝ }
+{
+    put_location(s, at, indent, &mut [], 0)
 }
 
 // Whether a seventeenth word opens in the text so far, with no fault before it.
