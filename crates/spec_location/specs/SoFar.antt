@@ -1,22 +1,22 @@
 -- The text so far, byte by byte and line by line, and that it is the text that a feature's location or CONTIG is read as.
-use Prim.Native.Nat.{ℕ, zero, suc, _+_, _-_, _≤_, _<_}
-use mathlib.Core.Bool.{Bool, true, false, not}
+use Prim.Native.Nat.{ℕ, zero, suc, _+_, _-_, _<_}
+use mathlib.Core.Bool.{Bool, true, false}
 use mathlib.Core.Path.{_≡_, refl, ap, _∙_, sym}
-use mathlib.Core.List.{List, [], _∷_, _++_, append-assoc, append-nil}
+use mathlib.Core.List.{List, [], _∷_, _++_, append-assoc}
 use native.Mathlib.Omega.{arith}
 use borrow.Author.Tests.{eqb-true, eq-eqb}
 use lib.ListN.{length, drop, take, length-append}
 use lib.Seq.{take-at, drop-append-seam}
 use lib.Dec.{eqb}
-use Rattle.spec_format.specs.Bytes.{pick, some, starts, all, spaces, concat, each}
-use Rattle.spec_format.specs.Readers.{Ans, Got, No, Cut, bind, mapped, tag, push, lineFeed, line, lineEnd, Turn, more, stop, members, end, loop, fitTurn, many0}
-use Rattle.spec_format.specs.Header.{furtherLine, fieldText, concatLines, lineAfter}
+use Rattle.spec_format.specs.Bytes.{starts, all, spaces, concat, each}
+use Rattle.spec_format.specs.Readers.{Ans, Got, No, Cut, mapped, tag, lineFeed, line, lineEnd, more, members, end, fitTurn}
+use Rattle.spec_format.specs.Header.{furtherLine, fieldText, lineAfter}
 use Rattle.spec_format.specs.Features.{notSlash, bareTurn, bareMore, bare}
 use Rattle.spec_format.specs.Location.{run, past}
 use Rattle.spec_format.specs.Deep.{inLine, furtherStart, lineOn, soFar}
 use Rattle.spec_format.specs.Impossible.{impossible}
-use Rattle.spec_loops.specs.Loops.{Shrinks, members-more, members-no, members-cut, members-stop, end-more, end-stop, end-no, end-cut, fit-members-more, fit-members-stop, fit-end-more, fit-end-stop, fit-end-cut}
-use Rattle.spec_loops.specs.Shrinks.{Past, past-here, past-byte, Leaves, leaves-got, leaves-no, leaves-pick, leaves-first, leaves-length, tag-loose, end-takes, bareMore-small, further-small}
+use Rattle.spec_loops.specs.Loops.{Shrinks, members-more, members-no, members-cut, members-stop, end-more, end-no, end-cut, fit-members-more, fit-members-stop, fit-end-more, fit-end-stop, fit-end-cut}
+use Rattle.spec_loops.specs.Shrinks.{Past, past-here, Leaves, leaves-got, leaves-no, leaves-pick, leaves-first, leaves-length, tag-loose, end-takes, bareMore-small, further-small}
 use Rattle.spec_location.specs.Bytes.{run-past}
 use Rattle.spec_location.specs.Tests.{all-head, all-tail}
 
