@@ -3,19 +3,19 @@ use Prim.Native.Nat.{ℕ, zero, suc, _+_, _-_, _≤_, _<_}
 use native.Mathlib.Nat.{suc-sub-suc, sub-zero}
 use native.Mathlib.Omega.{arith}
 use mathlib.Core.Path.{_≡_, refl, sym, ap, _∙_}
-use mathlib.Core.Bool.{Bool, true, false}
+use mathlib.Core.Bool.{Bool}
 use mathlib.Core.List.{List, [], _∷_, _++_, append-assoc}
 use lib.ListN.{length, length-append}
-use borrow.Author.Tests.{eq-eqb, ne-eqb}
-use Rattle.spec_format.specs.Bytes.{pick, May, absent, is, bytes}
+use borrow.Author.Tests.{ne-eqb}
+use Rattle.spec_format.specs.Bytes.{absent, is}
 use Rattle.spec_format.specs.Table.{LocationRow}
-use Rattle.spec_format.specs.Location.{Found, found, fault, deep, andThen, behind, Begin, word, other, begin, wordRow, closedBy, closed, ahead, commaIn, membersIn, single, plain, locationFrom, location}
+use Rattle.spec_format.specs.Location.{Found, found, fault, deep, behind, word, other, begin, wordRow, closedBy, closed, ahead, commaIn, membersIn, single, plain, locationFrom, location}
 use Rattle.spec_location.specs.Bytes.{members-more, members-last}
 use Rattle.scan_location_bytes.specs.declared.Laid.{Laid}
 use Rattle.scan_location_bytes.specs.declared.Spot.{Spot}
 use Rattle.scan_location_bytes.specs.declared.Word.{Word}
 use Rattle.scan_location_bytes.specs.declared.Word.the-variants as words
-use Rattle.scan_location_bytes.specs.Views.{view, total, Ready, Past, Onto, AtReached, ReachedIs, Reached}
+use Rattle.scan_location_bytes.specs.Views.{view, total, Onto, Reached}
 use Rattle.scan_location_bytes.specs.Spots.{past-past, onto-past, onto-here, word-past, word-absent}
 use Rattle.scan_location.specs.declared.Row.{Row}
 use Rattle.scan_location.specs.declared.Plain.{Plain}
@@ -27,7 +27,7 @@ use Rattle.read_location_row.specs.declared.Pen.{Pen}
 use Rattle.read_location.specs.declared.RowsAt.{RowsAt}
 use Rattle.read_location.specs.declared.RowsAt.the-variants as rowsAt
 use Rattle.read_location_row.specs.Rows.{Noted, rows-append, rows-none}
-use Rattle.read_location.specs.Reads.{Stands, AtGot, LocatedIs, Located, Behind, Closable, Closes}
+use Rattle.read_location.specs.Reads.{Stands, AtGot, LocatedIs, Located, Closes}
 use Rattle.read_location.proofs.Spots.{past-over, stands-past, got-behind, located-from, located-behind, located-ready}
 
 -- ---- a location of one row
@@ -44,9 +44,6 @@ module _ (o : Found LocationRow) (laid : Laid) (s : List ℕ) (p : Spot) (z : Pl
 pub ruleset plainly = (plain-row, plain-fault)
 
 -- ---- a comma, a bracket
-pub comma-none : (laid : Laid) (s : List ℕ) (p : Spot) (form : ℕ) → form ≡ 4 → Reached laid s p (commaIn form (view laid s (p .at))) words.Other
-comma-none laid s p form e = record { by = rw (eq-eqb _ _ e) }
-
 pub comma-some : (laid : Laid) (s : List ℕ) (p : Spot) (form : ℕ) → (form ≡ 4 → ⊥) → (r : Word) → Reached laid s p (behind (44 ∷ []) (view laid s (p .at))) r
     → Reached laid s p (commaIn form (view laid s (p .at))) r
 comma-some laid s p form h r g = rw (ne-eqb _ _ h) g
@@ -248,8 +245,4 @@ module _ (o : Found (List LocationRow)) (gaps : Bool) (left form : ℕ) (laid : 
       pub go-less : (z : Spot) → w ≡ words.Past z → length s - z .at < length s - q .at
       go-less z f = let a = word-past laid s _ _ w h z f in omega (arith, got .past .up, a .past .up, a .past .within)
 
-pub going-stands : (o : Found (List LocationRow)) (gaps : Bool) (left form : ℕ) (laid : Laid) (s seen old : List ℕ) (p : Spot) (pen : Pen) (mid : List ℕ) (q : Spot) (to : Pen)
-    → Going o gaps left form laid s seen old p pen mid q to → Stands laid s q to
-going-stands o gaps left form laid s seen old p pen mid q to g = g .stands
-
-pub ruleset cycle = (located-behind, loc-word, loc-plain, stands-word, word-deep, word-read, go-start, go-fault, go-deep, located-ready, go-last, go-more, go-less, going-stands)
+pub ruleset cycle = (located-behind, loc-word, loc-plain, stands-word, word-deep, word-read, go-start, go-fault, go-deep, located-ready, go-last, go-more, go-less)

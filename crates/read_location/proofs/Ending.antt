@@ -1,12 +1,11 @@
 -- The whole text. Assumes nothing.
-use Prim.Native.Nat.{ℕ, _+_, _-_, _*_, _≤_}
+use Prim.Native.Nat.{ℕ, _-_, _*_, _≤_}
 use native.Mathlib.Nat.{zero-add}
 use native.Mathlib.Omega.{arith}
 use mathlib.Core.Path.{_≡_, refl, sym, ap, _∙_}
 use mathlib.Core.Bool.{Bool, true}
-use mathlib.Core.List.{List, [], _∷_}
+use mathlib.Core.List.{List}
 use lib.ListN.{length, take, drop}
-use lib.Seq.{sets}
 use Rattle.spec_format.specs.Bytes.{same}
 use Rattle.spec_format.specs.Table.{LocationRow}
 use Rattle.spec_format.specs.Rooms.{locationNumbers}
@@ -22,9 +21,9 @@ use Rattle.read_location.specs.declared.RowsAt.{RowsAt}
 use Rattle.read_location.specs.declared.RowsAt.the-variants as rowsAt
 use Rattle.read_location.specs.declared.Location.{Location}
 use Rattle.read_location.specs.declared.Location.the-variants as locations
-use Rattle.read_location_row.specs.Rows.{stand, Noted, numbers-length}
+use Rattle.read_location_row.specs.Rows.{Noted, numbers-length}
 use Rattle.read_location.proofs.Spots.{located-behind}
-use Rattle.read_location.specs.Reads.{Stands, AtGot, Located, Behind, Closable, locationOf, Answered, Ends}
+use Rattle.read_location.specs.Reads.{Stands, AtGot, Located, Closable, locationOf, Answered, Ends}
 
 -- ---- the answers
 answer-none : {x : Reading} {seen old new : List ℕ} {first : ℕ} → x ≡ none → Answered x seen old first new locations.None

@@ -1,19 +1,19 @@
 -- From spot to spot, and what is known of a spot behind what was read. Assumes nothing.
-use Prim.Native.Nat.{ℕ, suc, _+_, _-_, _≤_, _<_}
-use mathlib.Core.Path.{_≡_, refl, sym, ap, _∙_}
-use mathlib.Core.List.{List, [], _∷_}
+use Prim.Native.Nat.{ℕ, _≤_}
+use mathlib.Core.Path.{_≡_}
+use mathlib.Core.List.{List}
 use native.Mathlib.Omega.{arith}
 use lib.ListN.{length}
 use Rattle.spec_format.specs.Table.{LocationRow}
 use Rattle.spec_format.specs.Location.{Found}
 use Rattle.scan_location_bytes.specs.declared.Laid.{Laid}
 use Rattle.scan_location_bytes.specs.declared.Spot.{Spot}
-use Rattle.scan_location_bytes.specs.Views.{view, Ready, Past, Onto}
+use Rattle.scan_location_bytes.specs.Views.{Ready, Past, Onto}
 use Rattle.scan_location_bytes.specs.Spots.{past-past, past-ready}
 use Rattle.read_location_row.specs.declared.Pen.{Pen}
 use Rattle.read_location.specs.declared.RowsAt.{RowsAt}
 use Rattle.read_location.specs.declared.RowsAt.the-variants as rowsAt
-use Rattle.read_location.specs.Reads.{Stands, AtGot, LocatedIs, Located, Behind, Closable}
+use Rattle.read_location.specs.Reads.{Stands, AtGot, Located, Behind, Closable}
 
 module _ {laid : Laid} {s : List ℕ} where
   pub past-over : {a b : Spot} → Past laid s a b → Onto laid s a b

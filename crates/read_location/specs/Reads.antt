@@ -1,7 +1,7 @@
 -- What the answers of the location's reader say of the text at a spot, and of the rows that were put.
 use Prim.Native.Nat.{ℕ, _+_, _*_, _≤_}
 use mathlib.Core.Path.{_≡_}
-use mathlib.Core.Bool.{Bool, true}
+use mathlib.Core.Bool.{true}
 use mathlib.Core.List.{List}
 use lib.ListN.{length, take, drop}
 use lib.Seq.{sets}
@@ -17,7 +17,7 @@ use Rattle.read_location.specs.declared.RowsAt.{RowsAt}
 use Rattle.read_location.specs.declared.RowsAt.the-variants as rowsAt
 use Rattle.read_location.specs.declared.Location.{Location}
 use Rattle.read_location.specs.declared.Location.the-variants as locations
-use Rattle.read_location_row.specs.Rows.{stand, Noted}
+use Rattle.read_location_row.specs.Rows.{Noted}
 
 -- a spot and a pen from which to read: each row so far has a byte of its own, so that no number of a row wraps
 pub record Stands (laid : Laid) (s : List ℕ) (p : Spot) (pen : Pen) : Type 0 where

@@ -1,17 +1,17 @@
 -- Rows put into lent room and compared with those of another at once, and the laws of that.
-use Prim.Native.Nat.{ℕ, zero, suc, _+_, _*_, _≤_, _<_, _^_}
-use native.Mathlib.Nat.{add-zero, zero-add}
+use Prim.Native.Nat.{ℕ, _+_, _*_, _≤_, _<_}
+use native.Mathlib.Nat.{add-zero}
 use native.Mathlib.Omega.{arith}
 use mathlib.Core.Path.{_≡_, refl, sym, ap, _∙_}
-use mathlib.Core.Bool.{Bool, true, false, _&&_, and-assoc, and-true}
-use mathlib.Core.List.{List, [], _∷_, _++_, append-assoc}
+use mathlib.Core.Bool.{Bool, false, _&&_, and-assoc, and-true}
+use mathlib.Core.List.{List, [], _∷_, _++_}
 use lib.ListN.{length, take, drop, getD, length-append, drop-of-length-le}
 use lib.Seq.{sets, drop-cons, drop-drop}
 use lib.Dec.{eqb}
-use Rattle.spec_format.specs.Bytes.{same, each}
+use Rattle.spec_format.specs.Bytes.{same}
 use Rattle.spec_format.specs.Table.{LocationRow}
 use Rattle.spec_format.specs.Rooms.{rowNumbers, locationNumbers}
-use Rattle.base_pen.specs.Pen.{Wrote, Writes, sets-append}
+use Rattle.base_pen.specs.Pen.{Writes, sets-append}
 use Rattle.read_location_row.specs.declared.Pen.{Pen}
 
 -- whether numbers stand in a list from a place on

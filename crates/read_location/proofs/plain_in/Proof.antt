@@ -5,7 +5,7 @@ use Rattle.read_location.proofs.plain_in.Statement.{statement}
 use Rattle.read_location.proofs.plain_in.Tie as tie
 
 plain-at-requires : tie.Need-plain-at-requires
-plain-at-requires c κs = search (plainly, needs)
+plain-at-requires c κs = search needs
 
 enum-known-row : tie.Need-enum-known-row
 enum-known-row c = search needs
