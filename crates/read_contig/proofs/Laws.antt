@@ -99,7 +99,7 @@ module _ (s : List ℕ) (at : ℕ) (e : Entry) (w : Known s at false (asEntry (d
           is = record {
             shallow = refl;
             is = rw (w .is, f);
-            stands = record { text = tt; counted = refl; few = omega arith; read = refl };
+            stands = record { text = tt; read = refl; counted = refl; few = omega arith };
             within = h;
           };
         }
@@ -122,9 +122,9 @@ module _ (s : List ℕ) (at : ℕ) (e : Entry) (w : Known s at false (asEntry (d
             is = taken (a .0) ∙ ap (λ (t : List ℕ). Got (is (contigOf t)) (drop (e .next) s)) z;
             stands = record {
               text = subst (λ (t : List ℕ). Stands s 0 false t e) z d;
+              read = subst (λ (t : List ℕ). locates true t ≡ true) z (a .0);
               counted = a .1 ∙ ap (λ (t : List ℕ). length (rowsIn true t)) z;
               few = omega (arith, a .1, w .sized, locates-most true (w .the) (a .0));
-              read = subst (λ (t : List ℕ). locates true t ≡ true) z (a .0);
             };
             within = w .within;
           };
@@ -151,7 +151,7 @@ module _ (s : List ℕ) (at : ℕ) (b : Bool) (g : b ≡ deepContig (drop at s))
           is = record {
             shallow = sym g ∙ f;
             is = rw (no-entry h e);
-            stands = record { text = tt; counted = refl; few = omega arith; read = refl };
+            stands = record { text = tt; read = refl; counted = refl; few = omega arith };
             within = l;
           };
         }

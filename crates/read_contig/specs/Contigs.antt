@@ -9,8 +9,8 @@ use Rattle.spec_format.specs.Bytes.{May, absent, is, bytes}
 use Rattle.spec_format.specs.Readers.{Ans, Got, Cut, bind, spaces1}
 use Rattle.spec_format.specs.Table.{Contig}
 use Rattle.spec_format.specs.Header.{fieldText}
-use Rattle.spec_format.specs.Deep.{soFar, deepFrom, asked}
 use Rattle.spec_format.specs.Location.{locates}
+use Rattle.spec_format.specs.Deep.{soFar, deepFrom, asked}
 use Rattle.spec_format.specs.Record.{contigOf}
 use Rattle.spec_format.specs.WellFormed.{ifIs}
 use Rattle.spec_format.specs.Rooms.{contigRows}
@@ -38,12 +38,12 @@ abbrev pub contigAs : May (List ℕ) → May Contig
 contigAs absent = absent
 contigAs (is t) = is (contigOf t)
 
--- CONTIG's text stands where its entry says, has a reading, and this many rows, no more than bytes
+-- CONTIG's text stands where its entry says, and has a reading of this many rows, no more than bytes
 pub record ContigStands (s : List ℕ) (entry : MayEntry) (rows : ℕ) : Type 0 where
   pub text : MayStand s 0 false (contigIn s entry) entry
+  pub read : ifIs (locates true) (contigIn s entry) ≡ true
   pub counted : rows ≡ length (contigRows (contigAs (contigIn s entry)))
   pub few : rows ≤ mayLength entry
-  pub read : ifIs (locates true) (contigIn s entry) ≡ true
 
 pub record ContigKnown (s : List ℕ) (deep : Bool) (o : Ans (May Contig)) (entry : MayEntry) (rows next : ℕ) : Type 0 where
   pub shallow : deep ≡ false

@@ -5,7 +5,7 @@ use mathlib.Core.Bool.{Bool, false}
 use mathlib.Core.List.{List}
 use native.Mathlib.Omega.{arith}
 use lib.ListN.{length, drop}
-use Rattle.spec_format.specs.Readers.{passing}
+use Rattle.spec_format.specs.Readers.{Ans, passing}
 use Rattle.spec_format.specs.Features.{bare}
 use Rattle.spec_format.specs.Location.{reading, isDeep, locates, rowsIn}
 use Rattle.spec_format.specs.Deep.{soFar, deepFeature}
@@ -26,48 +26,55 @@ use Rattle.read_feature_names.specs.declared.Kind.{Kind}
 use Rattle.read_feature_names.specs.declared.Kind.the-variants as kind
 use Rattle.read_feature_location.specs.declared.Located.{Located}
 use Rattle.read_feature_location.specs.declared.Located.the-variants as located
-use Rattle.read_feature_location.specs.Places.{LocationPut}
+use Rattle.read_feature_location.specs.Places.{LocationFound, LocationPut}
 
 -- ---- the location
 
-module _ (s : List ℕ) (at indent : ℕ) (old new : List ℕ) (first : ℕ) (r : Bare) (h : Bared s at 0 start (bareText indent (drop at s)) (bare indent (drop at s)) r) where
-  -- what is found, and the rows that are put with it
-  abbrev Puts : Located → Type 0
-  Puts x = LocationPut s at (bareText indent (drop at s)) (passing (locates false) (bare indent (drop at s))) old new first x
+module _ (s : List ℕ) (at indent : ℕ) (r : Bare) (h : Bared s at 0 start (bareText indent (drop at s)) (bare indent (drop at s)) r) where
+  abbrev text : List ℕ
+  text = bareText indent (drop at s)
 
-  pub bare-no : r ≡ bare′.No → Puts located.No
-  bare-no q = record { found = record { is = rw (← h .is, q); place = tt }; put = tt }
+  abbrev asLocation : Ans (List ℕ)
+  asLocation = passing (locates false) (bare indent (drop at s))
 
-  pub bare-cut : r ≡ bare′.Cut → Puts located.Cut
-  bare-cut q = record { found = record { is = rw (← h .is, q); place = tt }; put = tt }
+  pub bare-no : (old new : List ℕ) (first : ℕ) → r ≡ bare′.No → LocationPut s at text asLocation old new first located.No
+  bare-no old new first q = record { found = record { is = rw (← h .is, q); place = tt }; put = tt }
 
-  module _ (n next : ℕ) (state : State) (q : r ≡ bare′.Got n next state) (seen : List ℕ) (x : Location)
+  pub bare-cut : (old new : List ℕ) (first : ℕ) → r ≡ bare′.Cut → LocationPut s at text asLocation old new first located.Cut
+  bare-cut old new first q = record { found = record { is = rw (← h .is, q); place = tt }; put = tt }
+
+  module _ (n next : ℕ) (state : State) (q : r ≡ bare′.Got n next state) (seen old : List ℕ) (first : ℕ) (new : List ℕ) (x : Location)
       (w : Answered (reading false (soFar false indent (drop at s))) seen old first new x) where
-    same-text : soFar false indent (drop at s) ≡ bareText indent (drop at s)
-    same-text = soFar-bare indent (drop at s) _ _ (bared-is h q)
+    read : Answered (reading false text) seen old first new x
+    read = rw (soFar-bare indent (drop at s) _ _ (bared-is h q)) at w
 
-    read : Answered (reading false (bareText indent (drop at s))) seen old first new x
-    read = rw same-text at w
-
-    pub text-located : (rows : ℕ) (same : Bool) → x ≡ location.Read rows same → Puts (located.Got n next rows)
+    pub text-located : (rows : ℕ) (same : Bool) → x ≡ location.Read rows same → LocationPut s at text asLocation old new first (located.Got n next rows)
     text-located rows same e =
         let k = answer-rows read e in
         let p = bared-places s at indent r n next state h q in
         record {
-          found = record {
-            is = passing-got (locates false) (bared-is h q) (k .0);
-            place = record { span = p; counted = k .1; few = omega (arith, k .1, p .long, locates-most false (bareText indent (drop at s)) (k .0)) };
-          };
-          put = read .put (rowsIn false (bareText indent (drop at s))) (locates-rows false (bareText indent (drop at s)) (k .0));
+          found =
+              record {
+                is = passing-got (locates false) (bared-is h q) (k .0);
+                place = record { span = p; counted = k .1; few = omega (arith, k .1, p .long, locates-most false text (k .0)) };
+              };
+          put = read .put (rowsIn false text) (locates-rows false text (k .0));
         }
 
-    pub text-none : x ≡ location.None → Puts located.No
-    text-none e = record { found = record { is = passing-no (locates false) (bared-is h q) (answer-none read e); place = tt }; put = tt }
+    untaken : locates false text ≡ false → LocationPut s at text asLocation old new first located.No
+    untaken e = record { found = record { is = passing-no (locates false) (bared-is h q) e; place = tt }; put = tt }
 
-    pub text-deep : x ≡ location.TooDeep → Puts located.No
-    text-deep e = record { found = record { is = passing-no (locates false) (bared-is h q) (answer-deep read e); place = tt }; put = tt }
+    pub text-none : x ≡ location.None → LocationPut s at text asLocation old new first located.No
+    text-none e = untaken (answer-none read e)
+
+    pub text-deep : x ≡ location.TooDeep → LocationPut s at text asLocation old new first located.No
+    text-deep e = untaken (answer-deep read e)
 
 pub ruleset locating = (bare-no, bare-cut, text-located, text-none, text-deep)
+
+-- what is put is found
+pub put-found : (s : List ℕ) (at : ℕ) (t : List ℕ) (o : Ans (List ℕ)) (old new : List ℕ) (first : ℕ) (r : Located) → LocationPut s at t o old new first r → LocationFound s at t o r
+put-found s at t o old new first r h = h .found
 
 -- ---- number 14 of a feature
 

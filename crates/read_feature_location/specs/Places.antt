@@ -1,4 +1,4 @@
--- A feature's location in a slice: the finder's answer as a reader's, where the text stands, and its rows put.
+-- A feature's location in a slice: the finder's answer as a reader's, and where the text stands.
 use Prim.Native.Nat.{ℕ, _*_, _≤_}
 use mathlib.Core.Path.{_≡_, subst}
 use mathlib.Core.Bool.{false}
@@ -32,20 +32,6 @@ pub record LocationFound (s : List ℕ) (at : ℕ) (t : List ℕ) (o : Ans (List
   pub is : locatedOf s t r ≡ o
   pub place : PastLocated s at t r
 
--- its rows, put into `old` from row `first` on
-abbrev pub RowsPut : List ℕ → List ℕ → List ℕ → ℕ → Located → Type 0
-RowsPut t old new first (located.Got n next rows) = new ≡ sets old (7 * first) (locationNumbers (rowsIn false t))
-RowsPut t old new first located.No = Unit
-RowsPut t old new first located.Cut = Unit
-
-pub record LocationPut (s : List ℕ) (at : ℕ) (t : List ℕ) (o : Ans (List ℕ)) (old new : List ℕ) (first : ℕ) (r : Located) : Type 0 where
-  pub found : LocationFound s at t o r
-  pub put : RowsPut t old new first r
-
-pub location-put : {s : List ℕ} {at : ℕ} {t : List ℕ} {o : Ans (List ℕ)} {old new : List ℕ} {first : ℕ} {r : Located} {n next rows : ℕ} →
-    LocationPut s at t o old new first r → r ≡ located.Got n next rows → new ≡ sets old (7 * first) (locationNumbers (rowsIn false t))
-location-put {t = t} {old = old} {new = new} {first = first} h e = subst (λ (x : Located). RowsPut t old new first x) e (h .put)
-
 module _ {s : List ℕ} {at : ℕ} {t : List ℕ} {o : Ans (List ℕ)} {r : Located} {n next rows : ℕ}
     (h : LocationFound s at t o r) (e : r ≡ located.Got n next rows) where
   pub location-places : LocationSpan s at t n next rows
@@ -53,3 +39,17 @@ module _ {s : List ℕ} {at : ℕ} {t : List ℕ} {o : Ans (List ℕ)} {r : Loca
 
   pub found-is : o ≡ Got t (drop next s)
   found-is = rw (← h .is, e)
+
+-- and its rows are put: `old` became `new`
+abbrev pub RowsPut : List ℕ → List ℕ → ℕ → List ℕ → Located → Type 0
+RowsPut old new first t (located.Got n next rows) = new ≡ sets old (7 * first) (locationNumbers (rowsIn false t))
+RowsPut old new first t located.No = Unit
+RowsPut old new first t located.Cut = Unit
+
+pub record LocationPut (s : List ℕ) (at : ℕ) (t : List ℕ) (o : Ans (List ℕ)) (old new : List ℕ) (first : ℕ) (r : Located) : Type 0 where
+  pub found : LocationFound s at t o r
+  pub put : RowsPut old new first t r
+
+pub location-put : {s : List ℕ} {at : ℕ} {t : List ℕ} {o : Ans (List ℕ)} {old new : List ℕ} {first : ℕ} {r : Located} {n next rows : ℕ}
+    → LocationPut s at t o old new first r → r ≡ located.Got n next rows → new ≡ sets old (7 * first) (locationNumbers (rowsIn false t))
+location-put {t = t} {old = old} {new = new} {first = first} h e = subst (λ (x : Located). RowsPut old new first t x) e (h .put)

@@ -1,4 +1,4 @@
-// A feature's location: a bare text that has a reading (document 02, ticket 1), found where it stands; and number 14. Nothing is written.
+// A feature's location: a bare text that has a reading (document 02, ticket 1), found where it stands, its rows put into lent room; and number 14.
 use read_feature_bare::Bare;
 use read_feature_names::Kind;
 use read_location::Location;
@@ -26,7 +26,7 @@ pub enum Located {
     Cut,
 }
 
-// The location at `at`, whose rows are put from row `first` on. A text that has no reading is not taken, be it too deep.
+// Its rows are put into `out` from row `first` on; past the end of `out` nothing is put. A text that has no reading is not taken, be it too deep.
 pub fn put_location(
     s: &[u8],
     at: usize,
@@ -34,7 +34,7 @@ pub fn put_location(
     out: &mut [usize],
     first: usize,
 ) -> Located
-    requires { ⌜ (at ≤ length (now s)) × ((length (now s) ≤ 16777216) × (first ≤ 16777216)) ⌝ }
+    requires { ⌜ (at ≤ length (now s)) × (length (now s) ≤ 16777216) × (first ≤ 16777216) ⌝ }
     ensures { λ r. ⌜ LocationPut (now (s .entry)) at (bareText indent (drop at (now (s .entry)))) (passing (locates false) (bare indent (drop at (now (s .entry))))) (now (out .entry)) (now (out .exit)) first r ⌝ }
 {
     match read_feature_bare::bare_at(s, at, indent) {
@@ -42,7 +42,15 @@ pub fn put_location(
             length,
             next,
             state: _,
-        } => match read_location::location_at(s, Laid::Feature(indent), false, at, out, &[], first) {
+        } => match read_location::location_at(
+            s,
+            Laid::Feature(indent),
+            false,
+            at,
+            out,
+            &[],
+            first,
+        ) {
             Location::Read { rows, same: _ } => Located::Got { length, next, rows },
             Location::None => Located::No,
             Location::TooDeep => Located::No,
@@ -52,7 +60,7 @@ pub fn put_location(
     }
 }
 
-// The same, with no row put.
+// The same, and nothing is put.
 pub fn location_at(s: &[u8], at: usize, indent: usize) -> Located
     requires { ⌜ (at ≤ length (now s)) × (length (now s) ≤ 16777216) ⌝ }
     ensures { λ r. ⌜ LocationFound (now (s .entry)) at (bareText indent (drop at (now (s .entry)))) (passing (locates false) (bare indent (drop at (now (s .entry))))) r ⌝ }

@@ -1,8 +1,8 @@
--- `read_record_middle::contig_at` meets its contract. Assumes nothing.
+-- `read_record_middle::contig_part` meets its contract. Assumes nothing.
 use borrow.Author.Needs.{needs}
 use Rattle.read_record_middle.proofs.Laws.{counting}
-use Rattle.read_record_middle.proofs.contig_at.Statement.{statement}
-use Rattle.read_record_middle.proofs.contig_at.Tie as tie
+use Rattle.read_record_middle.proofs.contig_part.Statement.{statement}
+use Rattle.read_record_middle.proofs.contig_part.Tie as tie
 
 slice-aggregate-may-field-at : tie.Need-slice-aggregate-may-field-at
 slice-aggregate-may-field-at c = search needs
@@ -16,11 +16,8 @@ enum-told c = search needs
 enum-known-next : tie.Need-enum-known-next
 enum-known-next c = search needs
 
-slice-aggregate-may-location-at : tie.Need-slice-aggregate-may-location-at
-slice-aggregate-may-location-at c = search needs
-
-may-location-at-requires : tie.Need-may-location-at-requires
-may-location-at-requires c κs = search (counting, needs)
+contig-at-requires : tie.Need-contig-at-requires
+contig-at-requires c κs = search (counting, needs)
 
 returns : tie.Need-returns
 returns c = search (counting, needs)
@@ -28,15 +25,14 @@ returns c = search (counting, needs)
 returns-2 : tie.Need-returns-2
 returns-2 c = search (counting, needs)
 
-pub contig-at-spec : {M : Type 1} → statement M
-contig-at-spec =
+pub contig-part-spec : {M : Type 1} → statement M
+contig-part-spec =
     tie.close
     (tie.spec
     slice-aggregate-may-field-at
     may-field-at-requires
     enum-told
     enum-known-next
-    slice-aggregate-may-location-at
-    may-location-at-requires
+    contig-at-requires
     returns
     returns-2)
