@@ -24,9 +24,8 @@ use Rattle.read_feature_bare.specs.Bared.{bareText, Bared, bared-is, bared-plac
 use Rattle.read_feature_names.specs.Headed.{PastKind, featureHead, KindRead, deep-is}
 use Rattle.read_feature_names.specs.declared.Kind.{Kind}
 use Rattle.read_feature_names.specs.declared.Kind.the-variants as kind
-use Rattle.read_feature_location.specs.declared.Located.{Located}
 use Rattle.read_feature_location.specs.declared.Located.the-variants as located
-use Rattle.read_feature_location.specs.Places.{LocationFound, LocationPut}
+use Rattle.read_feature_location.specs.Places.{LocationPut}
 
 -- ---- the location
 
@@ -71,10 +70,6 @@ module _ (s : List ℕ) (at indent : ℕ) (r : Bare) (h : Bared s at 0 start (ba
     text-deep e = untaken (answer-deep read e)
 
 pub ruleset locating = (bare-no, bare-cut, text-located, text-none, text-deep)
-
--- what is put is found
-pub put-found : (s : List ℕ) (at : ℕ) (t : List ℕ) (o : Ans (List ℕ)) (old new : List ℕ) (first : ℕ) (r : Located) → LocationPut s at t o old new first r → LocationFound s at t o r
-put-found s at t o old new first r h = h .found
 
 -- ---- number 14 of a feature
 

@@ -27,13 +27,7 @@ pub enum Located {
 }
 
 // Its rows are put into `out` from row `first` on; past the end of `out` nothing is put. A text that has no reading is not taken, be it too deep.
-pub fn put_location(
-    s: &[u8],
-    at: usize,
-    indent: usize,
-    out: &mut [usize],
-    first: usize,
-) -> Located
+pub fn put_location(s: &[u8], at: usize, indent: usize, out: &mut [usize], first: usize) -> Located
     requires { ⌜ (at ≤ length (now s)) × (length (now s) ≤ 16777216) × (first ≤ 16777216) ⌝ }
     ensures { λ r. ⌜ LocationPut (now (s .entry)) at (bareText indent (drop at (now (s .entry)))) (passing (locates false) (bare indent (drop at (now (s .entry))))) (now (out .entry)) (now (out .exit)) first r ⌝ }
 {
