@@ -1,5 +1,5 @@
 -- CONTIG by its word, its spaces, its entry and the reading of its text. Assumes nothing.
-use Prim.Native.Nat.{ℕ, _+_, _-_, _≤_, _<_, _^_}
+use Prim.Native.Nat.{ℕ, _+_, _-_, _≤_}
 use native.Mathlib.Omega.{arith}
 use mathlib.Core.Path.{_≡_, refl, sym, ap, subst, _∙_}
 use mathlib.Core.Bool.{Bool, true, false}
@@ -51,15 +51,12 @@ module _ (s : List ℕ) (at : ℕ) (r : Step) (h : Texted s at (spaces1 (drop at
     pub gap-within : n ≤ length s
     gap-within = text-places h e .1
 
-    pub gap-fits : length s ≤ 16777216 → n - at + 6 < 2 ^ 64
-    gap-fits m = omega (arith, gap-within)
-
     pub gap-got : (b : Bool) → b ≡ isDeep (reading true (soFar true (n - at + 6) (drop n s))) → b ≡ deepGap (drop at s)
     gap-got b k =
         let l : length (part at n s) ≡ n - at = length-part s at n gap-ahead gap-within in
         k ∙ sym (rw (← h .is, e, l))
 
-pub ruleset gaps = (gap-no, gap-cut, gap-ahead, gap-within, gap-fits, gap-got)
+pub ruleset gaps = (gap-no, gap-cut, gap-ahead, gap-within, gap-got)
 
 module _ (s : List ℕ) (at : ℕ) (r : Step) (h : Stepped s at (tag (bytes "CONTIG") (drop at s)) r) where
   pub word-no : r ≡ step.No → false ≡ deepContig (drop at s)

@@ -1,5 +1,6 @@
 -- `read_contig::deep_gap` meets its contract. Assumes nothing.
 use borrow.Author.Needs.{needs}
+use Rattle.scan_bytes.specs.Sequence.{text-places}
 use Rattle.read_contig.proofs.Laws.{gaps}
 use Rattle.read_contig.proofs.deep_gap.Statement.{statement}
 use Rattle.read_contig.proofs.deep_gap.Tie as tie
@@ -20,7 +21,7 @@ sub-t6 : tie.Need-sub-t6
 sub-t6 c = search (gaps, needs)
 
 add-t7 : tie.Need-add-t7
-add-t7 c = search (gaps, needs)
+add-t7 c = let p = text-places (c .before .before .before .spaces1 .ensures) (c .before .text .given .1) in search needs
 
 too-deep-requires : tie.Need-too-deep-requires
 too-deep-requires c κs = search (gaps, needs)
