@@ -2,7 +2,7 @@
 use Prim.Native.Nat.{ℕ, _+_, _<_, _^_}
 use native.Mathlib.Omega.{arith}
 use mathlib.Core.Bool.{false}
-use mathlib.Core.Path.{_≡_, refl, ap, _∙_}
+use mathlib.Core.Path.{_≡_, refl, sym, ap, _∙_}
 use mathlib.Core.List.{List, _++_}
 use lib.ListN.{length, length-append}
 use Rattle.spec_format.specs.Bytes.{May, absent, is, each}
@@ -109,14 +109,18 @@ module _ (s : List ℕ) (p : Plan) (h : Ready s p) where
       ≡ contigTextAt (contigAt (planTable s p)) (locationCount (planTable s p .features)) (planTable s p .contig)
   contig-is =
       let m = h .stands .rest .middle .contig in
-      rw (contig-place, rows-long, parts .contig) (go (p .rest .contig) (p .rest .«contig_rows») (contigIn s (p .rest .contig)) (m .text) (m .counted))
+      let t = planTable s p in
+      ap (λ (a : ℕ). contigEntry a (p .rest .contig) (p .rest .features .rows) (p .rest .«contig_rows»)) contig-place ∙
+      ap (λ (l : ℕ). contigEntry (contigAt t) (p .rest .contig) l (p .rest .«contig_rows»)) rows-long ∙
+      go (contigAt t) (locationCount (t .features)) (p .rest .contig) (p .rest .«contig_rows») (contigIn s (p .rest .contig)) (m .text) (m .counted) ∙
+      ap (λ (c : May Contig). contigTextAt (contigAt t) (locationCount (t .features)) c) (sym (parts .contig))
     where
-      go : (e : MayEntry) (rows : ℕ) (t : May (List ℕ)) → MayStand s 0 false t e → rows ≡ length (contigRows (contigAs t)) → {a l : ℕ} →
+      go : (a l : ℕ) (e : MayEntry) (rows : ℕ) (t : May (List ℕ)) → MayStand s 0 false t e → rows ≡ length (contigRows (contigAs t)) →
           contigEntry a e l rows ≡ contigTextAt a l (contigAs t)
-      go may.Absent rows absent k c = refl
-      go may.Absent rows (is t) k c = absurd k
-      go (may.Is e) rows absent k c = absurd k
-      go (may.Is e) rows (is t) k c = rw (k .sized, c)
+      go a l may.Absent rows absent k c = refl
+      go a l may.Absent rows (is t) k c = absurd k
+      go a l (may.Is e) rows absent k c = absurd k
+      go a l (may.Is e) rows (is t) k c = rw (k .sized, c)
 
   pub head-is : headPlan p ≡ headOf (planTable s p)
   unfolding headPlan
