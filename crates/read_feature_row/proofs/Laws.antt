@@ -134,6 +134,11 @@ module _ (s : List ℕ) (p : Reached) (first end′ location long rows rest : �
 
 -- ---- a feature by its location, and by its kind
 
+pub location-placed : (s : List ℕ) (p : Reached) (first end′ location : ℕ) (l₀ l₁ : List ℕ) (v : Located)
+    → LocationPut s location (bareText (location - p .at) (drop location s)) (passing (locates false) (bare (location - p .at) (drop location s))) l₀ l₁ (p .location) v
+    → (long rest rows : ℕ) → p .at < first → first < end′ → end′ < location → v ≡ located.Got long rest rows → Placed s (p .at) first end′ location long rows rest
+location-placed s p first end′ location l₀ l₁ v h long rest rows a b c e = placed s (p .at) first end′ location v (h .found) long rest rows a b c e
+
 module _ (s : List ℕ) (p : Reached) (t₀ t₁ q₀ q₁ l₀ l₁ : List ℕ) (r : Made) where
   -- where none starts
   none-made : (o : Ans Feature) → Ahead s p → RowThen s p o t₀ t₁ q₀ q₁ r → LocationsThen p o l₀ l₁ → r ≡ noRow p → FeaturePut s p o t₀ t₁ q₀ q₁ l₀ l₁ r
@@ -174,10 +179,6 @@ module _ (s : List ℕ) (p : Reached) (t₀ t₁ q₀ q₁ l₀ l₁ : List ℕ)
     location-cut ready e k =
         let b = location-short s (p .at) first end′ location v (h .found) e in
         none-made _ ready (rw b tt) (rw b tt) k
-
-    pub location-placed : (long rest rows : ℕ) → p .at < first → first < end′ → end′ < location → v ≡ located.Got long rest rows →
-        Placed s (p .at) first end′ location long rows rest
-    location-placed long rest rows a b c e = placed s (p .at) first end′ location v (h .found) long rest rows a b c e
 
   module _ (k : Kind) (h : KindRead s (p .at) (featureHead (drop (p .at) s)) k) where
     pub kind-got : (first end′ next : ℕ) → k ≡ kind.Got first end′ next

@@ -62,7 +62,7 @@ module _ (s : List ℕ) (contig : MayEntry) (h : ContigReady s contig) where
 
     -- ---- its rows
 
-    contig-text : List ℕ
+    abbrev contig-text : List ℕ
     contig-text = entry.textIn (fieldText (x .columns) false (drop (x .text) s))
 
     pub rows-from : x .text ≤ x .next
