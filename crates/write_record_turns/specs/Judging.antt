@@ -25,7 +25,7 @@ use Rattle.write_record_parts.specs.Parts.{beforeParts}
 use Rattle.write_record_parts.specs.Split.{featureAt, written-split}
 use Rattle.spec_format.specs.declared.How.{How}
 use Rattle.judge_rooms.specs.Facts.{feature-in}
-use Rattle.judge_rooms.specs.Parts.{featureRooms, featureNext, noRows}
+use Rattle.judge_rooms.specs.Parts.{featureRooms, featureNext, restHead}
 use Rattle.judge_rooms.specs.Steps.{and-left, and-right, features-go, features-no, next-alike}
 use Rattle.judge_rooms.specs.declared.Next.{Next}
 use Rattle.judge_rooms.specs.declared.Next.the-variants as next
@@ -42,7 +42,7 @@ module _ (a : Asking) (b : Bool) (e : b ≡ widthFine (a .how .width)) where
   pub start-width : (n : ℕ) → not b ≡ true → Starts n a (endedState (answer.Refused unwritten.BadWidth))
   start-width n t = record { by = λ rows old m. answers a rows old old _ (due-width a rows (length old) b e t) refl }
 
-  module _ (t : not b ≡ false) (c : Bool) (f : c ≡ roomsFine (restOf a) (noRows (a .head))) where
+  module _ (t : not b ≡ false) (c : Bool) (f : c ≡ roomsFine (restOf a) (restHead (a .head))) where
     pub start-rooms : (n : ℕ) → not c ≡ true → Starts n a (endedState (answer.Refused unwritten.BadRooms))
     start-rooms n u = record { by = λ rows old m. answers a rows old old _ (due-rest a rows (length old) b c e t f u) refl }
 
@@ -50,13 +50,21 @@ module _ (a : Asking) (b : Bool) (e : b ≡ widthFine (a .how .width)) where
       pub start-rows : not d ≡ true → Starts n a (endedState (answer.Refused unwritten.BadRooms))
       start-rows v = record { by = λ rows old m. answers a rows old old _ (due-many a rows (length old) b c d e t f u (rw m at g) v) refl }
 
-      pub start-goes : {x : List ℕ} {k : ℕ} → not d ≡ false → Writes [] 0 (beforeParts (a .texts) (a .references) (a .comments) (noRows (a .head)) (a .head .features) (a .how)) x k
-          → Starts n a (stagedState false 0 k 0 true true)
-      unfolding textFrom
-      start-goes {x} {k} v w =
+      module _ (v : not d ≡ false) (told : Located) (i : told ≡ contigTold (a .texts) (a .locations) (a .head .contig)) where
+       lies-is : told .fine ≡ contigLies a
+       lies-is = ap fineOf i ∙ contig-fine-alike (restOf a) (a .head .contig)
+
+       pub start-contig : not (told .fine) ≡ true → Starts n a (endedState (answer.Refused unwritten.BadRooms))
+       start-contig m =
+           record { by = λ rows old _. answers a rows old old _ (due-contig a rows (length old) (sym e ∙ not-false b t) (sym lies-is ∙ not-true (told .fine) m)) refl }
+
+       pub start-goes : {x : List ℕ} {k : ℕ} → not (told .fine) ≡ false → Writes [] 0 (beforeParts (a .texts) (a .references) (a .comments) (restHead (a .head)) (a .head .features) (a .how)) x k
+          → Starts n a (stagedState false 0 k 0 (told .read) true)
+       unfolding textFrom
+       start-goes {x} {k} y w =
           record {
             by = λ rows old m.
-                let p : Passed (a .how .width) (restOf a) (noRows (a .head)) = passed-two (a .how .width) (restOf a) (noRows (a .head)) b c e t f u in
+                let p : Passed (a .how .width) (restOf a) (restHead (a .head)) = passed-two (a .how .width) (restOf a) (restHead (a .head)) b c e t f u in
                 let y : (leb n most && leb (a .head .features) n) ≡ true = sym g ∙ not-false d v in
                 let few : n ≤ most = leb-true _ _ (and-left _ _ y) in
                 let enough : a .head .features ≤ n = leb-true _ _ (and-right (leb n most) _ y) in
@@ -72,7 +80,7 @@ module _ (a : Asking) (b : Bool) (e : b ≡ widthFine (a .how .width)) where
                       rw z
                       (left-step
                       (left-as
-                      (written-split (a .texts) (a .references) (a .comments) (a .qualifiers) (a .letters) rows (a .head) (a .how) (p .rooms))
+                      (written-split (a .texts) (a .references) (a .comments) (a .qualifiers) (a .locations) (a .letters) rows (a .head) (a .how) (p .rooms))
                       left-start)
                       (nowhere w));
                 };
@@ -100,8 +108,8 @@ module _ (t q : List ℕ) (how : How) (s : State) where
         record {
           by = λ rf cm l h rows old out e less g p k.
               let a : Asking = asking t rf cm q l h how in
-              let n : o ≡ featureNext (rowsOf a rows) (6 * s .row) (s .from) =
-              i ∙ (next-of-row t q rows (s .row) f (sym e) (s .from) ∙ next-alike (rowsOf a rows) (6 * s .row) (s .from)) in
+              let n : o ≡ featureNext (rowsOf a rows) (8 * s .row) (s .from) =
+              i ∙ (next-of-row t q rows (s .row) f (sym e) (s .from) ∙ next-alike (rowsOf a rows) (8 * s .row) (s .from)) in
               let z : false ≡ featuresFine (rowsOf a rows) 0 0 (h .features) =
               features-no (rowsOf a rows) (s .row) (h .features) (s .from) _ o (k .rooms) less n j in
               record {
@@ -119,9 +127,9 @@ module _ (t q : List ℕ) (how : How) (s : State) where
         record {
           by = λ rf cm l h rows old out e less g p k.
               let a : Asking = asking t rf cm q l h how in
-              let n : o ≡ featureNext (rowsOf a rows) (6 * s .row) (s .from) =
-              i ∙ (next-of-row t q rows (s .row) f (sym e) (s .from) ∙ next-alike (rowsOf a rows) (6 * s .row) (s .from)) in
-              let v : featureIn (featureRooms t (numbers f) q) 0 ≡ featureAt t q rows (6 * s .row) = feature-of-row t q rows (s .row) f (sym e) in
+              let n : o ≡ featureNext (rowsOf a rows) (8 * s .row) (s .from) =
+              i ∙ (next-of-row t q rows (s .row) f (sym e) (s .from) ∙ next-alike (rowsOf a rows) (8 * s .row) (s .from)) in
+              let v : featureIn (featureRooms t (numbers f) q) 0 ≡ featureAt t q rows (8 * s .row) = feature-of-row t q rows (s .row) f (sym e) in
               record {
                 held =
                     record {
@@ -130,10 +138,10 @@ module _ (t q : List ℕ) (how : How) (s : State) where
                       order = omega arith;
                       rooms = features-go (rowsOf a rows) (s .row) (h .features) (s .from) _ o m (k .rooms) less n j;
                       fine = k .fine ∙ (ap (λ (y : Bool). s .fine && y) (pass-more a rows (s .row) (featureOf (rule.Fine (how .width))) less) ∙
-                          (and-assoc (s .fine) (featureOf (rule.Fine (how .width)) (featureAt t q rows (6 * s .row)))
+                          (and-assoc (s .fine) (featureOf (rule.Fine (how .width)) (featureAt t q rows (8 * s .row)))
                           (pass a rows (featureOf (rule.Fine (how .width))) (s .row + 1)) ∙ rw (ef, ec, v)));
                       kept = k .kept ∙ (ap (λ (y : Bool). s .kept && y) (pass-more a rows (s .row) (rowKept how) less) ∙
-                          (and-assoc (s .kept) (rowKept how (featureAt t q rows (6 * s .row))) (pass a rows (rowKept how) (s .row + 1)) ∙ rw (ek, ed, v)));
+                          (and-assoc (s .kept) (rowKept how (featureAt t q rows (8 * s .row))) (pass a rows (rowKept how) (s .row + 1)) ∙ rw (ek, ed, v)));
                       left = left-step (left-as (text-more a rows (s .row) less) (k .left)) (nowhere (rw v at wr));
                     };
                 nearer = rw (g, p) (omega arith);
