@@ -161,7 +161,7 @@ pub record Asked (a : Asking) (rows : List Feature) : Type 0 where
   pub enough : a .head .features ≤ length rows
   pub lies : contigLies a ≡ true
 
-width-is : (W : ℕ) → 60 ≤ W → W ≤ 132 → widthFine W ≡ true
+pub width-is : (W : ℕ) → 60 ≤ W → W ≤ 132 → widthFine W ≡ true
 width-is W l u = rw (le-leb 60 W l, le-leb W 132 u)
 
 module _ (a : Asking) (rows : List Feature) (k : Asked a rows) where

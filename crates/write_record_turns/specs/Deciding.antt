@@ -7,12 +7,11 @@ use native.Mathlib.Nat.{sub-zero}
 use native.Mathlib.Omega.{arith}
 use lib.ListN.{length}
 use borrow.Author.Tests.{le-leb}
-use Rattle.judge_feature.specs.Rules.{featureOf}
 use Rattle.spec_format.specs.Answers.{room}
 use Rattle.spec_format.specs.Rooms.{tableOf, featuresFine}
+use Rattle.spec_format.specs.WellFormed.{featureFine}
 use Rattle.spec_format.specs.declared.Unwritten.{Unwritten}
 use Rattle.spec_format.specs.declared.WriteAnswer.the-variants as answer
-use Rattle.judge_header.specs.declared.Rule.the-variants as rule
 use Rattle.base_pen.specs.Pen.{Writes, left-start, left-step, left-as}
 use Rattle.base_rows.specs.declared.Feature.{Feature}
 use Rattle.write_record_parts.specs.Parts.{beforeParts, afterParts}

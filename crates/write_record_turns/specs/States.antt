@@ -1,12 +1,12 @@
 -- What a state of the writer says, and what each turn does with it: the contracts of the turns.
-use Prim.Native.Nat.{ℕ, _+_, _-_, _≤_, _<_}
+use Prim.Native.Nat.{ℕ, _+_, _-_, _/_, _≤_, _<_}
 use mathlib.Core.Path.{_≡_}
 use mathlib.Core.Bool.{Bool, true, false, _&&_, _||_, not}
 use mathlib.Core.List.{List, []}
 use lib.ListN.{length}
 use Rattle.judge_feature.specs.Rules.{featureOf, FeatureKnown}
 use Rattle.spec_format.specs.Bytes.{all}
-use Rattle.spec_format.specs.Rooms.{rowsFrom, featuresFine}
+use Rattle.spec_format.specs.Rooms.{spanText, rowsFrom, featuresFine, roomsIn}
 use Rattle.spec_format.specs.Table.{Feature as Described}
 use Rattle.spec_format.specs.WellFormed.{featureFine}
 use Rattle.spec_format.specs.declared.Head.{Head}
@@ -20,8 +20,12 @@ use Rattle.base_rows.specs.declared.Fetched.{Fetched}
 use Rattle.base_rows.specs.declared.Fetched.the-variants as fetched
 use Rattle.write_record_parts.specs.Split.{featureAt}
 use Rattle.spec_format.specs.declared.How.{How}
+use Rattle.judge_location.specs.Told.{locationTold, contigTold}
+use Rattle.judge_location.specs.declared.Located.{Located}
 use Rattle.judge_rooms.specs.Facts.{ContigIn}
-use Rattle.judge_rooms.specs.Parts.{restHead}
+use Rattle.judge_rooms.specs.Parts.{featureRooms, featureNext, restHead}
+use Rattle.judge_rooms.specs.declared.Next.{Next}
+use Rattle.judge_rooms.specs.declared.Next.the-variants as next
 use Rattle.judge_record.specs.Rest.{Passed}
 use Rattle.write_record_turns.specs.Answered.{Asking, asking, rowsOf, restOf, contigFormed, textOf, textFrom, due, Ended, Asked}
 use Rattle.write_record_turns.specs.declared.State.{State}
@@ -87,12 +91,27 @@ pub record Went (a : Asking) (rows : List Feature) (old : List ℕ) (s r : State
 
 -- ---- the contracts
 
+-- where locations are judged: a text in the store and a row have numbers that the reader of locations takes
+pub record Small (t lo : List ℕ) : Type 0 where
+  pub texts : length t ≤ most
+  pub locations : length lo / 7 ≤ most
+
 pub record Starts (n : ℕ) (a : Asking) (r : State) : Type 0 where
   pub by : (rows : List Feature) (old : List ℕ) → n ≡ length rows → Held a rows old r old
+
+-- a start that got past 12 and past 10 of all but CONTIG and the rows, where `told` is what CONTIG's location told
+pub record Begins (told : Located) (t rf cm : List ℕ) (h : Head) (how : How) (r : State) : Type 0 where
+  pub by : (q lo l : List ℕ) (n : ℕ) → told ≡ contigTold t lo (h .contig) → Passed (how .width) (roomsIn t rf cm [] q lo l) (restHead h) → n ≤ most →
+      h .features ≤ n → Starts n (asking t rf cm q lo l h how) r
 
 pub record Judges (t q lo : List ℕ) (how : How) (s : State) (f : Fetched) (r : State) : Type 0 where
   pub by : (rf cm l : List ℕ) (h : Head) (rows : List Feature) (old out : List ℕ) → f ≡ rowAt rows (s .row) → s .row < h .features →
       s .going ≡ true → s .putting ≡ false → Judged (asking t rf cm q lo l h how) rows old s out → Went (asking t rf cm q lo l h how) rows old s r out
+
+-- a row that lies in its rooms, where `told` is what its location told and its qualifiers end at m
+pub record JudgesTold (t q : List ℕ) (how : How) (s : State) (f : Feature) (m : ℕ) (told : Located) (r : State) : Type 0 where
+  pub by : (lo : List ℕ) (o : Next) → o ≡ featureNext (featureRooms t (numbers f) q) 0 (s .from) → o ≡ next.From m →
+      told ≡ locationTold false lo (spanText t (f .location)) (f .row) (f .rows) → Judges t q lo how s (fetched.Row f) r
 
 pub record Decides (a : Asking) (s : State) (out : List ℕ) (r : State) (new : List ℕ) : Type 0 where
   pub by : (rows : List Feature) (old : List ℕ) → a .head .features ≤ s .row → s .going ≡ true → s .putting ≡ false → Judged a rows old s out → Went a rows old s r new
