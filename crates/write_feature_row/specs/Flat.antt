@@ -5,7 +5,7 @@ use mathlib.Core.List.{List}
 use native.Mathlib.Omega.{arith}
 use lib.ListN.{length, getD}
 use Rattle.judge_feature.specs.Rules.{FeatureKnown}
-use Rattle.spec_format.specs.Rooms.{featureIn, qualifierIn, qualifiersFine, qualifierRowFine}
+use Rattle.spec_format.specs.Rooms.{featureIn, qualifierIn, locationRowIn, qualifiersFine, qualifierRowFine}
 use Rattle.base_rows.specs.Flat.{flat-length, fetched-stands}
 use Rattle.base_rows.specs.Rows.{rowAt, numbers, flat}
 use Rattle.base_rows.specs.declared.Feature.{Feature}
@@ -29,10 +29,10 @@ module _ (t q : List ℕ) (rows : List Feature) (i : ℕ) (f : Feature) (e : row
       rw (s .kind, s .kind-length, s .location, location-length, s .first, s .count)
 
   pub feature-of-row : featureIn (featureRooms t (numbers f) q) 0 ≡ featureIn (featureRooms t (flat rows) q) (8 * i)
-  unfolding featureIn qualifierIn
+  unfolding featureIn qualifierIn locationRowIn
   feature-of-row =
       let s = fetched-stands rows i f e in
-      rw (s .kind, s .kind-length, s .location, location-length, s .first, s .count)
+      rw (s .kind, s .kind-length, s .location, location-length, s .first, s .count, s .row, s .rows)
 
   -- what is known of a row among the numbers is known of the struct
   pub row-known : length t ≤ most → FeatureIn (featureRooms t (flat rows) q) (8 * i) → FeatureKnown t (numbers f) q 0

@@ -10,7 +10,7 @@ use lib.ListN.{length}
 use borrow.Author.Tests.{not-true, not-false, leb-true}
 use Rattle.judge_feature.specs.Rules.{featureOf, fine-is, FeatureKnown}
 use Rattle.write_feature_row.specs.Flat.{next-of-row, feature-of-row}
-use Rattle.spec_format.specs.Rooms.{spanText, featureIn, featuresFine, roomsFine}
+use Rattle.spec_format.specs.Rooms.{spanText, featureIn, featuresFine, roomsFine, roomsIn}
 use Rattle.spec_format.specs.WellFormed.{widthFine, featureFine}
 use Rattle.spec_format.specs.Table.{Feature as Described}
 use Rattle.spec_format.specs.Write.{featureLines}
@@ -28,7 +28,7 @@ use Rattle.write_record_parts.specs.Split.{featureAt, written-split}
 use Rattle.spec_format.specs.declared.How.{How}
 use Rattle.judge_location.specs.Told.{locationTold, contigTold, contig-fine-alike, contig-read, location-read}
 use Rattle.judge_location.specs.declared.Located.{Located}
-use Rattle.judge_rooms.specs.Facts.{feature-in}
+use Rattle.judge_rooms.specs.Facts.{RoomsIn, rooms-in, feature-in}
 use Rattle.judge_rooms.specs.Parts.{featureRooms, featureNext, restHead}
 use Rattle.judge_rooms.specs.Steps.{and-left, and-right, featureLocated, features-go, features-no, features-unlocated, next-alike}
 use Rattle.judge_rooms.specs.declared.Next.{Next}
@@ -41,6 +41,11 @@ use Rattle.write_record_turns.specs.RowLaws.{nowhere, text-more, pass-mo
 use Rattle.spec_format.specs.Record.{most}
 
 -- ---- start
+
+-- what is known of the rest where its test held
+pub rest-lies : (t rf cm q lo l : List ℕ) (h : Head) (c : Bool) → c ≡ roomsFine (roomsIn t rf cm [] q lo l) (restHead h) → not c ≡ false
+    → RoomsIn (roomsIn t rf cm [] q lo l) (restHead h)
+rest-lies t rf cm q lo l h c e u = rooms-in (roomsIn t rf cm [] q lo l) (restHead h) (sym e ∙ not-false c u)
 
 module _ (a : Asking) (b : Bool) (e : b ≡ widthFine (a .how .width)) where
   pub start-width : (n : ℕ) → not b ≡ true → Starts n a (endedState (answer.Refused unwritten.BadWidth))

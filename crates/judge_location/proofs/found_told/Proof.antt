@@ -1,0 +1,37 @@
+-- By what was found.
+use borrow.Author.Needs.{needs}
+use Rattle.judge_location.proofs.found_told.Statement.{statement}
+use Rattle.judge_location.proofs.found_told.Tie as tie
+
+enum-known-found : tie.Need-enum-known-found
+enum-known-found c = search needs
+
+both-requires : tie.Need-both-requires
+both-requires c κs = search needs
+
+enum-told : tie.Need-enum-told
+enum-told c = search needs
+
+enum-told-2 : tie.Need-enum-told-2
+enum-told-2 c = search needs
+
+returns : tie.Need-returns
+returns c = rw (c .before .before .found .given .1, c .both .ensures)
+
+returns-2 : tie.Need-returns-2
+returns-2 c = rw (c .enum-told .given .1)
+
+returns-3 : tie.Need-returns-3
+returns-3 c = rw (c .enum-told2 .given .1)
+
+pub found-told-spec : {M : Type 1} → statement M
+found-told-spec =
+    tie.close
+    (tie.spec
+    enum-known-found
+    both-requires
+    enum-told
+    enum-told-2
+    returns
+    returns-2
+    returns-3)
