@@ -1,0 +1,3 @@
+pub mod Tests
+pub mod Bytes
+pub mod SoFar
