@@ -23,9 +23,10 @@ ghost use Rattle.write_record_parts.specs.RestVerdict.{restVerdict};
 pub fn rest_head(head: Head) -> Head
     ensures { λ r. ⌜ r ≡ restHead head ⌝ }
 {
+    let none = ContigText::Absent;
     let mut rest = head;
     rest.features = 0;
-    rest.contig = ContigText::Absent;
+    rest.contig = none;
     rest
 }
 

@@ -18,16 +18,16 @@ span-fine-requires : tie.Need-span-fine-requires
 span-fine-requires c κs = search needs
 
 location-told-requires : tie.Need-location-told-requires
-location-told-requires c κs = (c^pre .0, span-within _ _ _ (sym (c^span-fine .ensures) ∙ not-false _ (c^if1 .left)), c^pre .1)
+location-told-requires c κs = (c .before .before .before .before .before .before .before .pre .0, span-within _ _ _ (sym (c .before .span-fine .ensures) ∙ not-false _ (c .if1 .left)), c .before .before .before .before .before .before .before .pre .1)
 
 returns : tie.Need-returns
-returns c = let a = c^args in rw (c^contig .given .1) (contig-outside (now (a .texts)) (now (a .locations)) _ _ _ _ (c^span-fine .ensures) (c^if1 .taken))
+returns c = let a = c .before .before .before .before .before .before .before .args in rw (c .before .before .before .contig .given .1) (contig-outside (now (a .texts)) (now (a .locations)) _ _ _ _ (c .before .span-fine .ensures) (c .if1 .taken))
 
 returns-2 : tie.Need-returns-2
-returns-2 c = rw (c^enum-told .given .1)
+returns-2 c = rw (c .enum-told .given .1)
 
 returns-3 : tie.Need-returns-3
-returns-3 c = let a = c^args in rw (c^contig .given .1) (c^location-told .ensures ∙ contig-inside (now (a .texts)) (now (a .locations)) _ _ _ _ (c^span-fine .ensures) (c^if1 .left))
+returns-3 c = let a = c .before .before .before .before .before .before .before .before .args in rw (c .before .before .before .before .contig .given .1) (c .location-told .ensures ∙ contig-inside (now (a .texts)) (now (a .locations)) _ _ _ _ (c .before .before .span-fine .ensures) (c .before .if1 .left))
 
 pub contig-told-spec : {M : Type 1} → statement M
 contig-told-spec =

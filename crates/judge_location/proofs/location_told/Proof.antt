@@ -23,10 +23,10 @@ part-rows-told-end : tie.Need-part-rows-told-end
 part-rows-told-end c = search needs
 
 rows-told-requires : tie.Need-rows-told-requires
-rows-told-requires c κs = (simp (length-take, length-drop) (omega (arith, c^pre .0)), c^pre .2)
+rows-told-requires c κs = (simp (length-take, length-drop) (omega (arith, c .before .before .before .before .pre .0)), c .before .before .before .before .pre .2)
 
 returns : tie.Need-returns
-returns c = simp part-is at (c^rows-told .ensures)
+returns c = simp part-is at (c .rows-told .ensures)
 
 pub location-told-spec : {M : Type 1} → statement M
 location-told-spec =
