@@ -75,7 +75,8 @@ same-rows r row rows ls h = go (eqb (length ls) rows) refl (same (locationNumber
     go true p s q = let n : length ls ≡ rows = eqb-true _ _ p in sym q ∙ rw (numbers-in r row rows h, n)
     go false p false q = refl
     go false p true q =
-        let n : length ls ≡ rows = omega (arith, same-length (locationNumbers ls) (locationNumbers (locationsFrom r row rows)) q, numbers-length ls, numbers-length (locationsFrom r row rows), rows-length r row rows) in
+        let m : length (locationNumbers ls) ≡ length (locationNumbers (locationsFrom r row rows)) = same-length (locationNumbers ls) _ q in
+        let n : length ls ≡ rows = omega (arith, m, numbers-length ls, numbers-length (locationsFrom r row rows), rows-length r row rows) in
         absurd (differ n p)
       where
         differ : length ls ≡ rows → eqb (length ls) rows ≡ false → ⊥

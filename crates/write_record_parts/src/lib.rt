@@ -23,11 +23,37 @@ ghost use Rattle.write_record_parts.specs.RestVerdict.{restVerdict};
 pub fn rest_head(head: Head) -> Head
     ensures { λ r. ⌜ r ≡ restHead head ⌝ }
 {
-    let none = ContigText::Absent;
-    let mut rest = head;
-    rest.features = 0;
-    rest.contig = none;
-    rest
+    let name = head.name;
+    let length = head.length;
+    let molecule = head.molecule;
+    let division = head.division;
+    let date = head.date;
+    let definition = head.definition;
+    let accession = head.accession;
+    let version = head.version;
+    let dblink = head.dblink;
+    let keywords = head.keywords;
+    let source = head.source;
+    let contig = ContigText::Absent;
+    Head {
+        name,
+        length,
+        molecule,
+        circular: head.circular,
+        division,
+        date,
+        definition,
+        accession,
+        version,
+        dblink,
+        keywords,
+        source,
+        references: head.references,
+        comments: head.comments,
+        features: 0,
+        contig,
+        letters: head.letters,
+    }
 }
 
 // The line of FEATURES; nothing where there are none.
