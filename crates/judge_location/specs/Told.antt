@@ -77,6 +77,11 @@ unfolding locationFine locationRowIn
 contig-fine-alike r contig.Absent = refl
 contig-fine-alike r (contig.At s row rows) = refl
 
+pub contig-formed-alike : (r : Rooms) (c : ContigText)
+    → ifIs contigFine (mayContig (locationRooms (r .texts) (r .locations)) c) ≡ ifIs contigFine (mayContig r c)
+contig-formed-alike r contig.Absent = refl
+contig-formed-alike r (contig.At s row rows) = refl
+
 -- number 11, where number 10 is not due
 pub location-read : (gaps : Bool) (lo text : List ℕ) (row rows : ℕ) → locationFine gaps (locationRooms [] lo) text row rows ≡ true
     → locationTold gaps lo text row rows .read ≡ locates gaps text
@@ -84,5 +89,4 @@ location-read gaps lo text row rows h = rw h
 
 pub contig-read : (r : Rooms) (c : ContigText) → contigTextFine r c ≡ true
     → contigTold (r .texts) (r .locations) c .read ≡ ifIs contigFine (mayContig r c)
-contig-read r contig.Absent h = refl
-contig-read r (contig.At s row rows) h = rw (contig-fine-alike r (contig.At s row rows), h)
+contig-read r c h = rw (contig-fine-alike r c, h) (contig-formed-alike r c)

@@ -16,7 +16,7 @@ use Rattle.spec_format.specs.declared.Unwritten.the-variants as unwritten
 use Rattle.spec_format.specs.declared.WriteAnswer.{WriteAnswer}
 use Rattle.spec_format.specs.declared.WriteAnswer.the-variants as answer
 use Rattle.base_rows.specs.declared.Feature.{Feature}
-use Rattle.judge_location.specs.Told.{contig-fine-alike}
+use Rattle.judge_location.specs.Told.{contig-fine-alike, contig-formed-alike}
 use Rattle.judge_rooms.specs.Parts.{restHead}
 use Rattle.write_record_parts.specs.Parts.{afterParts}
 use Rattle.write_record_parts.specs.Split.{rowsRooms, featureAt, rooms-split}
@@ -106,9 +106,12 @@ module _ (a : Asking) (rows : List Feature) (old new : List ℕ) (x : WriteAnswe
 
 -- ---- 12 and 10
 
--- CONTIG does not look at the rows
+-- CONTIG does not look at the feature rows
 lies-alike : (a : Asking) (rows : List Feature) → contigTextFine (rowsOf a rows) (a .head .contig) ≡ contigLies a
 lies-alike a rows = sym (contig-fine-alike (rowsOf a rows) (a .head .contig)) ∙ contig-fine-alike (restOf a) (a .head .contig)
+
+pub formed-alike : (a : Asking) (rows : List Feature) → ifIs contigFine (mayContig (rowsOf a rows) (a .head .contig)) ≡ contigFormed a
+formed-alike a rows = sym (contig-formed-alike (rowsOf a rows) (a .head .contig)) ∙ contig-formed-alike (restOf a) (a .head .contig)
 
 module _ (a : Asking) (rows : List Feature) (n : ℕ) where
   pub due-width : (b : Bool) → b ≡ widthFine (a .how .width) → not b ≡ true → answer.Refused unwritten.BadWidth ≡ due a rows n

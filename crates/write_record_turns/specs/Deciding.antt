@@ -8,21 +8,22 @@ use native.Mathlib.Omega.{arith}
 use lib.ListN.{length}
 use borrow.Author.Tests.{le-leb}
 use Rattle.spec_format.specs.Answers.{room}
-use Rattle.spec_format.specs.Rooms.{tableOf, featuresFine}
+use Rattle.spec_format.specs.Rooms.{tableOf, rowsFrom, featuresFine}
+use Rattle.spec_format.specs.Bytes.{all}
 use Rattle.spec_format.specs.WellFormed.{featureFine}
 use Rattle.spec_format.specs.declared.Unwritten.{Unwritten}
 use Rattle.spec_format.specs.declared.WriteAnswer.the-variants as answer
 use Rattle.base_pen.specs.Pen.{Writes, left-start, left-step, left-as}
 use Rattle.base_rows.specs.declared.Feature.{Feature}
 use Rattle.write_record_parts.specs.Parts.{beforeParts, afterParts}
-use Rattle.write_record_parts.specs.Split.{fine-split, keeps-split, written-split}
+use Rattle.write_record_parts.specs.Split.{featureAt, fine-split, keeps-split, written-split}
 use Rattle.judge_rooms.specs.Parts.{restHead}
 use Rattle.judge_rooms.specs.Steps.{features-end}
 use Rattle.judge_record.specs.declared.Verdict.{Verdict}
 use Rattle.judge_record.specs.declared.Verdict.the-variants as verdict
 use Rattle.write_record_parts.specs.Bound.{written-small}
 use Rattle.write_record_parts.specs.RestVerdict.{restVerdict, verdictBy, tableFine, tableKept}
-use Rattle.write_record_turns.specs.Answered.{Asking, rowsOf, restTableOf, textOf, answered, textFrom, due, answers, asked-rooms, due-verdict}
+use Rattle.write_record_turns.specs.Answered.{Asking, rowsOf, restTableOf, textOf, answered, textFrom, formed-alike, due, answers, asked-rooms, due-verdict}
 use Rattle.write_record_turns.specs.declared.State.{State}
 use Rattle.write_record_turns.specs.Measured.{too-long}
 use Rattle.write_record_turns.specs.States.{endedState, stagedState, rowKept, pass, Judged, Decides}
@@ -55,7 +56,9 @@ module _ (a : Asking) (s : State) (out : List ℕ) (v : Verdict)
         let z : a .head .features - 0 ≡ a .head .features = sub-zero (a .head .features) in
         due-verdict a rows (k .asked) (length old) _ _ all-fine
         (fine-split (a .texts) (a .references) (a .comments) (a .qualifiers) (a .locations) (a .letters) rows (a .head) (a .how .width) (a .how .truncate) (a .how .escape) ∙
-        ap (λ (y : Bool). formed && y) ((rw z at (k .fine)) ∙ (rw (pass-last a rows (s .row) (featureFine (a .how .width)) last) (and-true (s .fine)))))
+        ap (λ (y : Bool). formed && y)
+        (ap (λ (y : Bool). y && all (featureFine (a .how .width)) (rowsFrom (featureAt (a .texts) (a .qualifiers) rows) 8 0 (a .head .features))) (formed-alike a rows) ∙
+        (rw z at (k .fine)) ∙ (rw (pass-last a rows (s .row) (featureFine (a .how .width)) last) (and-true (s .fine)))))
         refl ∙
         ap (λ (y : Verdict). answered y (room (length old) (length (textOf a rows)))) (by-writer (a .how .keeping) refl ∙ sym e)
       where

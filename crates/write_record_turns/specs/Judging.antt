@@ -169,6 +169,7 @@ module _ (t q : List ℕ) (how : How) (s : State) where
 
       formed-by : (lo : List ℕ) (c : Bool) → told ≡ locationTold false lo (spanText t (f .location)) (f .row) (f .rows) → not (told .fine) ≡ false
           → c ≡ featureOf (rule.Fine (how .width)) seen → (told .read && c) ≡ featureFine (how .width) seen
+      unfolding featureIn
       formed-by lo c n u e =
           rw e
           (ap (λ (x : Bool). x && featureOf (rule.Fine (how .width)) seen)

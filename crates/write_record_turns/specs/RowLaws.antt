@@ -49,7 +49,7 @@ module _ (a : Asking) (rows : List Feature) (i : ℕ) where
 
 -- number 10 of a row's location rows is that of the row among the flat numbers
 pub located-of-row : (a : Asking) (rows : List Feature) (i : ℕ) (f : Feature) → rowAt rows i ≡ fetched.Row f
-    → locationFine false (locationRooms (a .texts) (a .locations)) (spanText (a .texts) (f .location)) (f .row) (f .rows) ≡ featureLocated (rowsOf a rows) (8 * i)
+    → locationFine false (locationRooms [] (a .locations)) (spanText (a .texts) (f .location)) (f .row) (f .rows) ≡ featureLocated (rowsOf a rows) (8 * i)
 located-of-row a rows i f e =
     let s = fetched-stands rows i f e in
     let y : 8 * i + 3 ≡ 8 * i + 2 + 1 = omega arith in

@@ -18,10 +18,10 @@ rest-head-requires c κs = search needs
 
 rest-verdict-requires : tie.Need-rest-verdict-requires
 rest-verdict-requires c κs =
-    let a = c^args in
+    let a = c .before .before .before .before .before .before .before .before .args in
     let r = roomsIn (now (a .texts)) (now (a .references)) (now (a .comments)) [] (now (a .qualifiers)) (now (a .locations)) (now (a .letters)) in
-    rw (c^rest-head .ensures)
-    (rest-known r (restHead (a .head)) (rooms-in r (restHead (a .head)) (c^pre .0 .rooms)))
+    rw (c .rest-head .ensures)
+    (rest-known r (restHead (a .head)) (rooms-in r (restHead (a .head)) (c .before .before .before .before .before .before .before .before .pre .0 .rooms)))
 
 enum-known-verdict : tie.Need-enum-known-verdict
 enum-known-verdict c = search needs
@@ -37,41 +37,41 @@ slice-aggregate-put-after c = search needs
 
 put-after-requires : tie.Need-put-after-requires
 put-after-requires c κs =
-    let a = c^args in
-    after-known (a .how .width) (roomsIn (now (a .texts)) (now (a .references)) (now (a .comments)) [] (now (a .qualifiers)) (now (a .locations)) (now (a .letters))) (a .head) (c^pre .0) (c^pre .1)
+    let a = c .before .before .before .before .before .before .before .before .before .before .before .before .args in
+    after-known (a .how .width) (roomsIn (now (a .texts)) (now (a .references)) (now (a .comments)) [] (now (a .qualifiers)) (now (a .locations)) (now (a .letters))) (a .head) (c .before .before .before .before .before .before .before .before .before .before .before .before .pre .0) (c .before .before .before .before .before .before .before .before .before .before .before .before .pre .1)
 
 ended-requires : tie.Need-ended-requires
 ended-requires c κs = search needs
 
 returns : tie.Need-returns
 returns c =
-    let a = c^args in
+    let a = c .before .before .before .before .before .before .before .before .before .before .before .before .before .before .before .before .args in
     let ask = asking (now (a .texts)) (now (a .references)) (now (a .comments)) (now (a .qualifiers)) (now (a .locations)) (now (a .letters)) (a .head) (a .how) in
-    rw (c^ended .ensures) (decide-room ask (a .s) (now (a .out)) _ (rw (c^rest-head .ensures) at (c^rest-verdict .ensures)) (c^enum-told .given .1) (c^put-after .ensures) (c^if1 .taken))
+    rw (c .ended .ensures) (decide-room ask (a .s) (now (a .out)) _ (rw (c .before .before .before .before .before .before .before .before .rest-head .ensures) at (c .before .before .before .before .before .before .before .rest-verdict .ensures)) (c .before .before .before .before .before .enum-told .given .1) (c .before .before .before .put-after .ensures) (c .before .if1 .taken))
 
 put-before-requires : tie.Need-put-before-requires
 put-before-requires c κs =
-    let a = c^args in
-    rw (c^rest-head .ensures) (before-known (a .how .width) (roomsIn (now (a .texts)) (now (a .references)) (now (a .comments)) [] (now (a .qualifiers)) (now (a .locations)) (now (a .letters))) (restHead (a .head)) (c^pre .0))
+    let a = c .before .before .before .before .before .before .before .before .before .before .before .before .before .before .before .before .args in
+    rw (c .before .before .before .before .before .before .before .before .rest-head .ensures) (before-known (a .how .width) (roomsIn (now (a .texts)) (now (a .references)) (now (a .comments)) [] (now (a .qualifiers)) (now (a .locations)) (now (a .letters))) (restHead (a .head)) (c .before .before .before .before .before .before .before .before .before .before .before .before .before .before .before .before .pre .0))
 
 staged-requires : tie.Need-staged-requires
 staged-requires c κs = search needs
 
 returns-2 : tie.Need-returns-2
 returns-2 c =
-    let a = c^args in
+    let a = c .before .before .before .before .before .before .before .before .before .before .before .before .before .args in
     let ask = asking (now (a .texts)) (now (a .references)) (now (a .comments)) (now (a .qualifiers)) (now (a .locations)) (now (a .letters)) (a .head) (a .how) in
-    rw (c^refused .ensures) (decide-refused ask (a .s) (now (a .out)) _ (rw (c^rest-head .ensures) at (c^rest-verdict .ensures)) _ (c^verdict .given .1))
+    rw (c .refused .ensures) (decide-refused ask (a .s) (now (a .out)) _ (rw (c .before .before .before .before .before .rest-head .ensures) at (c .before .before .before .before .rest-verdict .ensures)) _ (c .before .before .verdict .given .1))
 
 same-length : tie.Need-same-length
 same-length c = search needs
 
 returns-3 : tie.Need-returns-3
 returns-3 c =
-    let a = c^args in
+    let a = c .before .before .before .before .before .before .before .before .before .before .before .before .before .before .before .before .before .before .before .before .args in
     let ask = asking (now (a .texts)) (now (a .references)) (now (a .comments)) (now (a .qualifiers)) (now (a .locations)) (now (a .letters)) (a .head) (a .how) in
-    rw (c^staged .ensures) (decide-puts ask (a .s) (now (a .out)) _ (rw (c^rest-head .ensures) at (c^rest-verdict .ensures)) (c^enum-told .given .1)
-    (c^put-after .ensures) (c^if1 .left) (rw (c^rest-head .ensures) at (c^put-before .ensures)))
+    rw (c .staged .ensures) (decide-puts ask (a .s) (now (a .out)) _ (rw (c .before .before .before .before .before .before .before .before .before .before .before .before .rest-head .ensures) at (c .before .before .before .before .before .before .before .before .before .before .before .rest-verdict .ensures)) (c .before .before .before .before .before .before .before .before .before .enum-told .given .1)
+    (c .before .before .before .before .before .before .before .put-after .ensures) (c .before .before .before .before .before .if1 .left) (rw (c .before .before .before .before .before .before .before .before .before .before .before .before .rest-head .ensures) at (c .before .before .before .put-before .ensures)))
 
 pub decide-spec : {M : Type 1} → statement M
 decide-spec =

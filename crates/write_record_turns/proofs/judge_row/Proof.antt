@@ -20,21 +20,21 @@ refused-requires c κs = search needs
 
 returns : tie.Need-returns
 returns c =
-    let a = c^args in
-    rw (c^refused .ensures) (judge-wrong (now (a .texts)) (now (a .qualifiers)) (a .how) (a .s) (a .row) (now (a .locations)) _ (c^row-next .ensures) (c^enum-told .given .1))
+    let a = c .before .before .before .before .before .before .before .args in
+    rw (c .refused .ensures) (judge-wrong (now (a .texts)) (now (a .qualifiers)) (a .how) (a .s) (a .row) (now (a .locations)) _ (c .before .before .before .row-next .ensures) (c .before .enum-told .given .1))
 
 location-told-requires : tie.Need-location-told-requires
 location-told-requires c κs =
-    let a = c^args in
-    (c^pre .0 .texts, row-fit (now (a .texts)) (now (a .qualifiers)) (a .row) (a .s .from) _ _ (c^pre .0 .texts) (c^row-next .ensures) (c^next .given .1) .inside .location, c^pre .0 .locations)
+    let a = c .before .before .before .before .before .before .before .before .args in
+    (c .before .before .before .before .before .before .before .before .pre .0 .texts, row-fit (now (a .texts)) (now (a .qualifiers)) (a .row) (a .s .from) _ _ (c .before .before .before .before .before .before .before .before .pre .0 .texts) (c .before .before .before .before .row-next .ensures) (c .before .before .next .given .1) .inside .location, c .before .before .before .before .before .before .before .before .pre .0 .locations)
 
 judge-told-requires : tie.Need-judge-told-requires
 judge-told-requires c κs =
-    let a = c^args in
-    (row-fit (now (a .texts)) (now (a .qualifiers)) (a .row) (a .s .from) _ _ (c^pre .0 .texts) (c^row-next .ensures) (c^next .given .1), c^pre .1, c^pre .2, c^pre .3)
+    let a = c .before .before .before .before .before .before .before .before .before .args in
+    (row-fit (now (a .texts)) (now (a .qualifiers)) (a .row) (a .s .from) _ _ (c .before .before .before .before .before .before .before .before .before .pre .0 .texts) (c .before .before .before .before .before .row-next .ensures) (c .before .before .before .next .given .1), c .before .before .before .before .before .before .before .before .before .pre .1, c .before .before .before .before .before .before .before .before .before .pre .2, c .before .before .before .before .before .before .before .before .before .pre .3)
 
 returns-2 : tie.Need-returns-2
-returns-2 c = let a = c^args in c^judge-told .ensures .by (now (a .locations)) _ (c^row-next .ensures) (c^next .given .1) (c^location-told .ensures)
+returns-2 c = let a = c .before .before .before .before .before .before .before .before .before .before .args in c .judge-told .ensures .by (now (a .locations)) _ (c .before .before .before .before .before .before .row-next .ensures) (c .before .before .before .before .next .given .1) (c .before .location-told .ensures)
 
 pub judge-row-spec : {M : Type 1} → statement M
 judge-row-spec =

@@ -11,11 +11,11 @@ refused-requires c κs = search needs
 
 returns : tie.Need-returns
 returns c =
-    let a = c^args in
-    rw (c^refused .ensures) (judge-unlike (now (a .texts)) (now (a .qualifiers)) (a .how) (a .s) (a .row) (a .next) (a .told) (c^if1 .taken))
+    let a = c .before .before .before .before .before .args in
+    rw (c .refused .ensures) (judge-unlike (now (a .texts)) (now (a .qualifiers)) (a .how) (a .s) (a .row) (a .next) (a .told) (c .before .if1 .taken))
 
 row-passes-requires : tie.Need-row-passes-requires
-row-passes-requires c κs = (c^pre .1, c^pre .0)
+row-passes-requires c κs = (c .before .before .before .before .pre .1, c .before .before .before .before .pre .0)
 
 both-requires : tie.Need-both-requires
 both-requires c κs = search needs
@@ -24,7 +24,7 @@ both-requires-2 : tie.Need-both-requires-2
 both-requires-2 c κs = search needs
 
 row-kept-requires : tie.Need-row-kept-requires
-row-kept-requires c κs = (c^pre .1, c^pre .0)
+row-kept-requires c κs = (c .before .before .before .before .before .before .before .pre .1, c .before .before .before .before .before .before .before .pre .0)
 
 both-requires-3 : tie.Need-both-requires-3
 both-requires-3 c κs = search needs
@@ -33,7 +33,7 @@ slice-aggregate-put-row-lines : tie.Need-slice-aggregate-put-row-lines
 slice-aggregate-put-row-lines c = search needs
 
 put-row-lines-requires : tie.Need-put-row-lines-requires
-put-row-lines-requires c κs = (c^pre .0, c^pre .1, c^pre .2)
+put-row-lines-requires c κs = (c .before .before .before .before .before .before .before .before .before .before .pre .0, c .before .before .before .before .before .before .before .before .before .before .pre .1, c .before .before .before .before .before .before .before .before .before .before .pre .2)
 
 add-staged : tie.Need-add-staged
 add-staged c = search needs
@@ -43,10 +43,10 @@ staged-requires c κs = search needs
 
 returns-2 : tie.Need-returns-2
 returns-2 c =
-    let a = c^args in
-    rw (c^staged .ensures)
-    (judge-goes (now (a .texts)) (now (a .qualifiers)) (a .how) (a .s) (a .row) (a .next) (a .told) _ _ _ _ _ (c^if1 .left) (c^both2 .ensures) (c^both .ensures) (c^row-passes .ensures) (c^both3 .ensures) (c^row-kept .ensures)
-    (c^put-row-lines .ensures))
+    let a = c .before .before .before .before .before .before .before .before .before .before .before .before .before .before .args in
+    rw (c .staged .ensures)
+    (judge-goes (now (a .texts)) (now (a .qualifiers)) (a .how) (a .s) (a .row) (a .next) (a .told) _ _ _ _ _ (c .before .before .before .before .before .before .before .before .before .before .if1 .left) (c .before .before .before .before .before .before .before .both2 .ensures) (c .before .before .before .before .before .before .before .before .both .ensures) (c .before .before .before .before .before .before .before .before .before .row-passes .ensures) (c .before .before .before .before .before .both3 .ensures) (c .before .before .before .before .before .before .row-kept .ensures)
+    (c .before .before .before .put-row-lines .ensures))
 
 pub judge-told-spec : {M : Type 1} → statement M
 judge-told-spec =

@@ -16,7 +16,7 @@ enum-known-fetched : tie.Need-enum-known-fetched
 enum-known-fetched c = search needs
 
 put-row-lines-requires : tie.Need-put-row-lines-requires
-put-row-lines-requires c κs = (c^pre .0 _ (c^fetched .given .1), c^pre .1, c^pre .2)
+put-row-lines-requires c κs = (c .before .before .before .before .before .before .before .pre .0 _ (c .before .before .fetched .given .1), c .before .before .before .before .before .before .before .pre .1, c .before .before .before .before .before .before .before .pre .2)
 
 add-staged : tie.Need-add-staged
 add-staged c = search needs
@@ -26,16 +26,16 @@ staged-requires c κs = search needs
 
 returns : tie.Need-returns
 returns c =
-    let a = c^args in
-    rw (c^enum-told .given .1, c^refused .ensures) (put-outside (now (a .texts)) (now (a .qualifiers)) (a .how) (a .s) (now (a .out)))
+    let a = c .before .before .before .before .before .before .args in
+    rw (c .before .enum-told .given .1, c .refused .ensures) (put-outside (now (a .texts)) (now (a .qualifiers)) (a .how) (a .s) (now (a .out)))
 
 same-length : tie.Need-same-length
 same-length c = search needs
 
 returns-2 : tie.Need-returns-2
 returns-2 c =
-    let a = c^args in
-    rw (c^fetched .given .1, c^staged .ensures) (put-goes (now (a .texts)) (now (a .qualifiers)) (a .how) (a .s) (now (a .out)) _ (c^put-row-lines .ensures))
+    let a = c .before .before .before .before .before .before .before .before .before .before .before .before .args in
+    rw (c .before .before .before .before .before .before .before .fetched .given .1, c .staged .ensures) (put-goes (now (a .texts)) (now (a .qualifiers)) (a .how) (a .s) (now (a .out)) _ (c .before .before .before .before .put-row-lines .ensures))
 
 pub put-fetched-spec : {M : Type 1} → statement M
 put-fetched-spec =

@@ -20,9 +20,9 @@ refused-requires c κs = search needs
 
 returns : tie.Need-returns
 returns c =
-    let a = c^args in
+    let a = c .before .before .before .before .before .before .before .before .before .args in
     let ask = asking (now (a .texts)) (now (a .references)) (now (a .comments)) (now (a .qualifiers)) (now (a .locations)) (now (a .letters)) (a .head) (a .how) in
-    rw (c^refused .ensures) (start-width ask _ (c^width-fine .ensures) (a .rows) (c^if1 .taken))
+    rw (c .refused .ensures) (start-width ask _ (c .before .before .width-fine .ensures) (a .rows) (c .before .if1 .taken))
 
 rest-fine-requires : tie.Need-rest-fine-requires
 rest-fine-requires c κs = search needs
@@ -32,9 +32,9 @@ refused-requires-2 c κs = search needs
 
 returns-2 : tie.Need-returns-2
 returns-2 c =
-    let a = c^args in
+    let a = c .before .before .before .before .before .before .before .before .before .before .before .args in
     let ask = asking (now (a .texts)) (now (a .references)) (now (a .comments)) (now (a .qualifiers)) (now (a .locations)) (now (a .letters)) (a .head) (a .how) in
-    rw (c^refused2 .ensures) (start-rooms ask _ (c^width-fine .ensures) (c^if1 .left) _ (c^rest-fine .ensures) (a .rows) (c^if2 .taken))
+    rw (c .refused2 .ensures) (start-rooms ask _ (c .before .before .before .before .width-fine .ensures) (c .before .before .before .if1 .left) _ (c .before .before .rest-fine .ensures) (a .rows) (c .before .if2 .taken))
 
 both-requires : tie.Need-both-requires
 both-requires c κs = search needs
@@ -44,30 +44,30 @@ refused-requires-3 c κs = search needs
 
 returns-3 : tie.Need-returns-3
 returns-3 c =
-    let a = c^args in
+    let a = c .before .before .before .before .before .before .before .before .before .before .before .before .before .before .args in
     let ask = asking (now (a .texts)) (now (a .references)) (now (a .comments)) (now (a .qualifiers)) (now (a .locations)) (now (a .letters)) (a .head) (a .how) in
-    rw (c^refused3 .ensures)
-    (start-rows ask _ (c^width-fine .ensures) (c^if1 .left) _ (c^rest-fine .ensures) (c^if2 .left) (a .rows) _ (c^both .ensures) (c^if3 .taken))
+    rw (c .refused3 .ensures)
+    (start-rows ask _ (c .before .before .before .before .before .before .before .width-fine .ensures) (c .before .before .before .before .before .before .if1 .left) _ (c .before .before .before .before .before .rest-fine .ensures) (c .before .before .before .before .if2 .left) (a .rows) _ (c .before .before .both .ensures) (c .before .if3 .taken))
 
 contig-told-requires : tie.Need-contig-told-requires
 contig-told-requires c κs =
-    let a = c^args in
-    let k = rest-lies (now (a .texts)) (now (a .references)) (now (a .comments)) (now (a .qualifiers)) (now (a .locations)) (now (a .letters)) (a .head) _ (c^rest-fine .ensures) (c^if2 .left) in
+    let a = c .before .before .before .before .before .before .before .before .before .before .before .before .before .args in
+    let k = rest-lies (now (a .texts)) (now (a .references)) (now (a .comments)) (now (a .qualifiers)) (now (a .locations)) (now (a .letters)) (a .head) _ (c .before .before .before .before .rest-fine .ensures) (c .before .before .before .if2 .left) in
     (k .lengths .texts, k .lengths .locations)
 
 begin-requires : tie.Need-begin-requires
 begin-requires c κs =
-    let a = c^args in
+    let a = c .before .before .before .before .before .before .before .before .before .before .before .before .before .before .args in
     let r = roomsIn (now (a .texts)) (now (a .references)) (now (a .comments)) [] (now (a .qualifiers)) (now (a .locations)) (now (a .letters)) in
     before-known (a .how .width) r (restHead (a .head))
-    (passed-two (a .how .width) r (restHead (a .head)) _ _ (c^width-fine .ensures) (c^if1 .left) (c^rest-fine .ensures) (c^if2 .left))
+    (passed-two (a .how .width) r (restHead (a .head)) _ _ (c .before .before .before .before .before .before .before .width-fine .ensures) (c .before .before .before .before .before .before .if1 .left) (c .before .before .before .before .before .rest-fine .ensures) (c .before .before .before .before .if2 .left))
 
 returns-4 : tie.Need-returns-4
 returns-4 c =
-    let a = c^args in
+    let a = c .before .before .before .before .before .before .before .before .before .before .before .before .before .before .before .args in
     let ask = asking (now (a .texts)) (now (a .references)) (now (a .comments)) (now (a .qualifiers)) (now (a .locations)) (now (a .letters)) (a .head) (a .how) in
-    start-begins ask _ (c^width-fine .ensures) (c^if1 .left) _ (c^rest-fine .ensures) (c^if2 .left) (a .rows) _ (c^both .ensures) _ _ (c^if3 .left)
-    (c^contig-told .ensures) (c^begin .ensures)
+    start-begins ask _ (c .before .before .before .before .before .before .before .before .width-fine .ensures) (c .before .before .before .before .before .before .before .if1 .left) _ (c .before .before .before .before .before .before .rest-fine .ensures) (c .before .before .before .before .before .if2 .left) (a .rows) _ (c .before .before .before .both .ensures) _ _ (c .before .before .if3 .left)
+    (c .before .contig-told .ensures) (c .begin .ensures)
 
 pub start-spec : {M : Type 1} → statement M
 start-spec =

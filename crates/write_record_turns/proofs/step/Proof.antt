@@ -15,54 +15,54 @@ use Rattle.spec_format.specs.Rooms.{roomsIn}
 
 put-fetched-requires : tie.Need-put-fetched-requires
 put-fetched-requires c κs =
-    (c^pre .row (c^if2 .taken) (c^if1 .taken), c^pre .passed .narrowest, c^pre .passed .widest, c^pre .few)
+    (c .before .before .before .before .before .before .before .before .before .before .before .before .pre .row (c .before .if2 .taken) (c .before .before .if1 .taken), c .before .before .before .before .before .before .before .before .before .before .before .before .pre .passed .narrowest, c .before .before .before .before .before .before .before .before .before .before .before .before .pre .passed .widest, c .before .before .before .before .before .before .before .before .before .before .before .before .pre .few)
 
 same-length : tie.Need-same-length
 same-length c = search needs
 
 returns : tie.Need-returns
 returns c =
-    let a = c^args in
+    let a = c .before .before .before .before .before .before .before .before .before .before .before .before .before .before .before .args in
     let ask = asking (now (a .texts)) (now (a .references)) (now (a .comments)) (now (a .qualifiers)) (now (a .locations)) (now (a .letters)) (a .head) (a .how) in
-    step-puts ask (a .s) (a .fetched) (now (a .out)) _ _ (c^if1 .taken) (c^if2 .taken) (c^put-fetched .ensures)
+    step-puts ask (a .s) (a .fetched) (now (a .out)) _ _ (c .before .before .before .before .before .if1 .taken) (c .before .before .before .before .if2 .taken) (c .before .before .put-fetched .ensures)
 
 judge-fetched-requires : tie.Need-judge-fetched-requires
 judge-fetched-requires c κs =
-    let a = c^args in
-    let k = rooms-in (roomsIn (now (a .texts)) (now (a .references)) (now (a .comments)) [] (now (a .qualifiers)) (now (a .locations)) (now (a .letters))) (restHead (a .head)) (c^pre .passed .rooms) in
-    (record { texts = k .lengths .texts; locations = k .lengths .locations }, c^pre .passed .narrowest, c^pre .passed .widest, c^pre .few)
+    let a = c .before .before .before .before .before .before .before .before .before .before .before .args in
+    let k = rooms-in (roomsIn (now (a .texts)) (now (a .references)) (now (a .comments)) [] (now (a .qualifiers)) (now (a .locations)) (now (a .letters))) (restHead (a .head)) (c .before .before .before .before .before .before .before .before .before .before .before .pre .passed .rooms) in
+    (record { texts = k .lengths .texts; locations = k .lengths .locations }, c .before .before .before .before .before .before .before .before .before .before .before .pre .passed .narrowest, c .before .before .before .before .before .before .before .before .before .before .before .pre .passed .widest, c .before .before .before .before .before .before .before .before .before .before .before .pre .few)
 
 returns-2 : tie.Need-returns-2
 returns-2 c =
-    let a = c^args in
+    let a = c .before .before .before .before .before .before .before .before .before .before .before .before .args in
     let ask = asking (now (a .texts)) (now (a .references)) (now (a .comments)) (now (a .qualifiers)) (now (a .locations)) (now (a .letters)) (a .head) (a .how) in
-    step-judges ask (a .s) (a .fetched) (now (a .out)) _ _ (c^if1 .taken) (c^if2 .left) refl (c^judge-fetched .ensures)
+    step-judges ask (a .s) (a .fetched) (now (a .out)) _ _ (c .before .before .if1 .taken) (c .before .if2 .left) refl (c .judge-fetched .ensures)
 
 end-requires : tie.Need-end-requires
 end-requires c κs =
-    let a = c^args in
-    after-known (a .how .width) (roomsIn (now (a .texts)) (now (a .references)) (now (a .comments)) [] (now (a .qualifiers)) (now (a .locations)) (now (a .letters))) (a .head) (c^pre .passed) (c^pre .contig)
+    let a = c .before .before .before .before .before .before .before .before .before .before .before .before .args in
+    after-known (a .how .width) (roomsIn (now (a .texts)) (now (a .references)) (now (a .comments)) [] (now (a .qualifiers)) (now (a .locations)) (now (a .letters))) (a .head) (c .before .before .before .before .before .before .before .before .before .before .before .before .pre .passed) (c .before .before .before .before .before .before .before .before .before .before .before .before .pre .contig)
 
 same-length-2 : tie.Need-same-length-2
 same-length-2 c = search needs
 
 returns-3 : tie.Need-returns-3
 returns-3 c =
-    let a = c^args in
+    let a = c .before .before .before .before .before .before .before .before .before .before .before .before .before .before .before .args in
     let ask = asking (now (a .texts)) (now (a .references)) (now (a .comments)) (now (a .qualifiers)) (now (a .locations)) (now (a .letters)) (a .head) (a .how) in
-    step-ends ask (a .s) (a .fetched) (now (a .out)) _ _ (c^if1 .left) (c^if3 .taken) (c^end .ensures)
+    step-ends ask (a .s) (a .fetched) (now (a .out)) _ _ (c .before .before .before .before .before .if1 .left) (c .before .before .before .before .if3 .taken) (c .before .before .end .ensures)
 
 decide-requires : tie.Need-decide-requires
-decide-requires c κs = (c^pre .passed, c^pre .contig)
+decide-requires c κs = (c .before .before .before .before .before .before .before .before .before .before .before .before .pre .passed, c .before .before .before .before .before .before .before .before .before .before .before .before .pre .contig)
 
 same-length-3 : tie.Need-same-length-3
 same-length-3 c = search needs
 
 returns-4 : tie.Need-returns-4
 returns-4 c =
-    let a = c^args in
+    let a = c .before .before .before .before .before .before .before .before .before .before .before .before .before .before .before .args in
     let ask = asking (now (a .texts)) (now (a .references)) (now (a .comments)) (now (a .qualifiers)) (now (a .locations)) (now (a .letters)) (a .head) (a .how) in
-    step-decides ask (a .s) (a .fetched) (now (a .out)) _ _ (c^if1 .left) (c^if3 .left) (c^decide .ensures)
+    step-decides ask (a .s) (a .fetched) (now (a .out)) _ _ (c .before .before .before .before .before .if1 .left) (c .before .before .before .before .if3 .left) (c .before .before .decide .ensures)
 
 pub step-spec : {M : Type 1} → statement M
 step-spec =
