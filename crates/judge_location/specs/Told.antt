@@ -21,8 +21,11 @@ use Rattle.judge_location.specs.declared.Located.{Located}
 abbrev pub locationRooms : List ℕ → List ℕ → Rooms
 locationRooms t lo = roomsIn t [] [] [] [] lo []
 
+abbrev pub telling : Bool → Bool → Located
+telling fine read = record { fine = fine; read = read }
+
 abbrev pub toldBy : Bool → Bool → Located
-toldBy fine reads = record { fine = fine; read = fine && reads }
+toldBy fine reads = telling fine (fine && reads)
 
 abbrev pub locationTold : Bool → List ℕ → List ℕ → ℕ → ℕ → Located
 locationTold gaps lo text row rows = toldBy (locationFine gaps (locationRooms [] lo) text row rows) (locates gaps text)
@@ -32,9 +35,9 @@ contigTold t lo c = toldBy (contigTextFine (locationRooms t lo) c) (ifIs contigF
 
 -- what is told of a location with so many rows in their room by what was found in its text
 abbrev pub foundTold : ℕ → Location → Located
-foundTold rows (found.Read n same) = record { fine = eqb n rows && same; read = eqb n rows && same }
-foundTold rows found.None = record { fine = true; read = false }
-foundTold rows found.TooDeep = record { fine = true; read = false }
+foundTold rows (found.Read n same) = telling (eqb n rows && same) (eqb n rows && same)
+foundTold rows found.None = telling true false
+foundTold rows found.TooDeep = telling true false
 
 pub found-told : (r : Rooms) (row rows : ℕ) (x : Reading) → 7 * (row + rows) ≤ length (r .locations)
     → foundTold rows (locationOf (r .locations) row x) ≡ toldBy (readAs x (locationsFrom r row rows)) (isOne x)

@@ -14,12 +14,21 @@ ghost use Rattle.spec_format.specs.Location.{reading, locates};
 ghost use Rattle.spec_format.specs.Record.{most};
 ghost use Rattle.spec_format.specs.Rooms.{spanText, locationsFrom, readAs};
 ghost use Rattle.judge_rooms.specs.Facts.{SpanIn};
-ghost use Rattle.judge_location.specs.Told.{locationRooms, toldBy, foundTold, locationTold, contigTold};
+ghost use Rattle.judge_location.specs.Told.{locationRooms, telling, toldBy, foundTold, locationTold, contigTold};
 
 // Number 10 is not due; and then number 11 is not due either.
 pub struct Located {
     pub fine: bool,
     pub read: bool,
+}
+
+fn tell(fine: bool, read: bool) -> Located
+    ensures { λ r. ⌜ r ≡ telling fine read ⌝ }
+{
+    Located {
+        fine: fine,
+        read: read,
+    }
 }
 
 // What was found in a text that has this many rows.
@@ -29,19 +38,10 @@ fn found_told(found: Location, rows: usize) -> Located
     match found {
         Location::Read { rows: n, same } => {
             let fine = both(n == rows, same);
-            Located {
-                fine: fine,
-                read: fine,
-            }
+            tell(fine, fine)
         }
-        Location::None => Located {
-            fine: true,
-            read: false,
-        },
-        Location::TooDeep => Located {
-            fine: true,
-            read: false,
-        },
+        Location::None => tell(true, false),
+        Location::TooDeep => tell(true, false),
     }
 }
 
@@ -63,10 +63,7 @@ fn rows_told(text: &[u8], gaps: bool, locations: &[usize], row: usize, rows: usi
         return inside_told(text, gaps, locations, 0, 0);
     }
     if !span_fine(locations.len() / 7, row, rows) {
-        return Located {
-            fine: false,
-            read: false,
-        };
+        return tell(false, false);
     }
     inside_told(text, gaps, locations, row, rows)
 }
@@ -94,16 +91,10 @@ pub fn contig_told(texts: &[u8], locations: &[usize], contig: ContigText) -> Loc
     ensures { λ r. ⌜ r ≡ contigTold (now (texts .entry)) (now (locations .entry)) contig ⌝ }
 {
     match contig {
-        ContigText::Absent => Located {
-            fine: true,
-            read: true,
-        },
+        ContigText::Absent => tell(true, true),
         ContigText::At { text, row, rows } => {
             if !span_fine(texts.len(), text.start, text.length) {
-                return Located {
-                    fine: false,
-                    read: false,
-                };
+                return tell(false, false);
             }
             location_told(texts, text, true, locations, row, rows)
         }

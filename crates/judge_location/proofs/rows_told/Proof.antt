@@ -24,10 +24,13 @@ returns c =
 span-fine-requires : tie.Need-span-fine-requires
 span-fine-requires c κs = search needs
 
+tell-requires : tie.Need-tell-requires
+tell-requires c κs = search needs
+
 returns-2 : tie.Need-returns-2
 returns-2 c =
-    let a = c .before .before .before .before .before .args in
-    told-outside (a .gaps) (now (a .locations)) (now (a .text)) (a .row) (a .rows) _ (c .before .before .if1 .left) (c .before .span-fine .ensures) (c .if2 .taken)
+    let a = c .before .before .before .before .before .before .args in
+    c .tell .ensures ∙ told-outside (a .gaps) (now (a .locations)) (now (a .text)) (a .row) (a .rows) _ (c .before .before .before .if1 .left) (c .before .before .span-fine .ensures) (c .before .if2 .taken)
 
 inside-told-requires-2 : tie.Need-inside-told-requires-2
 inside-told-requires-2 c κs =
@@ -47,6 +50,7 @@ rows-told-spec =
     inside-told-requires
     returns
     span-fine-requires
+    tell-requires
     returns-2
     inside-told-requires-2
     returns-3)
