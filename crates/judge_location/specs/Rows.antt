@@ -1,15 +1,15 @@
 -- A location's rows as the numbers of their room, compared with those of a reading.
-use Prim.Native.Nat.{ℕ, zero, suc, _+_, _*_, _/_, _≤_, _<_}
+use Prim.Native.Nat.{ℕ, zero, suc, _+_, _*_, _≤_, _<_}
 use native.Mathlib.Omega.{arith}
 use mathlib.Core.Path.{_≡_, refl, sym, ap, _∙_}
 use mathlib.Core.Bool.{Bool, true, false, _&&_, false≢true}
-use mathlib.Core.List.{List, [], _∷_, _++_}
+use mathlib.Core.List.{List, [], _∷_}
 use lib.Dec.{eqb}
 use lib.ListN.{length, take, drop, getD}
 use lib.Seq.{drop-cons}
 use borrow.Author.Tests.{eqb-true, eq-eqb}
 use Rattle.spec_format.specs.Bytes.{same}
-use Rattle.spec_format.specs.Rooms.{Rooms, rowNumbers, locationNumbers, rowsFrom, locationRowIn, locationsFrom}
+use Rattle.spec_format.specs.Rooms.{Rooms, locationNumbers, rowsFrom, locationRowIn, locationsFrom}
 use Rattle.spec_format.specs.Table.{LocationRow}
 
 drop-more : (l : List ℕ) (i : ℕ) → i < length l → drop i l ≡ getD l i 0 ∷ drop (i + 1) l

@@ -33,7 +33,7 @@ use Rattle.judge_rooms.specs.Parts.{featureRooms, featureNext, restHead}
 use Rattle.judge_rooms.specs.Steps.{and-left, and-right, featureLocated, features-go, features-no, features-unlocated, next-alike}
 use Rattle.judge_rooms.specs.declared.Next.{Next}
 use Rattle.judge_rooms.specs.declared.Next.the-variants as next
-use Rattle.judge_record.specs.Rest.{Passed, passed-two}
+use Rattle.judge_record.specs.Rest.{passed-two}
 use Rattle.write_record_turns.specs.Answered.{Asking, asking, rowsOf, restOf, textFrom, answers, contigLies, contigFormed, due-width, due-rest, due-many, due-contig, due-row, width-is}
 use Rattle.write_record_turns.specs.declared.State.{State}
 use Rattle.write_record_turns.specs.States.{endedState, stagedState, rowKept, pass, Begins, Starts, JudgesTold, Judges}

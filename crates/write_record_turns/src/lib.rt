@@ -27,7 +27,6 @@ use write_record_parts::rest_verdict;
 ghost use mathlib.Core.Path.{_≡_};
 ghost use mathlib.Core.List.{[]};
 ghost use Prim.Native.Nat.{_≤_};
-ghost use lib.ListN.{length};
 ghost use Rattle.judge_feature.specs.Rules.{FeatureKnown};
 ghost use Rattle.base_rows.specs.Rows.{numbers};
 ghost use Rattle.base_rows.specs.declared.Feature.{Feature};

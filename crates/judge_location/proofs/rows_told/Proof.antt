@@ -1,5 +1,5 @@
 -- By whether there are rows, and whether they lie in their room.
-use Prim.Native.Nat.{_+_, _-_, _/_, _≤_}
+use Prim.Native.Nat.{_+_, _/_, _≤_}
 use borrow.Author.Needs.{needs}
 use borrow.Author.Tests.{not-false}
 use denote.Ref.{now}

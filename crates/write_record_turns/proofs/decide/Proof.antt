@@ -52,7 +52,8 @@ returns c =
 put-before-requires : tie.Need-put-before-requires
 put-before-requires c κs =
     let a = c .before .before .before .before .before .before .before .before .before .before .before .before .before .before .before .before .args in
-    rw (c .before .before .before .before .before .before .before .before .rest-head .ensures) (before-known (a .how .width) (roomsIn (now (a .texts)) (now (a .references)) (now (a .comments)) [] (now (a .qualifiers)) (now (a .locations)) (now (a .letters))) (restHead (a .head)) (c .before .before .before .before .before .before .before .before .before .before .before .before .before .before .before .before .pre .0))
+    rw (c .before .before .before .before .before .before .before .before .rest-head .ensures) (before-known (a .how .width) (roomsIn (now (a .texts)) (now (a .references)) (now (a .comments)) [] (now (a .qualifiers)) (now (a .locations)) (now (a .letters))) (restHead (a .head))
+    (c .before .before .before .before .before .before .before .before .before .before .before .before .before .before .before .before .pre .0))
 
 staged-requires : tie.Need-staged-requires
 staged-requires c κs = search needs
@@ -70,7 +71,8 @@ returns-3 : tie.Need-returns-3
 returns-3 c =
     let a = c .before .before .before .before .before .before .before .before .before .before .before .before .before .before .before .before .before .before .before .before .args in
     let ask = asking (now (a .texts)) (now (a .references)) (now (a .comments)) (now (a .qualifiers)) (now (a .locations)) (now (a .letters)) (a .head) (a .how) in
-    rw (c .staged .ensures) (decide-puts ask (a .s) (now (a .out)) _ (rw (c .before .before .before .before .before .before .before .before .before .before .before .before .rest-head .ensures) at (c .before .before .before .before .before .before .before .before .before .before .before .rest-verdict .ensures)) (c .before .before .before .before .before .before .before .before .before .enum-told .given .1)
+    rw (c .staged .ensures) (decide-puts ask (a .s) (now (a .out)) _ (rw (c .before .before .before .before .before .before .before .before .before .before .before .before .rest-head .ensures) at (c .before .before .before .before .before .before .before .before .before .before .before .rest-verdict .ensures))
+    (c .before .before .before .before .before .before .before .before .before .enum-told .given .1)
     (c .before .before .before .before .before .before .before .put-after .ensures) (c .before .before .before .before .before .if1 .left) (rw (c .before .before .before .before .before .before .before .before .before .before .before .before .rest-head .ensures) at (c .before .before .before .put-before .ensures)))
 
 pub decide-spec : {M : Type 1} → statement M

@@ -25,13 +25,15 @@ returns c =
 
 location-told-requires : tie.Need-location-told-requires
 location-told-requires c κs =
+    let pre = c .before .before .before .before .before .before .before .before .pre in
     let a = c .before .before .before .before .before .before .before .before .args in
-    (c .before .before .before .before .before .before .before .before .pre .0 .texts, row-fit (now (a .texts)) (now (a .qualifiers)) (a .row) (a .s .from) _ _ (c .before .before .before .before .before .before .before .before .pre .0 .texts) (c .before .before .before .before .row-next .ensures) (c .before .before .next .given .1) .inside .location, c .before .before .before .before .before .before .before .before .pre .0 .locations)
+    (pre .0 .texts, row-fit (now (a .texts)) (now (a .qualifiers)) (a .row) (a .s .from) _ _ (pre .0 .texts) (c .before .before .before .before .row-next .ensures) (c .before .before .next .given .1) .inside .location, pre .0 .locations)
 
 judge-told-requires : tie.Need-judge-told-requires
 judge-told-requires c κs =
+    let pre = c .before .before .before .before .before .before .before .before .before .pre in
     let a = c .before .before .before .before .before .before .before .before .before .args in
-    (row-fit (now (a .texts)) (now (a .qualifiers)) (a .row) (a .s .from) _ _ (c .before .before .before .before .before .before .before .before .before .pre .0 .texts) (c .before .before .before .before .before .row-next .ensures) (c .before .before .before .next .given .1), c .before .before .before .before .before .before .before .before .before .pre .1, c .before .before .before .before .before .before .before .before .before .pre .2, c .before .before .before .before .before .before .before .before .before .pre .3)
+    (row-fit (now (a .texts)) (now (a .qualifiers)) (a .row) (a .s .from) _ _ (pre .0 .texts) (c .before .before .before .before .before .row-next .ensures) (c .before .before .before .next .given .1), pre .1, pre .2, pre .3)
 
 returns-2 : tie.Need-returns-2
 returns-2 c = let a = c .before .before .before .before .before .before .before .before .before .before .args in c .judge-told .ensures .by (now (a .locations)) _ (c .before .before .before .before .before .before .row-next .ensures) (c .before .before .before .before .next .given .1) (c .before .location-told .ensures)

@@ -45,7 +45,8 @@ returns-2 : tie.Need-returns-2
 returns-2 c =
     let a = c .before .before .before .before .before .before .before .before .before .before .before .before .before .before .args in
     rw (c .staged .ensures)
-    (judge-goes (now (a .texts)) (now (a .qualifiers)) (a .how) (a .s) (a .row) (a .next) (a .told) _ _ _ _ _ (c .before .before .before .before .before .before .before .before .before .before .if1 .left) (c .before .before .before .before .before .before .before .both2 .ensures) (c .before .before .before .before .before .before .before .before .both .ensures) (c .before .before .before .before .before .before .before .before .before .row-passes .ensures) (c .before .before .before .before .before .both3 .ensures) (c .before .before .before .before .before .before .row-kept .ensures)
+    (judge-goes (now (a .texts)) (now (a .qualifiers)) (a .how) (a .s) (a .row) (a .next) (a .told) _ _ _ _ _ (c .before .before .before .before .before .before .before .before .before .before .if1 .left) (c .before .before .before .before .before .before .before .both2 .ensures)
+    (c .before .before .before .before .before .before .before .before .both .ensures) (c .before .before .before .before .before .before .before .before .before .row-passes .ensures) (c .before .before .before .before .before .both3 .ensures) (c .before .before .before .before .before .before .row-kept .ensures)
     (c .before .before .before .put-row-lines .ensures))
 
 pub judge-told-spec : {M : Type 1} → statement M

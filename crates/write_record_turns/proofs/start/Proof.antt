@@ -66,7 +66,8 @@ returns-4 : tie.Need-returns-4
 returns-4 c =
     let a = c .before .before .before .before .before .before .before .before .before .before .before .before .before .before .before .args in
     let ask = asking (now (a .texts)) (now (a .references)) (now (a .comments)) (now (a .qualifiers)) (now (a .locations)) (now (a .letters)) (a .head) (a .how) in
-    start-begins ask _ (c .before .before .before .before .before .before .before .before .width-fine .ensures) (c .before .before .before .before .before .before .before .if1 .left) _ (c .before .before .before .before .before .before .rest-fine .ensures) (c .before .before .before .before .before .if2 .left) (a .rows) _ (c .before .before .before .both .ensures) _ _ (c .before .before .if3 .left)
+    start-begins ask _ (c .before .before .before .before .before .before .before .before .width-fine .ensures) (c .before .before .before .before .before .before .before .if1 .left) _ (c .before .before .before .before .before .before .rest-fine .ensures) (c .before .before .before .before .before .if2 .left) (a .rows) _
+    (c .before .before .before .both .ensures) _ _ (c .before .before .if3 .left)
     (c .before .contig-told .ensures) (c .begin .ensures)
 
 pub start-spec : {M : Type 1} → statement M

@@ -15,7 +15,8 @@ use Rattle.spec_format.specs.Rooms.{roomsIn}
 
 put-fetched-requires : tie.Need-put-fetched-requires
 put-fetched-requires c κs =
-    (c .before .before .before .before .before .before .before .before .before .before .before .before .pre .row (c .before .if2 .taken) (c .before .before .if1 .taken), c .before .before .before .before .before .before .before .before .before .before .before .before .pre .passed .narrowest, c .before .before .before .before .before .before .before .before .before .before .before .before .pre .passed .widest, c .before .before .before .before .before .before .before .before .before .before .before .before .pre .few)
+    let pre = c .before .before .before .before .before .before .before .before .before .before .before .before .pre in
+    (pre .row (c .before .if2 .taken) (c .before .before .if1 .taken), pre .passed .narrowest, pre .passed .widest, pre .few)
 
 same-length : tie.Need-same-length
 same-length c = search needs
@@ -28,9 +29,10 @@ returns c =
 
 judge-fetched-requires : tie.Need-judge-fetched-requires
 judge-fetched-requires c κs =
+    let pre = c .before .before .before .before .before .before .before .before .before .before .before .pre in
     let a = c .before .before .before .before .before .before .before .before .before .before .before .args in
-    let k = rooms-in (roomsIn (now (a .texts)) (now (a .references)) (now (a .comments)) [] (now (a .qualifiers)) (now (a .locations)) (now (a .letters))) (restHead (a .head)) (c .before .before .before .before .before .before .before .before .before .before .before .pre .passed .rooms) in
-    (record { texts = k .lengths .texts; locations = k .lengths .locations }, c .before .before .before .before .before .before .before .before .before .before .before .pre .passed .narrowest, c .before .before .before .before .before .before .before .before .before .before .before .pre .passed .widest, c .before .before .before .before .before .before .before .before .before .before .before .pre .few)
+    let k = rooms-in (roomsIn (now (a .texts)) (now (a .references)) (now (a .comments)) [] (now (a .qualifiers)) (now (a .locations)) (now (a .letters))) (restHead (a .head)) (pre .passed .rooms) in
+    (record { texts = k .lengths .texts; locations = k .lengths .locations }, pre .passed .narrowest, pre .passed .widest, pre .few)
 
 returns-2 : tie.Need-returns-2
 returns-2 c =
@@ -40,8 +42,9 @@ returns-2 c =
 
 end-requires : tie.Need-end-requires
 end-requires c κs =
+    let pre = c .before .before .before .before .before .before .before .before .before .before .before .before .pre in
     let a = c .before .before .before .before .before .before .before .before .before .before .before .before .args in
-    after-known (a .how .width) (roomsIn (now (a .texts)) (now (a .references)) (now (a .comments)) [] (now (a .qualifiers)) (now (a .locations)) (now (a .letters))) (a .head) (c .before .before .before .before .before .before .before .before .before .before .before .before .pre .passed) (c .before .before .before .before .before .before .before .before .before .before .before .before .pre .contig)
+    after-known (a .how .width) (roomsIn (now (a .texts)) (now (a .references)) (now (a .comments)) [] (now (a .qualifiers)) (now (a .locations)) (now (a .letters))) (a .head) (pre .passed) (pre .contig)
 
 same-length-2 : tie.Need-same-length-2
 same-length-2 c = search needs
