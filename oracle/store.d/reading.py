@@ -137,6 +137,7 @@ CASES = [
     case("a fault ahead of the seventeenth", A + LOCATED + b" a join(0," + b"join(" * 16 + b"1\n" + END, 7),
     case("a bad feature ahead of it", A + LOCATED + b" a x\n a " + b"join(" * 17 + b"\n" + END, 7),
     case("the seventeenth on a further line of CONTIG, ahead of a stray CR", A + b"CONTIG " + b"join(" * 16 + b"\n       join(\r\n" + END, 14),
+    case("the seventeenth after a gap whose further line begins with a slash", A + b"CONTIG join(gap(\n       /)," + b"join(" * 16 + b"\n" + END, 14),
     case("seventeen, and two DEFINITIONs", A + TWO + LOCATED + b" a " + b"join(" * 17 + b"\n" + END, 5),
     case("seventeen, and then bad letters", A + LOCATED + b" a " + b"complement(" * 17 + b"1\nORIGIN\n-\n" + END, 14),
     # The letters.
