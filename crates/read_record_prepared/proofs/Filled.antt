@@ -9,10 +9,11 @@ use lib.ListN.{length, drop, set, length-append, length-drop}
 use lib.Seq.{sets, sets-eq, set-comm}
 use borrow.Author.Tests.{not-true, not-false}
 use Rattle.spec_format.specs.Bytes.{each}
-use Rattle.spec_format.specs.Table.{Feature, Table}
+use Rattle.spec_format.specs.Table.{Table}
 use Rattle.spec_format.specs.Rooms.{Rooms, perhaps, pieceText, contigText, contigRows, featureText, featureLocations, locationNumbers, locationCount, featuresAt, contigAt, layout, sizes, fits, answerOf, over, overRooms, roomsOf, roomsIn}
 use Rattle.spec_format.specs.declared.Sizes.{Sizes}
 use Rattle.spec_format.specs.declared.ReadAnswer.the-variants as answer
+use Rattle.spec_rooms.specs.LayoutBack.{locations-long}
 use Rattle.spec_rooms.specs.LayoutLengths.{Lengths, layout-lengths, SameLengths, layout-keeps}
 use Rattle.spec_contracts.specs.Equal.{rooms-equal}
 use Rattle.base_pen.specs.Pen.{sets-append}
@@ -50,18 +51,13 @@ gap-filled t t₀ t₁ t₂ e f =
     rw (← header-long t, sets-append (headerText t) (F ++ C) t₀ 0) (ap (sets t₀ 0) (sym (append-assoc (headerText t) F C)))
 
 -- the features' location rows before CONTIG's, which are there already
-rows-long : (fs : List Feature) → length (each featureLocations fs) ≡ 7 * locationCount fs
-unfolding locationCount
-rows-long [] = refl
-rows-long (f ∷ fs) = omega (arith, rows-long fs, numbers-long (f .rows), length-append (featureLocations f) (each featureLocations fs))
-
 rows-filled : (t : Table) (n₀ n₁ n₂ : List ℕ) → n₁ ≡ sets n₀ (7 * locationCount (t .features)) (locationNumbers (contigRows (t .contig))) →
     n₂ ≡ sets n₁ 0 (each featureLocations (t .features)) → n₂ ≡ sets n₀ 0 (layout t .locations)
 unfolding layout
 rows-filled t n₀ n₁ n₂ e f =
     let F : List ℕ = each featureLocations (t .features) in
     let C : List ℕ = locationNumbers (contigRows (t .contig)) in
-    let l : 7 * locationCount (t .features) ≡ 0 + length F = omega (arith, rows-long (t .features)) in
+    let l : 7 * locationCount (t .features) ≡ 0 + length F = omega (arith, locations-long (t .features)) in
     f ∙ ap (λ (m : List ℕ). sets m 0 F) (e ∙ ap (λ (i : ℕ). sets n₀ i C) l) ∙ sets-before F C n₀ 0
 
 -- ---- what is stored from a room's start on is laid over it, where it fits

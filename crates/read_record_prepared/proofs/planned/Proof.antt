@@ -1,12 +1,12 @@
 -- `planned`: too small a room leaves no feature to be put; else all are left.
 use borrow.Author.Needs.{needs}
-use Rattle.read_record_sizes.specs.Tables.{sizes-bound, contig-bound}
+use Rattle.read_record_sizes.specs.Tables.{sizes-bound, locations-bound, contig-bound}
 use Rattle.read_record_prepared.proofs.Laws.{planned-room, planned-done}
 use Rattle.read_record_prepared.proofs.planned.Statement.{statement}
 use Rattle.read_record_prepared.proofs.planned.Tie as tie
 
 sizes-of-requires : tie.Need-sizes-of-requires
-sizes-of-requires c κs = search (sizes-bound, needs)
+sizes-of-requires c κs = search (sizes-bound, locations-bound, needs)
 
 mul-enough : tie.Need-mul-enough
 mul-enough c = search needs
