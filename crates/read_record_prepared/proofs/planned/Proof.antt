@@ -42,7 +42,12 @@ same-length-5 : tie.Need-same-length-5
 same-length-5 c = search needs
 
 returns-2 : tie.Need-returns-2
-returns-2 c = search (planned-done, needs)
+returns-2 c =
+    let filled = c .before .before .before .before .before .before .before .before .before .before .before in
+    let other = filled .before .before .before .before .before .before in
+    let sizes = other .before .before in
+    planned-done _ _ (sizes .before .before .before .before .before .before .before .pre .0) _ _ _ _ _ _ _ _ _ (sizes .sizes-of .ensures) (other .before .enough .ensures) _ _ _ _ _ _ _
+    (other .if1 .left) (filled .fill-around .ensures) (c .all-rows .ensures)
 
 pub planned-spec : {M : Type 1} → statement M
 planned-spec =
