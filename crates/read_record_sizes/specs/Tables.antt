@@ -109,14 +109,15 @@ module _ (s : List ℕ) (p : Plan) (h : Ready s p) where
       ≡ contigTextAt (contigAt (planTable s p)) (locationCount (planTable s p .features)) (planTable s p .contig)
   contig-is =
       let m = h .stands .rest .middle .contig in
-      rw (contig-place, rows-long, parts .contig) (go (p .rest .contig) (p .rest .«contig_rows») (contigIn s (p .rest .contig)) (m .text) (m .counted))
+      go (contigPlace p) (contigAt (planTable s p)) (p .rest .features .rows) (locationCount (planTable s p .features)) contig-place rows-long (p .rest .contig)
+      (p .rest .«contig_rows») (contigIn s (p .rest .contig)) (planTable s p .contig) (parts .contig) (m .text) (m .counted)
     where
-      go : (e : MayEntry) (rows : ℕ) (t : May (List ℕ)) → MayStand s 0 false t e → rows ≡ length (contigRows (contigAs t)) → {a l : ℕ} →
-          contigEntry a e l rows ≡ contigTextAt a l (contigAs t)
-      go may.Absent rows absent k c = refl
-      go may.Absent rows (is t) k c = absurd k
-      go (may.Is e) rows absent k c = absurd k
-      go (may.Is e) rows (is t) k c = rw (k .sized, c)
+      go : (a b k l : ℕ) → a ≡ b → k ≡ l → (e : MayEntry) (rows : ℕ) (t : May (List ℕ)) (c : May Contig) → c ≡ contigAs t → MayStand s 0 false t e →
+          rows ≡ length (contigRows (contigAs t)) → contigEntry a e k rows ≡ contigTextAt b l c
+      go a b k l u v may.Absent rows absent c w x d = rw w
+      go a b k l u v may.Absent rows (is t) c w x d = absurd x
+      go a b k l u v (may.Is e) rows absent c w x d = absurd x
+      go a b k l u v (may.Is e) rows (is t) c w x d = rw (w, u, v, x .sized, d)
 
   pub head-is : headPlan p ≡ headOf (planTable s p)
   unfolding headPlan
