@@ -8,7 +8,7 @@ use lib.ListN.{length, drop}
 use Rattle.spec_format.specs.Bytes.{bytes, is}
 use Rattle.spec_format.specs.Readers.{Ans, Got, No, Cut, optional, tag, spaces1}
 use Rattle.spec_format.specs.Header.{fieldText, fieldBytes}
-use Rattle.spec_format.specs.Location.{Reading, reading, isDeep, isOne, locates, rowsIn}
+use Rattle.spec_format.specs.Location.{reading, isDeep, locates, rowsIn}
 use Rattle.spec_format.specs.Deep.{soFar, deepContig}
 use Rattle.spec_format.specs.Record.{contig, contigOf}
 use Rattle.spec_location.specs.Bytes.{locates-most}

@@ -5,7 +5,7 @@ use mathlib.Core.Bool.{false}
 use mathlib.Core.List.{List}
 use lib.ListN.{length, drop}
 use Rattle.spec_format.specs.Bytes.{bytes, spaces, space, notBlank}
-use Rattle.spec_format.specs.Table.{Qualifier, Feature}
+use Rattle.spec_format.specs.Table.{Qualifier}
 use Rattle.spec_format.specs.Readers.{Ans, Got, No, Cut, bind, passing, tag, until1, spaces1, lineEnd, utf8Of}
 use Rattle.spec_format.specs.Features.{keyEnd, kindText, valueOf, qualifier, featureFrom, feature}
 use Rattle.spec_format.specs.Deep.{asked, deepFrom, deepFeature}

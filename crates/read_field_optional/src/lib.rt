@@ -6,7 +6,6 @@ use scan_bytes::Step;
 ghost use mathlib.Core.Path.{_≡_};
 ghost use Prim.Native.Nat.{_≤_, _<_};
 ghost use lib.ListN.{length, drop};
-ghost use Rattle.spec_format.specs.Bytes.{bytes};
 ghost use Rattle.spec_format.specs.Readers.{orElse, tag, line, utf8Of};
 ghost use Rattle.spec_format.specs.Header.{maybeField, source, ignoredLine};
 ghost use Rattle.scan_bytes.specs.Views.{Stepped, Lined};

@@ -11,7 +11,7 @@ use Rattle.spec_format.specs.Readers.{Got}
 use Rattle.spec_format.specs.Table.{Locus}
 use Rattle.spec_format.specs.Locus.{preamble, locus}
 use Rattle.spec_format.specs.Header.{Field, every, textIn}
-use Rattle.spec_format.specs.Record.{Middle, middle, deepIn, tableFrom, afterHeader, afterLocus, readRecord}
+use Rattle.spec_format.specs.Record.{Middle, middle, deepIn, tableFrom, afterLocus, readRecord}
 use Rattle.spec_format.specs.Rooms.{mayLength}
 use Rattle.spec_format.specs.declared.Length.{Length}
 use Rattle.spec_format.specs.declared.Unread.{Unread}
