@@ -7,7 +7,7 @@ import rules
 import rust
 import tables
 
-TEXT, NUMBERS = 4096, 256  # the rooms of `replay`
+TEXT, NUMBERS = 4096, 264  # the rooms of `replay`
 LARGEST = 18446744073709551615
 
 REFUSED = (2, 4, 5, 7, 8, 9)  # what the Rust's error may be here: it does not tell them apart

@@ -68,7 +68,9 @@ rows-append {seen} {old} {p = p} {q = q} {a = a} {b = b} f g =
     record {
       put = g .put ∙ rw (f .put, to, numbers-append) (sets-append (locationNumbers a) (locationNumbers b) old (7 * p .row));
       row = g .row ∙ omega (arith, f .row, length-append a b);
-      same = g .same ∙ rw (f .same, to, numbers-append, stand-append) (and-assoc (p .same) (stand seen (7 * p .row) (locationNumbers a)) (stand seen (7 * p .row + length (locationNumbers a)) (locationNumbers b)));
+      same =
+          g .same ∙ rw (f .same, to, numbers-append, stand-append)
+          (and-assoc (p .same) (stand seen (7 * p .row) (locationNumbers a)) (stand seen (7 * p .row + length (locationNumbers a)) (locationNumbers b)));
     }
 
 pub rows-none : (seen old : List ℕ) (p : Pen) → Noted seen old p [] old p

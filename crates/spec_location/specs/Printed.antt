@@ -135,7 +135,8 @@ module _ (n : ℕ) (h : numberFine n ≡ true) (rest : List ℕ) where
 
 module _ (row : ℕ → ℕ → ℕ → ℕ → LocationRow) where
   -- the second number of a range
-  to-read : (marks n m : ℕ) (more : Bool) (rest : List ℕ) → numberFine m ≡ true → Follows rest → rangeFrom row marks n (pick more (bytes ">") [] ++ (decimal m ++ rest)) ≡ found (row 2 (marks + pick more 2 0) n m) rest
+  to-read : (marks n m : ℕ) (more : Bool) (rest : List ℕ) → numberFine m ≡ true → Follows rest →
+      rangeFrom row marks n (pick more (bytes ">") [] ++ (decimal m ++ rest)) ≡ found (row 2 (marks + pick more 2 0) n m) rest
   unfolding behind
   to-read marks n m true rest h k = rw (number-read m h rest (follows-apart k .digits))
   to-read marks n m false rest h k =

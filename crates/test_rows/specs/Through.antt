@@ -26,7 +26,7 @@ pub record Through (s : List ℕ) (at k : ℕ) (old new : Rooms) (r : ReadAnswer
 front : (n : ℕ) (zs ys : List Feature) → length zs ≡ n → take n (zs ++ ys) ≡ zs
 front n zs ys e = subst (λ (k : ℕ). take k (zs ++ ys) ≡ zs) e (take-append-seam zs ys)
 
-as-long : (n : ℕ) (zs rows : List Feature) → length rows ≡ 32 → n ≤ 32 → length (zs ++ drop n rows) ≡ 32 → length zs ≡ n
+as-long : (n : ℕ) (zs rows : List Feature) → length rows ≡ 33 → n ≤ 33 → length (zs ++ drop n rows) ≡ 33 → length zs ≡ n
 as-long n zs rows e h q = omega (arith, length-append zs (drop n rows), length-drop n rows)
 
 put-back : (n : ℕ) (zs : List Feature) (t : List ℕ) → length zs ≡ n → 8 * n ≤ length t → sets t 0 (flat zs) ≡ flat zs ++ drop (8 * n) t
@@ -46,7 +46,7 @@ module _ (s : List ℕ) (at n : ℕ) (rows zs : List Feature) (old new : Rooms) 
       Answered s at (roomsIn (old .texts) (old .references) (old .comments) (flat (take n rows)) (old .qualifiers) (old .locations) (old .letters))
       (roomsIn (new .texts) (new .references) (new .comments) (flat zs) (new .qualifiers) (new .locations) (new .letters)) r
 
-  pub through : length rows ≡ 32 → n ≤ 32 → 8 * n ≤ length (old .features) → flat (take n rows) ≡ take (8 * n) (old .features) → length (zs ++ drop n rows) ≡ 32 → Rowed
+  pub through : length rows ≡ 33 → n ≤ 33 → 8 * n ≤ length (old .features) → flat (take n rows) ≡ take (8 * n) (old .features) → length (zs ++ drop n rows) ≡ 33 → Rowed
       → new .features ≡ sets (old .features) 0 (flat (take n (zs ++ drop n rows))) → Through s at (8 * n) old new r
   through e h k q l a p =
       let m : length zs ≡ n = as-long n zs rows e h l in

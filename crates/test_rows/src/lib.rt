@@ -18,8 +18,8 @@ ghost use Rattle.spec_contracts.specs.Writes.{WriteAnswered};
 ghost use Rattle.spec_format.specs.Rooms.{roomsIn};
 ghost use Rattle.test_rows.specs.Through.{first, Through};
 
-// As many rows as any test lends: the rooms of stored answers have 256 numbers. A flat room of more rows is refused, by 3 in reading and by 10 in writing, so that a test which lends it fails.
-const MOST_ROWS: usize = 32;
+// As many rows as any test lends: the rooms of stored answers have 264 numbers. A flat room of more rows is refused, by 3 in reading and by 10 in writing, so that a test which lends it fails.
+const MOST_ROWS: usize = 33;
 
 // The row at a place of a flat room.
 fn row_at(features: &[usize], at: usize) -> Feature
@@ -44,7 +44,7 @@ fn row_at(features: &[usize], at: usize) -> Feature
 
 // The first n rows of a flat room.
 fn rows_of(features: &[usize], n: usize) -> [Feature; MOST_ROWS]
-    requires { ⌜ (n ≤ 32) × (8 * n ≤ length (now features)) ⌝ }
+    requires { ⌜ (n ≤ 33) × (8 * n ≤ length (now features)) ⌝ }
     ensures { λ r. ⌜ flat (take n r) ≡ take (8 * n) (now (features .entry)) ⌝ }
 {
     let no = Span {
@@ -85,7 +85,7 @@ fn put_row(features: &mut [usize], at: usize, row: Feature) -> usize
 
 // The first n rows put into a flat room again.
 fn put_rows(rows: [Feature; MOST_ROWS], n: usize, features: &mut [usize])
-    requires { ⌜ n ≤ 32 ⌝ }
+    requires { ⌜ n ≤ 33 ⌝ }
     ensures { λ _. ⌜ now (features .exit) ≡ sets (now (features .entry)) 0 (flat (take n rows)) ⌝ }
 {
     let mut at = 0;
@@ -110,7 +110,7 @@ fn read_lent(
     locations: &mut [usize],
     letters: &mut [u8],
 ) -> ReadAnswer
-    requires { ⌜ (n ≤ 32) × (8 * n ≤ length (now features)) × (flat (take n rows) ≡ take (8 * n) (now features)) ⌝ }
+    requires { ⌜ (n ≤ 33) × (8 * n ≤ length (now features)) × (flat (take n rows) ≡ take (8 * n) (now features)) ⌝ }
     ensures { λ r. ⌜ Through (now (s .entry)) at (8 * n) (roomsIn (now (texts .entry)) (now (references .entry)) (now (comments .entry)) (now (features .entry)) (now (qualifiers .entry)) (now (locations .entry)) (now (letters .entry))) (roomsIn (now (texts .exit)) (now (references .exit)) (now (comments .exit)) (now (features .exit)) (now (qualifiers .exit)) (now (locations .exit)) (now (letters .exit))) r ⌝ }
 {
     let mut lent = rows;
@@ -141,7 +141,7 @@ pub fn read(
     locations: &mut [usize],
     letters: &mut [u8],
 ) -> ReadAnswer
-    ensures { λ r. ⌜ (length (now (features .entry)) / 8 ≤ 32 → Through (now (s .entry)) at (8 * (length (now (features .entry)) / 8)) (roomsIn (now (texts .entry)) (now (references .entry)) (now (comments .entry)) (now (features .entry)) (now (qualifiers .entry)) (now (locations .entry)) (now (letters .entry))) (roomsIn (now (texts .exit)) (now (references .exit)) (now (comments .exit)) (now (features .exit)) (now (qualifiers .exit)) (now (locations .exit)) (now (letters .exit))) r) ⌝ }
+    ensures { λ r. ⌜ (length (now (features .entry)) / 8 ≤ 33 → Through (now (s .entry)) at (8 * (length (now (features .entry)) / 8)) (roomsIn (now (texts .entry)) (now (references .entry)) (now (comments .entry)) (now (features .entry)) (now (qualifiers .entry)) (now (locations .entry)) (now (letters .entry))) (roomsIn (now (texts .exit)) (now (references .exit)) (now (comments .exit)) (now (features .exit)) (now (qualifiers .exit)) (now (locations .exit)) (now (letters .exit))) r) ⌝ }
 {
     let n = features.len() / 8;
     if MOST_ROWS < n {
@@ -177,7 +177,7 @@ fn write_lent(
     head: Head,
     how: How,
 ) -> WriteAnswer
-    requires { ⌜ n ≤ 32 ⌝ }
+    requires { ⌜ n ≤ 33 ⌝ }
     ensures { λ r. ⌜ WriteAnswered how (roomsIn (now (texts .entry)) (now (references .entry)) (now (comments .entry)) (flat (take n rows)) (now (qualifiers .entry)) (now (locations .entry)) (now (letters .entry))) head (now (out .entry)) (now (out .exit)) r ⌝ }
 {
     let lent = rows;
@@ -208,7 +208,7 @@ pub fn write(
     head: Head,
     how: How,
 ) -> WriteAnswer
-    ensures { λ r. ⌜ (length (now (features .entry)) / 8 ≤ 32 → WriteAnswered how (first (8 * (length (now (features .entry)) / 8)) (roomsIn (now (texts .entry)) (now (references .entry)) (now (comments .entry)) (now (features .entry)) (now (qualifiers .entry)) (now (locations .entry)) (now (letters .entry)))) head (now (out .entry)) (now (out .exit)) r) ⌝ }
+    ensures { λ r. ⌜ (length (now (features .entry)) / 8 ≤ 33 → WriteAnswered how (first (8 * (length (now (features .entry)) / 8)) (roomsIn (now (texts .entry)) (now (references .entry)) (now (comments .entry)) (now (features .entry)) (now (qualifiers .entry)) (now (locations .entry)) (now (letters .entry)))) head (now (out .entry)) (now (out .exit)) r) ⌝ }
 {
     let n = features.len() / 8;
     if MOST_ROWS < n {
