@@ -61,7 +61,7 @@ module _ (laid : Laid) (s : List ℕ) (p : Spot) (o : Found ℕ) (r : Number) (h
 
 pub ruleset lasts = (last-of, last-not)
 
--- ---- ranges; `row` makes a row of what is known of its accession
+-- ---- ranges; `start` and `long` are those of the accession
 
 module _ (laid : Laid) (s : List ℕ) (p : Spot) (start long marks n : ℕ) (r : Word) (h : Reached laid s p (behind (bytes ">") (view laid s (p .at))) r) (z : Plain) where
   pub range-marked : (q : Spot) → r ≡ words.Past q → Plained laid s q (lastOf (leafRow start long 2 (marks + 2) n) (baseNumber (view laid s (q .at)))) z

@@ -5,6 +5,7 @@ use scan_location_bytes::Peek;
 use scan_location_bytes::Spot;
 use scan_location_bytes::Word;
 use scan_location_bytes::byte_at;
+use scan_location_bytes::mark_at;
 use scan_location_bytes::past_run;
 use scan_location_bytes::word_at;
 ghost use mathlib.Core.Path.{_≡_};
@@ -152,7 +153,7 @@ fn range_at(s: &[u8], laid: Laid, spot: Spot, name: Name, marks: usize, from: us
     requires { ⌜ Ready laid (now s) spot × (marks ≤ 1) ⌝ }
     ensures { λ r. ⌜ Plained laid (now (s .entry)) spot (rangeFrom (leafRow (name .start) (name .length)) marks from (view laid (now (s .entry)) (spot .at))) r ⌝ }
 {
-    match word_at(s, laid, spot, b">") {
+    match mark_at(s, laid, spot, b'>') {
         Word::Past(p) => last_at(s, laid, p, name, 2, marks + 2, from),
         Word::Other => last_at(s, laid, spot, name, 2, marks, from),
     }
@@ -165,7 +166,7 @@ fn after_first(s: &[u8], laid: Laid, spot: Spot, name: Name, from: usize) -> Pla
 {
     match word_at(s, laid, spot, b"..") {
         Word::Past(p) => range_at(s, laid, p, name, 0, from),
-        Word::Other => match word_at(s, laid, spot, b"^") {
+        Word::Other => match mark_at(s, laid, spot, b'^') {
             Word::Past(p) => last_at(s, laid, p, name, 3, 0, from),
             Word::Other => Plain::Row {
                 row: row_of(name, 1, 0, from, from),
@@ -190,7 +191,7 @@ fn bases_at(s: &[u8], laid: Laid, spot: Spot, name: Name) -> Plain
     requires { ⌜ Ready laid (now s) spot ⌝ }
     ensures { λ r. ⌜ Plained laid (now (s .entry)) spot (bases (name .start) (name .length) (view laid (now (s .entry)) (spot .at))) r ⌝ }
 {
-    match word_at(s, laid, spot, b"<") {
+    match mark_at(s, laid, spot, b'<') {
         Word::Past(p) => match number_at(s, laid, p) {
             Number::Of { value, spot: q } => after_less(s, laid, q, name, value),
             Number::Fault => Plain::Fault,
@@ -213,7 +214,7 @@ fn version_at(s: &[u8], laid: Laid, spot: Spot) -> Word
     if end.off == spot.off {
         return Word::Other;
     }
-    word_at(s, laid, end, b":")
+    mark_at(s, laid, end, b':')
 }
 
 // An accession with its colon.
@@ -225,7 +226,7 @@ fn accession_at(s: &[u8], laid: Laid, spot: Spot) -> Word
     if end.off == spot.off {
         return Word::Other;
     }
-    match word_at(s, laid, end, b".") {
+    match mark_at(s, laid, end, b'.') {
         Word::Past(p) => version_at(s, laid, p),
         Word::Other => Word::Other,
     }
@@ -259,7 +260,7 @@ fn gap_at(s: &[u8], laid: Laid, spot: Spot) -> Plain
     ensures { λ r. ⌜ Plained laid (now (s .entry)) spot (gapEnd (total laid (now (s .entry)) spot) (view laid (now (s .entry)) (spot .at)) (behind (bytes ")") (past inGap (view laid (now (s .entry)) (spot .at))))) r ⌝ }
 {
     let end = past_run(s, laid, spot, Class::Gap);
-    match word_at(s, laid, end, b")") {
+    match mark_at(s, laid, end, b')') {
         Word::Past(p) => Plain::Row {
             row: Row {
                 form: 7,

@@ -21,6 +21,36 @@ use Rattle.scan_location_bytes.specs.declared.Class.the-variants as clas
 use Rattle.scan_location_bytes.specs.Views.{view, total, Ready, Past, Onto, Peeked, Reached, inClass, Ran}
 use Rattle.scan_location_bytes.specs.Spots.{spot, onto-here, byte-past, peek-byte, peek-none, peek-within, peek-less, run-more, past-more, run-none, past-none}
 
+-- ---- one byte
+
+module _ (m b : ℕ) (s : List ℕ) where
+  mark-same : b ≡ m → behind (m ∷ []) (b ∷ s) ≡ is s
+  unfolding behind
+  mark-same e = rw (behind, eq-eqb b m e)
+
+  mark-other : (b ≡ m → ⊥) → behind (m ∷ []) (b ∷ s) ≡ absent
+  unfolding behind
+  mark-other e = rw (behind, ne-eqb b m e)
+
+mark-none : (m : ℕ) → behind (m ∷ []) [] ≡ absent
+unfolding behind
+mark-none m = refl
+
+module _ (laid : Laid) (s : List ℕ) (p : Spot) (m : ℕ) (r : Peek) (h : Peeked laid s (p .at) r) where
+  pub mark-end : r ≡ peek.End → Reached laid s p (behind (m ∷ []) (view laid s (p .at))) words.Other
+  mark-end e = record { by = ap (behind (m ∷ [])) (peek-none laid s (p .at) r h e) ∙ mark-none m }
+
+  module _ (b n : ℕ) (e : r ≡ peek.Byte b n) where
+    pub mark-past : Ready laid s p → b ≡ m → Reached laid s p (behind (m ∷ []) (view laid s (p .at))) (words.Past (spot n (p .off + 1)))
+    mark-past g f =
+        let a = peek-byte laid s (p .at) r h b n e in
+        record { by = record { is = ap (behind (m ∷ [])) (a .is) ∙ mark-same m b (view laid s n) f; past = byte-past g a } }
+
+    pub mark-not : (b ≡ m → ⊥) → Reached laid s p (behind (m ∷ []) (view laid s (p .at))) words.Other
+    mark-not f = record { by = ap (behind (m ∷ [])) (peek-byte laid s (p .at) r h b n e .is) ∙ mark-other m b (view laid s n) f }
+
+pub ruleset marks = (mark-end, mark-past, mark-not)
+
 -- ---- a word, byte by byte
 
 module _ (w : List ℕ) (j : ℕ) where

@@ -2,6 +2,7 @@
 use scan_bytes::Step;
 ghost use mathlib.Core.Path.{_≡_};
 ghost use Prim.Native.Nat.{_≤_, _<_};
+ghost use mathlib.Core.List.{[], _∷_};
 ghost use lib.ListN.{length, drop};
 ghost use Rattle.spec_format.specs.Location.{behind, inAccession, inGap};
 ghost use Rattle.spec_format.specs.Deep.{inLine, furtherStart};
@@ -130,6 +131,26 @@ pub enum Word {
     Other,
 }
 
+// One byte.
+pub fn mark_at(s: &[u8], laid: Laid, spot: Spot, mark: u8) -> Word
+    requires { ⌜ Ready laid (now s) spot ⌝ }
+    ensures { λ r. ⌜ Reached laid (now (s .entry)) spot (behind (mark ∷ []) (view laid (now (s .entry)) (spot .at))) r ⌝ }
+{
+    match byte_at(s, laid, spot.at) {
+        Peek::Byte { byte, next } => {
+            if byte == mark {
+                return Word::Past(Spot {
+                    at: next,
+                    off: spot.off + 1,
+                });
+            }
+            Word::Other
+        }
+        Peek::End => Word::Other,
+    }
+}
+
+// One byte or more.
 pub fn word_at(s: &[u8], laid: Laid, spot: Spot, word: &[u8]) -> Word
     requires { ⌜ Ready laid (now s) spot × (0 < length (now word)) ⌝ }
     ensures { λ r. ⌜ Reached laid (now (s .entry)) spot (behind (now (word .entry)) (view laid (now (s .entry)) (spot .at))) r ⌝ }

@@ -43,11 +43,11 @@ fits-gap b h = go (but 47 b) (and-left (visible b) _ h)
 
 -- ---- from s to r: the bytes between them may stand in a location, and are m at least
 
-pub record Over (gaps : Bool) (m : ℕ) (s r : List ℕ) : Type 0 where
-  pub text : List ℕ
-  pub is : s ≡ text ++ r
-  pub fine : all (fits gaps) text ≡ true
-  pub least : m ≤ length text
+record Over (gaps : Bool) (m : ℕ) (s r : List ℕ) : Type 0 where
+  text : List ℕ
+  is : s ≡ text ++ r
+  fine : all (fits gaps) text ≡ true
+  least : m ≤ length text
 
 over-here : (gaps : Bool) (s : List ℕ) → Over gaps 0 s s
 over-here gaps s = record { text = []; is = refl; fine = refl; least = omega arith }
@@ -105,8 +105,8 @@ word-over {gaps} {r} w s h e = record { text = w; is = behind-is w s r e; fine =
 
 -- ---- what is read takes m bytes at least
 
-pub record Reads {A : Type 0} (gaps : Bool) (m : ℕ) (s : List ℕ) (o : Found A) : Type 0 where
-  pub over : (a : A) (r : List ℕ) → o ≡ found a r → Over gaps m s r
+record Reads {A : Type 0} (gaps : Bool) (m : ℕ) (s : List ℕ) (o : Found A) : Type 0 where
+  over : (a : A) (r : List ℕ) → o ≡ found a r → Over gaps m s r
 
 module _ {A : Type 0} {gaps : Bool} {m : ℕ} {s : List ℕ} where
   reads-found : {r : List ℕ} (a : A) → Over gaps m s r → Reads gaps m s (found a r)
@@ -234,9 +234,9 @@ plain-reads true n s = go (behind (bytes "gap(") s) refl
 -- ---- words and their members
 
 -- rows that were read: one at least, and each has a byte of its own
-pub record ReadsRows (gaps : Bool) (s : List ℕ) (o : Found (List LocationRow)) : Type 0 where
-  pub least : (rows : List LocationRow) (r : List ℕ) → o ≡ found rows r → 1 ≤ length rows
-  pub over : (rows : List LocationRow) (r : List ℕ) → o ≡ found rows r → Over gaps (length rows) s r
+record ReadsRows (gaps : Bool) (s : List ℕ) (o : Found (List LocationRow)) : Type 0 where
+  least : (rows : List LocationRow) (r : List ℕ) → o ≡ found rows r → 1 ≤ length rows
+  over : (rows : List LocationRow) (r : List ℕ) → o ≡ found rows r → Over gaps (length rows) s r
 
 module _ {gaps : Bool} {s : List ℕ} where
   rows-found : {r : List ℕ} (rows : List LocationRow) → 1 ≤ length rows → Over gaps (length rows) s r → ReadsRows gaps s (found rows r)
@@ -292,7 +292,7 @@ module _ {gaps : Bool} {s : List ℕ} where
       go fault e = rows-fault
       go deep e = rows-deep
 
-comma-is : (form : ℕ) (s z : List ℕ) → commaIn form s ≡ is z → behind (bytes ",") s ≡ is z
+pub comma-is : (form : ℕ) (s z : List ℕ) → commaIn form s ≡ is z → behind (bytes ",") s ≡ is z
 comma-is form s z h = go (eqb form 4) refl
   where
     go : (x : Bool) → eqb form 4 ≡ x → behind (bytes ",") s ≡ is z

@@ -19,10 +19,10 @@ pub or-either : {C : Type 0} (x y : Bool) → (x || y) ≡ true → (x ≡ true 
 or-either true y e f g = f refl
 or-either false y e f g = g e
 
-pub all-head : (p : ℕ → Bool) (b : ℕ) (t : List ℕ) → all p (b ∷ t) ≡ true → p b ≡ true
+pub all-head : {A : Type 0} (p : A → Bool) (b : A) (t : List A) → all p (b ∷ t) ≡ true → p b ≡ true
 all-head p b t h = and-left (p b) (all p t) h
 
-pub all-tail : (p : ℕ → Bool) (b : ℕ) (t : List ℕ) → all p (b ∷ t) ≡ true → all p t ≡ true
+pub all-tail : {A : Type 0} (p : A → Bool) (b : A) (t : List A) → all p (b ∷ t) ≡ true → all p t ≡ true
 all-tail p b t h = and-right (p b) (all p t) h
 
 pub all-append : (p : ℕ → Bool) (s t : List ℕ) → all p s ≡ true → all p t ≡ true → all p (s ++ t) ≡ true

@@ -10,11 +10,8 @@ past-run-requires c κs = search (accessions, needs)
 returns : tie.Need-returns
 returns c = search (accessions, needs)
 
-slice-aggregate-word-at : tie.Need-slice-aggregate-word-at
-slice-aggregate-word-at c = search (accessions, needs)
-
-word-at-requires : tie.Need-word-at-requires
-word-at-requires c κs = search (accessions, needs)
+mark-at-requires : tie.Need-mark-at-requires
+mark-at-requires c κs = search (accessions, needs)
 
 enum-known-p : tie.Need-enum-known-p
 enum-known-p c = search (accessions, needs)
@@ -37,8 +34,7 @@ accession-at-spec =
     (tie.spec
     past-run-requires
     returns
-    slice-aggregate-word-at
-    word-at-requires
+    mark-at-requires
     enum-known-p
     version-at-requires
     enum-told

@@ -19,11 +19,8 @@ range-at-requires c κs = search (firsts, needs)
 enum-told : tie.Need-enum-told
 enum-told c = search (firsts, needs)
 
-slice-aggregate-word-at-2 : tie.Need-slice-aggregate-word-at-2
-slice-aggregate-word-at-2 c = search (firsts, needs)
-
-word-at-requires-2 : tie.Need-word-at-requires-2
-word-at-requires-2 c κs = search (firsts, needs)
+mark-at-requires : tie.Need-mark-at-requires
+mark-at-requires c κs = search (firsts, needs)
 
 enum-known-p-2 : tie.Need-enum-known-p-2
 enum-known-p-2 c = search (firsts, needs)
@@ -55,8 +52,7 @@ after-first-spec =
     enum-known-p
     range-at-requires
     enum-told
-    slice-aggregate-word-at-2
-    word-at-requires-2
+    mark-at-requires
     enum-known-p-2
     last-at-requires
     enum-told-2

@@ -4,11 +4,8 @@ use borrow.Author.Needs.{needs}
 use Rattle.scan_location.proofs.bases_at.Statement.{statement}
 use Rattle.scan_location.proofs.bases_at.Tie as tie
 
-slice-aggregate-word-at : tie.Need-slice-aggregate-word-at
-slice-aggregate-word-at c = search (bottoms, needs)
-
-word-at-requires : tie.Need-word-at-requires
-word-at-requires c κs = search (bottoms, needs)
+mark-at-requires : tie.Need-mark-at-requires
+mark-at-requires c κs = search (bottoms, needs)
 
 enum-known-p : tie.Need-enum-known-p
 enum-known-p c = search (bottoms, needs)
@@ -56,8 +53,7 @@ pub bases-at-spec : {M : Type 1} → statement M
 bases-at-spec =
     tie.close
     (tie.spec
-    slice-aggregate-word-at
-    word-at-requires
+    mark-at-requires
     enum-known-p
     number-at-requires
     enum-known-value

@@ -7,17 +7,14 @@ use Rattle.scan_location.proofs.gap_at.Tie as tie
 past-run-requires : tie.Need-past-run-requires
 past-run-requires c κs = search (gapping, needs)
 
-slice-aggregate-word-at : tie.Need-slice-aggregate-word-at
-slice-aggregate-word-at c = search (gapping, needs)
-
-word-at-requires : tie.Need-word-at-requires
-word-at-requires c κs = search (gapping, needs)
+mark-at-requires : tie.Need-mark-at-requires
+mark-at-requires c κs = search (gapping, needs)
 
 enum-known-p : tie.Need-enum-known-p
 enum-known-p c = search (gapping, needs)
 
-sub-t12 : tie.Need-sub-t12
-sub-t12 c = search (gapping, needs)
+sub-t9 : tie.Need-sub-t9
+sub-t9 c = search (gapping, needs)
 
 enum-told : tie.Need-enum-told
 enum-told c = search (gapping, needs)
@@ -31,12 +28,4 @@ returns-2 c = search (gapping, needs)
 pub gap-at-spec : {M : Type 1} → statement M
 gap-at-spec =
     tie.close
-    (tie.spec
-    past-run-requires
-    slice-aggregate-word-at
-    word-at-requires
-    enum-known-p
-    sub-t12
-    enum-told
-    returns
-    returns-2)
+    (tie.spec past-run-requires mark-at-requires enum-known-p sub-t9 enum-told returns returns-2)

@@ -4,11 +4,8 @@ use borrow.Author.Needs.{needs}
 use Rattle.scan_location.proofs.range_at.Statement.{statement}
 use Rattle.scan_location.proofs.range_at.Tie as tie
 
-slice-aggregate-word-at : tie.Need-slice-aggregate-word-at
-slice-aggregate-word-at c = search (ranges, needs)
-
-word-at-requires : tie.Need-word-at-requires
-word-at-requires c κs = search (ranges, needs)
+mark-at-requires : tie.Need-mark-at-requires
+mark-at-requires c κs = search (ranges, needs)
 
 enum-known-p : tie.Need-enum-known-p
 enum-known-p c = search (ranges, needs)
@@ -35,8 +32,7 @@ pub range-at-spec : {M : Type 1} → statement M
 range-at-spec =
     tie.close
     (tie.spec
-    slice-aggregate-word-at
-    word-at-requires
+    mark-at-requires
     enum-known-p
     add-last-at
     last-at-requires

@@ -10,16 +10,11 @@ past-run-requires c κs = search (versions, needs)
 returns : tie.Need-returns
 returns c = search (versions, needs)
 
-slice-aggregate-word-at : tie.Need-slice-aggregate-word-at
-slice-aggregate-word-at c = search (versions, needs)
-
-word-at-requires : tie.Need-word-at-requires
-word-at-requires c κs = search (versions, needs)
+mark-at-requires : tie.Need-mark-at-requires
+mark-at-requires c κs = search (versions, needs)
 
 returns-2 : tie.Need-returns-2
 returns-2 c = search (versions, needs)
 
 pub version-at-spec : {M : Type 1} → statement M
-version-at-spec =
-    tie.close
-    (tie.spec past-run-requires returns slice-aggregate-word-at word-at-requires returns-2)
+version-at-spec = tie.close (tie.spec past-run-requires returns mark-at-requires returns-2)
