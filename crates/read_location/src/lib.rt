@@ -17,7 +17,7 @@ ghost use Rattle.read_location.specs.Reads.{Stands, Located, Closable, C
 // ---- the cycle: a location, a word, its members
 
 // What was read: the spot behind it and the pen behind its rows. Or a fault, or a seventeenth word.
-pub enum RowsAt {
+enum RowsAt {
     Got { spot: Spot, pen: Pen },
     Fault,
     Deep,
