@@ -84,7 +84,7 @@ stayed = (
       gave-slice (1 ∷ []) tt (plain (λ _. u8)),
       (
         gave-slice (2 ∷ []) tt (plain (λ _. usize)),
-        (gave-slice (3 ∷ []) tt (plain (λ _. usize)), (stay-dropped (plain (λ _. (Many 32))) yes, (stay-dropped (plain (λ _. usize)) yes, (gave-slice (4 ∷ []) tt (plain (λ _. usize)), (gave-slice (5 ∷ []) tt (plain (λ _. usize)), (gave-slice (6 ∷ []) tt (plain (λ _. usize)), (gave-slice (7 ∷ []) tt (plain (λ _. u8)), tt))))))),
+        (gave-slice (3 ∷ []) tt (plain (λ _. usize)), (stay-dropped (plain (λ _. (Many 33))) yes, (stay-dropped (plain (λ _. usize)) yes, (gave-slice (4 ∷ []) tt (plain (λ _. usize)), (gave-slice (5 ∷ []) tt (plain (λ _. usize)), (gave-slice (6 ∷ []) tt (plain (λ _. usize)), (gave-slice (7 ∷ []) tt (plain (λ _. u8)), tt))))))),
       ),
     ),
   ),
@@ -110,8 +110,8 @@ module _ {M : Type 1} (𝓤 : URA M) (H : Heap 𝓤) (A : Atoms 𝓤) (mem : Mem
 
 module _ {M : Type 1} (𝓤 : URA M) (H : Heap 𝓤) (A : Atoms 𝓤) (W : Given 𝓤 H A) (mem : Memory → SProp 𝓤) (run : Routine → Fun 𝓤) (κ₀ κ₁ κ₂ κ₃ κ₄ κ₅ κ₆ κ₇ : Lft) (q₀ q₁ q₂ q₃ q₄ q₅ q₆ q₇ : Share) (s : RefT (List ℕ)) (at′ : ℕ) (texts : RefT (List ℕ)) (references : RefT (List ℕ)) (comments : RefT (List ℕ)) (rows : List Feature) (n : ℕ)
     (features : RefT (List ℕ)) (qualifiers : RefT (List ℕ)) (locations : RefT (List ℕ)) (letters : RefT (List ℕ)) (s-room : Room u8 (length (s .now))) (at′-is : Is usize at′ ((vint w64 at′) ∷ [])) (texts-room : Room u8 (length (texts .now))) (references-room : Room usize (length (references .now)))
-    (comments-room : Room usize (length (comments .now))) (rows-is : Is (Many 32) rows (array-vals (LL.vals Feature-is.the-type Feature-has.the-laws) rows)) (n-is : Is usize n ((vint w64 n) ∷ [])) (features-room : Room usize (length (features .now))) (qualifiers-room : Room usize (length (qualifiers .now)))
-    (locations-room : Room usize (length (locations .now))) (letters-room : Room u8 (length (letters .now))) (required : (n ≤ 32) × (8 * n ≤ length (features .now)) × (flat (take n rows) ≡ take (8 * n) (features .now))) where
+    (comments-room : Room usize (length (comments .now))) (rows-is : Is (Many 33) rows (array-vals (LL.vals Feature-is.the-type Feature-has.the-laws) rows)) (n-is : Is usize n ((vint w64 n) ∷ [])) (features-room : Room usize (length (features .now))) (qualifiers-room : Room usize (length (qualifiers .now)))
+    (locations-room : Room usize (length (locations .now))) (letters-room : Room u8 (length (letters .now))) (required : (n ≤ 33) × (8 * n ≤ length (features .now)) × (flat (take n rows) ≡ take (8 * n) (features .now))) where
   abbrev a : (RefT (List ℕ)) × (ℕ × ((RefT (List ℕ)) × ((RefT (List ℕ)) × ((RefT (List ℕ)) × ((List Feature) × (ℕ × ((RefT (List ℕ)) × ((RefT (List ℕ)) × ((RefT (List ℕ)) × ((RefT (List ℕ)) × Unit {0}))))))))))
   a = (s, (at′, (texts, (references, (comments, (rows, (n, (features, (qualifiers, (locations, (letters, tt)))))))))))
 
@@ -173,7 +173,7 @@ module _ {M : Type 1} (𝓤 : URA M) (H : Heap 𝓤) (A : Atoms 𝓤) (W : Given
   -- what is had at entry
   abbrev Had : List (Item 𝓤) → List (Item 𝓤)
   Had Γ = (‵ (flft κ₀ q₀) ⊛ ‵ (flft κ₁ q₁) ⊛ ‵ (flft κ₂ q₂) ⊛ ‵ (flft κ₃ q₃) ⊛ ‵ (flft κ₄ q₄) ⊛ ‵ (flft κ₅ q₅) ⊛ ‵ (flft κ₆ q₆) ⊛ ‵ (flft κ₇ q₇) ⊛ ‵ ftrue) ∷ ‵
-      (owns (ShrSlice (named 0) κ₀ u8 ∷ usize ∷ MutSlice (named 1) κ₁ u8 ∷ MutSlice (named 2) κ₂ usize ∷ MutSlice (named 3) κ₃ usize ∷ (Many 32) ∷ usize ∷ MutSlice (named 4) κ₄ usize ∷ MutSlice (named 5) κ₅ usize ∷ MutSlice (named 6) κ₆ usize ∷ MutSlice (named 7) κ₇ u8 ∷ []) a at-entry) ∷ Γ
+      (owns (ShrSlice (named 0) κ₀ u8 ∷ usize ∷ MutSlice (named 1) κ₁ u8 ∷ MutSlice (named 2) κ₂ usize ∷ MutSlice (named 3) κ₃ usize ∷ (Many 33) ∷ usize ∷ MutSlice (named 4) κ₄ usize ∷ MutSlice (named 5) κ₅ usize ∷ MutSlice (named 6) κ₆ usize ∷ MutSlice (named 7) κ₇ u8 ∷ []) a at-entry) ∷ Γ
 
   opened : {K : Type 0} {Γ : List (Item 𝓤)} {G : Goal 𝓤 H} → K → Seq K W
       (‵ (flft κ₀ q₀) ∷ ‵ (flft κ₁ q₁) ∷ ‵ (flft κ₂ q₂) ∷ ‵ (flft κ₃ q₃) ∷ ‵ (flft κ₄ q₄) ∷ ‵ (flft κ₅ q₅) ∷ ‵ (flft κ₆ q₆) ∷ ‵ (flft κ₇ q₇) ∷ ‵ s-own ∷ ‵ (texts-own (texts .now)) ∷ ‵ (references-own (references .now)) ∷ ‵ (comments-own (comments .now)) ∷ ‵ (features-own (features .now)) ∷ ‵ (qualifiers-own (qualifiers .now)) ∷ ‵
@@ -181,7 +181,7 @@ module _ {M : Type 1} (𝓤 : URA M) (H : Heap 𝓤) (A : Atoms 𝓤) (W : Given
   opened t then =
       splits t (‵ (flft κ₀ q₀) ∷ ‵ (flft κ₁ q₁) ∷ ‵ (flft κ₂ q₂) ∷ ‵ (flft κ₃ q₃) ∷ ‵ (flft κ₄ q₄) ∷ ‵ (flft κ₅ q₅) ∷ ‵ (flft κ₆ q₆) ∷ ‵ (flft κ₇ q₇) ∷ []) (id⊢ 𝓤 _) $
       move t (8 ∷ []) $
-      splits t (‵ s-own ∷ ‵ (usize .own at′ ((vint w64 at′) ∷ [])) ∷ ‵ (texts-own (texts .now)) ∷ ‵ (references-own (references .now)) ∷ ‵ (comments-own (comments .now)) ∷ ‵ ((Many 32) .own rows (array-vals (LL.vals Feature-is.the-type Feature-has.the-laws) rows)) ∷ ‵ (usize .own n ((vint w64 n) ∷ [])) ∷ ‵ (features-own (features .now)) ∷ ‵
+      splits t (‵ s-own ∷ ‵ (usize .own at′ ((vint w64 at′) ∷ [])) ∷ ‵ (texts-own (texts .now)) ∷ ‵ (references-own (references .now)) ∷ ‵ (comments-own (comments .now)) ∷ ‵ ((Many 33) .own rows (array-vals (LL.vals Feature-is.the-type Feature-has.the-laws) rows)) ∷ ‵ (usize .own n ((vint w64 n) ∷ [])) ∷ ‵ (features-own (features .now)) ∷ ‵
       (qualifiers-own (qualifiers .now)) ∷ ‵ (locations-own (locations .now)) ∷ ‵ (letters-own (letters .now)) ∷ []) (id⊢ 𝓤 _) $
       move t (1 ∷ 5 ∷ 6 ∷ 11 ∷ 12 ∷ 13 ∷ 14 ∷ 15 ∷ 16 ∷ 17 ∷ 18 ∷ 0 ∷ 2 ∷ 3 ∷ 4 ∷ 7 ∷ 8 ∷ 9 ∷ 10 ∷ []) $
       drop t $ drop t $ drop t $
@@ -191,23 +191,23 @@ module _ {M : Type 1} (𝓤 : URA M) (H : Heap 𝓤) (A : Atoms 𝓤) (W : Given
       (l₀ l₁ l₂ l₃ l₄ l₅ l₆ l₇ l₈ l₉ l₁₀ l₁₁ l₁₂ l₁₃ l₁₄ l₁₅ l₁₆ l₁₇ l₁₈ l₁₉ l₂₀ l₂₁ l₂₂ l₂₃ l₂₄ l₂₅ l₂₆ l₂₇ l₂₈ l₂₉ l₃₀ l₃₁ : ℕ) where
     -- the locals, and their entries with what is owed of them
     abbrev E : Env 𝓤 H
-    E = (ReadAnswer-has.mir, l₀) ∷ (sliceTy (tyRef (named 0) imm (tyInt w8)), l₁) ∷ (tyInt w64, l₂) ∷ (sliceTy (tyRef (named 1) mut (tyInt w8)), l₃) ∷ (sliceTy (tyRef (named 2) mut (tyInt w64)), l₄) ∷ (sliceTy (tyRef (named 3) mut (tyInt w64)), l₅) ∷ (tyArray Feature-has.mir 32, l₆) ∷ (tyInt w64, l₇) ∷
-        (sliceTy (tyRef (named 4) mut (tyInt w64)), l₈) ∷ (sliceTy (tyRef (named 5) mut (tyInt w64)), l₉) ∷ (sliceTy (tyRef (named 6) mut (tyInt w64)), l₁₀) ∷ (sliceTy (tyRef (named 7) mut (tyInt w8)), l₁₁) ∷ (tyArray Feature-has.mir 32, l₁₂) ∷ (ReadAnswer-has.mir, l₁₃) ∷ (tyRef erased mut (tyInt w8), l₁₄) ∷
-        (sliceTy (tyRef erased mut (tyInt w8)), l₁₅) ∷ (tyRef erased mut (tyInt w64), l₁₆) ∷ (sliceTy (tyRef erased mut (tyInt w64)), l₁₇) ∷ (tyRef erased mut (tyInt w64), l₁₈) ∷ (sliceTy (tyRef erased mut (tyInt w64)), l₁₉) ∷ (tyRef erased mut (tyArray (pointee (Feature-is.the-row .written)) 32), l₂₀) ∷
+    E = (ReadAnswer-has.mir, l₀) ∷ (sliceTy (tyRef (named 0) imm (tyInt w8)), l₁) ∷ (tyInt w64, l₂) ∷ (sliceTy (tyRef (named 1) mut (tyInt w8)), l₃) ∷ (sliceTy (tyRef (named 2) mut (tyInt w64)), l₄) ∷ (sliceTy (tyRef (named 3) mut (tyInt w64)), l₅) ∷ (tyArray Feature-has.mir 33, l₆) ∷ (tyInt w64, l₇) ∷
+        (sliceTy (tyRef (named 4) mut (tyInt w64)), l₈) ∷ (sliceTy (tyRef (named 5) mut (tyInt w64)), l₉) ∷ (sliceTy (tyRef (named 6) mut (tyInt w64)), l₁₀) ∷ (sliceTy (tyRef (named 7) mut (tyInt w8)), l₁₁) ∷ (tyArray Feature-has.mir 33, l₁₂) ∷ (ReadAnswer-has.mir, l₁₃) ∷ (tyRef erased mut (tyInt w8), l₁₄) ∷
+        (sliceTy (tyRef erased mut (tyInt w8)), l₁₅) ∷ (tyRef erased mut (tyInt w64), l₁₆) ∷ (sliceTy (tyRef erased mut (tyInt w64)), l₁₇) ∷ (tyRef erased mut (tyInt w64), l₁₈) ∷ (sliceTy (tyRef erased mut (tyInt w64)), l₁₉) ∷ (tyRef erased mut (tyArray (pointee (Feature-is.the-row .written)) 33), l₂₀) ∷
         (sliceTy (tyRef erased mut (pointee (Feature-is.the-row .written))), l₂₁) ∷ (tyRef erased mut (tyInt w64), l₂₂) ∷ (sliceTy (tyRef erased mut (tyInt w64)), l₂₃) ∷ (tyRef erased mut (tyInt w64), l₂₄) ∷ (sliceTy (tyRef erased mut (tyInt w64)), l₂₅) ∷ (tyRef erased mut (tyInt w8), l₂₆) ∷ (sliceTy (tyRef erased mut (tyInt w8)), l₂₇) ∷
-        (tyUnit, l₂₈) ∷ (tyArray Feature-has.mir 32, l₂₉) ∷ (tyRef erased mut (tyInt w64), l₃₀) ∷ (sliceTy (tyRef erased mut (tyInt w64)), l₃₁) ∷ []
+        (tyUnit, l₂₈) ∷ (tyArray Feature-has.mir 33, l₂₉) ∷ (tyRef erased mut (tyInt w64), l₃₀) ∷ (sliceTy (tyRef erased mut (tyInt w64)), l₃₁) ∷ []
 
     abbrev standing : List Cell → List (Item 𝓤)
     standing cs = locals 𝓤 H A E cs (raw (Dies 𝓤 H A E) ∷ [])
 
-    within-read : n ≤ 32
+    within-read : n ≤ 33
     within-read = required .0
 
     -- the call of `read`
-    abbrev lfts-read : (full-array : length rows ≡ 32) (k-array : Loan) → Lft × (Lft × (Lft × (Lft × (Lft × (Lft × (Lft × (Lft × Unit {0})))))))
+    abbrev lfts-read : (full-array : length rows ≡ 33) (k-array : Loan) → Lft × (Lft × (Lft × (Lft × (Lft × (Lft × (Lft × (Lft × Unit {0})))))))
     lfts-read full-array k-array = (κ₀, (κ₁, (κ₂, (κ₃, (k-array .life ∷ [], (κ₅, (κ₆, (κ₇, tt))))))))
 
-    abbrev args-read : (full-array : length rows ≡ 32) (k-array : Loan) → (RefT (List ℕ)) × (ℕ × ((RefT (List ℕ)) × ((RefT (List ℕ)) × ((RefT (List ℕ)) × ((RefT (List Feature)) × ((RefT (List ℕ)) × ((RefT (List ℕ)) × ((RefT (List ℕ)) × Unit {0}))))))))
+    abbrev args-read : (full-array : length rows ≡ 33) (k-array : Loan) → (RefT (List ℕ)) × (ℕ × ((RefT (List ℕ)) × ((RefT (List ℕ)) × ((RefT (List ℕ)) × ((RefT (List Feature)) × ((RefT (List ℕ)) × ((RefT (List ℕ)) × ((RefT (List ℕ)) × Unit {0}))))))))
     args-read full-array k-array = (
       s,
       (
@@ -222,7 +222,7 @@ module _ {M : Type 1} (𝓤 : URA M) (H : Heap 𝓤) (A : Atoms 𝓤) (W : Given
       ),
     )
 
-    abbrev to-read : (full-array : length rows ≡ 32) (k-array : Loan) → read-contract 𝓤 H A mem run .Ghost
+    abbrev to-read : (full-array : length rows ≡ 33) (k-array : Loan) → read-contract 𝓤 H A mem run .Ghost
     to-read full-array k-array = (
       (
         (lfts-read full-array k-array),
@@ -234,7 +234,7 @@ module _ {M : Type 1} (𝓤 : URA M) (H : Heap 𝓤) (A : Atoms 𝓤) (W : Given
       tt,
     )
 
-    goes-read : (full-array : length rows ≡ 32) (k-array : Loan) → ent 𝓤
+    goes-read : (full-array : length rows ≡ 33) (k-array : Loan) → ent 𝓤
         (⋆ 𝓤 H A (‵ (flft κ₀ q₀) ∷ ‵ (flft κ₁ q₁) ∷ ‵ (flft κ₂ q₂) ∷ ‵ (flft κ₃ q₃) ∷ ‵ (flft (k-array .life ∷ []) fullShare) ∷ ‵ (flft κ₅ q₅) ∷ ‵ (flft κ₆ q₆) ∷ ‵ (flft κ₇ q₇) ∷ ‵ s-own ∷ ‵ (texts-own (texts .now)) ∷ ‵ (references-own (references .now)) ∷ ‵ (comments-own (comments .now)) ∷ ‵
         (LentCells Feature-is.the-row (named 4) l₁₂ n (front n rows) k-array) ∷ ‵ (qualifiers-own (qualifiers .now)) ∷ ‵ (locations-own (locations .now)) ∷ ‵ (letters-own (letters .now)) ∷ [])) (read-contract 𝓤 H A mem run .pre (to-read full-array k-array))
     goes-read full-array k-array = qed W (‵ (flft κ₀ q₀) ∷ ‵ (flft κ₁ q₁) ∷ ‵ (flft κ₂ q₂) ∷ ‵ (flft κ₃ q₃) ∷ ‵ (flft (k-array .life ∷ []) fullShare) ∷ ‵ (flft κ₅ q₅) ∷ ‵ (flft κ₆ q₆) ∷ ‵ (flft κ₇ q₇) ∷ ‵ s-own ∷ ‵ (texts-own (texts .now)) ∷ ‵ (references-own (references .now)) ∷ ‵ (comments-own (comments .now)) ∷ ‵
@@ -246,16 +246,16 @@ module _ {M : Type 1} (𝓤 : URA M) (H : Heap 𝓤) (A : Atoms 𝓤) (W : Given
         done !
 
     lends-read : {K : Type 0} {Γ : List (Item 𝓤)} {G : Goal 𝓤 H} → K → Soaks G →
-        ((full-array : length rows ≡ 32) (k-array : Loan) → Seq K W (raw (read-contract 𝓤 H A mem run .pre (to-read full-array k-array)) ∷ ‵ (MineMut Feature-is.the-row l₁₂ n k-array) ∷ ‵ (Rest Feature-is.the-row n rows l₁₂) ∷ ‵ (flft κ₄ q₄) ∷ ‵ (features-own (features .now)) ∷ Γ) G) → Seq K W
-        (‵ (fat fullShare (tyArray Feature-has.mir 32) l₁₂ 0 (many-val rows)) ∷ ‵ (flft κ₀ q₀) ∷ ‵ (flft κ₁ q₁) ∷ ‵ (flft κ₂ q₂) ∷ ‵ (flft κ₃ q₃) ∷ ‵ (flft κ₄ q₄) ∷ ‵ (flft κ₅ q₅) ∷ ‵ (flft κ₆ q₆) ∷ ‵ (flft κ₇ q₇) ∷ ‵ s-own ∷ ‵ (texts-own (texts .now)) ∷ ‵ (references-own (references .now)) ∷ ‵ (comments-own (comments .now)) ∷ ‵
+        ((full-array : length rows ≡ 33) (k-array : Loan) → Seq K W (raw (read-contract 𝓤 H A mem run .pre (to-read full-array k-array)) ∷ ‵ (MineMut Feature-is.the-row l₁₂ n k-array) ∷ ‵ (Rest Feature-is.the-row n rows l₁₂) ∷ ‵ (flft κ₄ q₄) ∷ ‵ (features-own (features .now)) ∷ Γ) G) → Seq K W
+        (‵ (fat fullShare (tyArray Feature-has.mir 33) l₁₂ 0 (many-val rows)) ∷ ‵ (flft κ₀ q₀) ∷ ‵ (flft κ₁ q₁) ∷ ‵ (flft κ₂ q₂) ∷ ‵ (flft κ₃ q₃) ∷ ‵ (flft κ₄ q₄) ∷ ‵ (flft κ₅ q₅) ∷ ‵ (flft κ₆ q₆) ∷ ‵ (flft κ₇ q₇) ∷ ‵ s-own ∷ ‵ (texts-own (texts .now)) ∷ ‵ (references-own (references .now)) ∷ ‵ (comments-own (comments .now)) ∷ ‵
         (features-own (features .now)) ∷ ‵ (qualifiers-own (qualifiers .now)) ∷ ‵ (locations-own (locations .now)) ∷ ‵ (letters-own (letters .now)) ∷ Γ) G
     lends-read t z next =
-        owned t (Many 32) (Is (Many 32)) (array-makes 𝓤 H A W Feature-is.the-row (LL.makes Feature-is.the-type Feature-has.the-plain 𝓤 H A) 32) rows (array-vals (LL.vals Feature-is.the-type Feature-has.the-laws) rows) rows-is $
+        owned t (Many 33) (Is (Many 33)) (array-makes 𝓤 H A W Feature-is.the-row (LL.makes Feature-is.the-type Feature-has.the-plain 𝓤 H A) 33) rows (array-vals (LL.vals Feature-is.the-type Feature-has.the-laws) rows) rows-is $
         move t (1 ∷ 0 ∷ []) $
-        use2 W (given (length rows ≡ 32) (‵ (side-by-side (in-memory Feature-is.the-row) rows l₁₂ 0))) (apart 32 𝓤 H A W l₁₂ rows (many-val rows)) $ learn t (λ full-array.
-        use1 W (‵ (side-by-side (in-memory Feature-is.the-row) (front n rows) l₁₂ 0) ⊛ ‵ (Rest Feature-is.the-row n rows l₁₂)) (cut Feature-is.the-row n 32 within-read rows full-array 𝓤 H A W l₁₂) $ split t $
+        use2 W (given (length rows ≡ 33) (‵ (side-by-side (in-memory Feature-is.the-row) rows l₁₂ 0))) (apart 33 𝓤 H A W l₁₂ rows (many-val rows)) $ learn t (λ full-array.
+        use1 W (‵ (side-by-side (in-memory Feature-is.the-row) (front n rows) l₁₂ 0) ⊛ ‵ (Rest Feature-is.the-row n rows l₁₂)) (cut Feature-is.the-row n 33 within-read rows full-array 𝓤 H A W l₁₂) $ split t $
         use1 W (later (some (λ (k-array : Loan). ‵ (flft (k-array .life ∷ []) fullShare) ⊛ ‵ (LentCells Feature-is.the-row (named 4) l₁₂ n (front n rows) k-array) ⊛ ‵ (MineMut Feature-is.the-row l₁₂ n k-array))))
-        (lends-cells Feature-is.the-row 𝓤 H A W (named 4) l₁₂ n (front-room Feature-is.the-row n 32 within-read rows full-array (lit< tt, lit< tt)) (front n rows) (front-long Feature-is.the-row n 32 within-read rows full-array)) $
+        (lends-cells Feature-is.the-row 𝓤 H A W (named 4) l₁₂ n (front-room Feature-is.the-row n 33 within-read rows full-array (lit< tt, lit< tt)) (front n rows) (front-long Feature-is.the-row n 33 within-read rows full-array)) $
         await t z $ pick t (λ k-array. split3 t $
         move t (4 ∷ 5 ∷ 6 ∷ 7 ∷ 0 ∷ 9 ∷ 10 ∷ 11 ∷ 12 ∷ 13 ∷ 14 ∷ 15 ∷ 1 ∷ 17 ∷ 18 ∷ 19 ∷ []) $
         group t 16 $
@@ -267,12 +267,12 @@ module _ {M : Type 1} (𝓤 : URA M) (H : Heap 𝓤) (A : Atoms 𝓤) (W : Given
     Said-read r-read texts-read references-read comments-read array-read qualifiers-read locations-read letters-read = Answered (s .now) at′ (roomsIn (texts .now) (references .now) (comments .now) (flat (front n rows)) (qualifiers .now) (locations .now) (letters .now))
         (roomsIn (texts-read) (references-read) (comments-read) (flat (array-read)) (qualifiers-read) (locations-read) (letters-read)) r-read
 
-    back-read : {K : Type 0} {Γ : List (Item 𝓤)} {d : S.Place} {rest : S.Body} {q : Ending 𝓤 H} → K → (full-array : length rows ≡ 32) (k-array : Loan) →
+    back-read : {K : Type 0} {Γ : List (Item 𝓤)} {d : S.Place} {rest : S.Body} {q : Ending 𝓤 H} → K → (full-array : length rows ≡ 33) (k-array : Loan) →
         ((r-read : ReadAnswer) (r-read-is : Is ReadAnswer-is.the-row r-read ((ReadAnswer-val r-read) ∷ [])) (texts-read : List ℕ) (references-read : List ℕ) (comments-read : List ℕ) (array-read : List Feature) (qualifiers-read : List ℕ) (locations-read : List ℕ) (letters-read : List ℕ) (texts-read-long : length texts-read ≡ length (texts .now))
-        (references-read-long : length references-read ≡ length (references .now)) (comments-read-long : length comments-read ≡ length (comments .now)) (array-read-is : Is (Many 32) (laid n array-read rows) (array-vals (LL.vals Feature-is.the-type Feature-has.the-laws) (laid n array-read rows)))
+        (references-read-long : length references-read ≡ length (references .now)) (comments-read-long : length comments-read ≡ length (comments .now)) (array-read-is : Is (Many 33) (laid n array-read rows) (array-vals (LL.vals Feature-is.the-type Feature-has.the-laws) (laid n array-read rows)))
         (qualifiers-read-long : length qualifiers-read ≡ length (qualifiers .now)) (locations-read-long : length locations-read ≡ length (locations .now)) (letters-read-long : length letters-read ≡ length (letters .now))
         (said-read : Said-read r-read texts-read references-read comments-read array-read qualifiers-read locations-read letters-read) → Seq K W
-        (‵ (fat fullShare (tyArray Feature-has.mir 32) l₁₂ 0 (many-val (laid n array-read rows))) ∷ ‵ (flft κ₀ q₀) ∷ ‵ (flft κ₁ q₁) ∷ ‵ (flft κ₂ q₂) ∷ ‵ (flft κ₃ q₃) ∷ ‵ (flft κ₄ q₄) ∷ ‵ (flft κ₅ q₅) ∷ ‵ (flft κ₆ q₆) ∷ ‵ (flft κ₇ q₇) ∷ ‵ (texts-last texts-read) ∷ ‵ (references-last references-read) ∷ ‵ (comments-last comments-read)
+        (‵ (fat fullShare (tyArray Feature-has.mir 33) l₁₂ 0 (many-val (laid n array-read rows))) ∷ ‵ (flft κ₀ q₀) ∷ ‵ (flft κ₁ q₁) ∷ ‵ (flft κ₂ q₂) ∷ ‵ (flft κ₃ q₃) ∷ ‵ (flft κ₄ q₄) ∷ ‵ (flft κ₅ q₅) ∷ ‵ (flft κ₆ q₆) ∷ ‵ (flft κ₇ q₇) ∷ ‵ (texts-last texts-read) ∷ ‵ (references-last references-read) ∷ ‵ (comments-last comments-read)
         ∷ ‵ (features-own (features .now)) ∷ ‵ (qualifiers-last qualifiers-read) ∷ ‵ (locations-last locations-read) ∷ ‵ (letters-last letters-read) ∷ Γ) (lands C Λ E d (ReadAnswer-val r-read) rest q))
         → (u : Val) → Seq K W (raw (read-contract 𝓤 H A mem run .post (to-read full-array k-array) u) ∷ ‵ (MineMut Feature-is.the-row l₁₂ n k-array) ∷ ‵ (Rest Feature-is.the-row n rows l₁₂) ∷ ‵ (flft κ₄ q₄) ∷ ‵ (features-own (features .now)) ∷ Γ) (lands C Λ E d u rest q)
     back-read t full-array k-array next u =
@@ -313,18 +313,18 @@ module _ {M : Type 1} (𝓤 : URA M) (H : Heap 𝓤) (A : Atoms 𝓤) (W : Given
         move t (8 ∷ []) $
         lands-at t ReadAnswer-is.the-row (EL.vals ReadAnswer-is.the-type ReadAnswer-has.the-laws) (EL.tells ReadAnswer-is.the-type ReadAnswer-has.the-laws) r-read u (λ r-read-is.
         move t (4 ∷ 15 ∷ 11 ∷ []) $
-        use3 W (later (given (length (ws .1 .1 .1 .1 .1 .0) ≡ n) (‵ (side-by-side (in-memory Feature-is.the-row) (ws .1 .1 .1 .1 .1 .0) l₁₂ 0)))) (mut-cells-back Feature-is.the-row 𝓤 H A W (named 4) l₁₂ n (front-room Feature-is.the-row n 32 within-read rows full-array (lit< tt, lit< tt)) k-array (ws .1 .1 .1 .1 .1 .0)) $
+        use3 W (later (given (length (ws .1 .1 .1 .1 .1 .0) ≡ n) (‵ (side-by-side (in-memory Feature-is.the-row) (ws .1 .1 .1 .1 .1 .0) l₁₂ 0)))) (mut-cells-back Feature-is.the-row 𝓤 H A W (named 4) l₁₂ n (front-room Feature-is.the-row n 33 within-read rows full-array (lit< tt, lit< tt)) k-array (ws .1 .1 .1 .1 .1 .0)) $
         await t tt $ learn t (λ filled.
         move t (0 ∷ 14 ∷ []) $
-        use2 W (‵ (side-by-side (in-memory Feature-is.the-row) (laid n (ws .1 .1 .1 .1 .1 .0) rows) l₁₂ 0)) (joined Feature-is.the-row n 32 within-read rows full-array 𝓤 H A W l₁₂ (ws .1 .1 .1 .1 .1 .0) filled) $
-        use1 W (‵ (fat fullShare (tyArray Feature-has.mir 32) l₁₂ 0 (many-val (laid n (ws .1 .1 .1 .1 .1 .0) rows))) ⊛ ‵ ((Many 32) .own (laid n (ws .1 .1 .1 .1 .1 .0) rows) (array-vals (LL.vals Feature-is.the-type Feature-has.the-laws) (laid n (ws .1 .1 .1 .1 .1 .0) rows))))
-        (together 32 𝓤 H A W l₁₂ (laid n (ws .1 .1 .1 .1 .1 .0) rows) (laid-long Feature-is.the-row n 32 within-read rows full-array (ws .1 .1 .1 .1 .1 .0) filled)) $
-        split t $ move t (1 ∷ []) $ peeks t (Many 32) (Is (Many 32)) (shows 𝓤 H A (Many 32)) (laid n (ws .1 .1 .1 .1 .1 .0) rows) (array-vals (LL.vals Feature-is.the-type Feature-has.the-laws) (laid n (ws .1 .1 .1 .1 .1 .0) rows)) (λ array-is. drop t $
+        use2 W (‵ (side-by-side (in-memory Feature-is.the-row) (laid n (ws .1 .1 .1 .1 .1 .0) rows) l₁₂ 0)) (joined Feature-is.the-row n 33 within-read rows full-array 𝓤 H A W l₁₂ (ws .1 .1 .1 .1 .1 .0) filled) $
+        use1 W (‵ (fat fullShare (tyArray Feature-has.mir 33) l₁₂ 0 (many-val (laid n (ws .1 .1 .1 .1 .1 .0) rows))) ⊛ ‵ ((Many 33) .own (laid n (ws .1 .1 .1 .1 .1 .0) rows) (array-vals (LL.vals Feature-is.the-type Feature-has.the-laws) (laid n (ws .1 .1 .1 .1 .1 .0) rows))))
+        (together 33 𝓤 H A W l₁₂ (laid n (ws .1 .1 .1 .1 .1 .0) rows) (laid-long Feature-is.the-row n 33 within-read rows full-array (ws .1 .1 .1 .1 .1 .0) filled)) $
+        split t $ move t (1 ∷ []) $ peeks t (Many 33) (Is (Many 33)) (shows 𝓤 H A (Many 33)) (laid n (ws .1 .1 .1 .1 .1 .0) rows) (array-vals (LL.vals Feature-is.the-type Feature-has.the-laws) (laid n (ws .1 .1 .1 .1 .1 .0) rows)) (λ array-is. drop t $
         move t (0 ∷ 1 ∷ 2 ∷ 3 ∷ 4 ∷ 14 ∷ 5 ∷ 6 ∷ 7 ∷ 13 ∷ 12 ∷ 11 ∷ 15 ∷ 10 ∷ 9 ∷ 8 ∷ []) $
         next r-read r-read-is (ws .1 .1 .0) (ws .1 .1 .1 .0) (ws .1 .1 .1 .1 .0) (ws .1 .1 .1 .1 .1 .0) (ws .1 .1 .1 .1 .1 .1 .0) (ws .1 .1 .1 .1 .1 .1 .1 .0) (ws .1 .1 .1 .1 .1 .1 .1 .1 .0) texts-long references-long comments-long array-is qualifiers-long locations-long letters-long said-read)))))))))))))
 
     module _ (r-read : ReadAnswer) (r-read-is : Is ReadAnswer-is.the-row r-read ((ReadAnswer-val r-read) ∷ [])) (texts-read : List ℕ) (references-read : List ℕ) (comments-read : List ℕ) (array-read : List Feature) (qualifiers-read : List ℕ) (locations-read : List ℕ) (letters-read : List ℕ) (texts-read-long : length texts-read ≡ length (texts .now))
-        (references-read-long : length references-read ≡ length (references .now)) (comments-read-long : length comments-read ≡ length (comments .now)) (array-read-is : Is (Many 32) (laid n array-read rows) (array-vals (LL.vals Feature-is.the-type Feature-has.the-laws) (laid n array-read rows)))
+        (references-read-long : length references-read ≡ length (references .now)) (comments-read-long : length comments-read ≡ length (comments .now)) (array-read-is : Is (Many 33) (laid n array-read rows) (array-vals (LL.vals Feature-is.the-type Feature-has.the-laws) (laid n array-read rows)))
         (qualifiers-read-long : length qualifiers-read ≡ length (qualifiers .now)) (locations-read-long : length locations-read ≡ length (locations .now)) (letters-read-long : length letters-read ≡ length (letters .now))
         (said-read : Said-read r-read texts-read references-read comments-read array-read qualifiers-read locations-read letters-read) where
       -- the call of `put_rows`
@@ -337,22 +337,22 @@ module _ {M : Type 1} (𝓤 : URA M) (H : Heap 𝓤) (A : Atoms 𝓤) (W : Given
       abbrev to-put-rows : put-rows-contract 𝓤 H A mem run .Ghost
       to-put-rows = ((lfts-put-rows, (q₄, tt), tt, args-put-rows, ((array-vals (LL.vals Feature-is.the-type Feature-has.the-laws) (laid n array-read rows)), (((vint w64 n) ∷ []), ((v features) ∷ [], tt)))), tt)
 
-      need-put-rows : n ≤ 32
+      need-put-rows : n ≤ 33
       need-put-rows = required .0
 
       goes-put-rows : ent 𝓤 (⋆ 𝓤 H A (‵ (flft κ₄ q₄) ∷ ‵ (features-own (features .now)) ∷ [])) (put-rows-contract 𝓤 H A mem run .pre to-put-rows)
       goes-put-rows = qed W (‵ (flft κ₄ q₄) ∷ ‵ (features-own (features .now)) ∷ []) ∵
           says ! need-put-rows $ nothing ! $ nothing ! $
-          owned ! (Many 32) (Is (Many 32)) (array-makes 𝓤 H A W Feature-is.the-row (LL.makes Feature-is.the-type Feature-has.the-plain 𝓤 H A) 32) (laid n array-read rows) (array-vals (LL.vals Feature-is.the-type Feature-has.the-laws) (laid n array-read rows)) array-read-is $
+          owned ! (Many 33) (Is (Many 33)) (array-makes 𝓤 H A W Feature-is.the-row (LL.makes Feature-is.the-type Feature-has.the-plain 𝓤 H A) 33) (laid n array-read rows) (array-vals (LL.vals Feature-is.the-type Feature-has.the-laws) (laid n array-read rows)) array-read-is $
           owned ! usize (Is usize) (uint-makes 𝓤 H A W w64) n ((vint w64 n) ∷ []) n-is $
           move ! (4 ∷ 3 ∷ 1 ∷ 0 ∷ 5 ∷ 2 ∷ []) $
           group ! 2 $
           done !
 
       lends-put-rows : {K : Type 0} {Γ : List (Item 𝓤)} {G : Goal 𝓤 H} → K → Soaks G →
-          (Seq K W (raw (put-rows-contract 𝓤 H A mem run .pre to-put-rows) ∷ ‵ (fat fullShare (tyArray Feature-has.mir 32) l₁₂ 0 (many-val (laid n array-read rows))) ∷ ‵ (flft κ₀ q₀) ∷ ‵ (flft κ₁ q₁) ∷ ‵ (flft κ₂ q₂) ∷ ‵ (flft κ₃ q₃) ∷ ‵ (flft κ₅ q₅) ∷ ‵ (flft κ₆ q₆) ∷ ‵ (flft κ₇ q₇) ∷ ‵ (texts-last texts-read) ∷ ‵ (references-last references-read)
+          (Seq K W (raw (put-rows-contract 𝓤 H A mem run .pre to-put-rows) ∷ ‵ (fat fullShare (tyArray Feature-has.mir 33) l₁₂ 0 (many-val (laid n array-read rows))) ∷ ‵ (flft κ₀ q₀) ∷ ‵ (flft κ₁ q₁) ∷ ‵ (flft κ₂ q₂) ∷ ‵ (flft κ₃ q₃) ∷ ‵ (flft κ₅ q₅) ∷ ‵ (flft κ₆ q₆) ∷ ‵ (flft κ₇ q₇) ∷ ‵ (texts-last texts-read) ∷ ‵ (references-last references-read)
           ∷ ‵ (comments-last comments-read) ∷ ‵ (qualifiers-last qualifiers-read) ∷ ‵ (locations-last locations-read) ∷ ‵ (letters-last letters-read) ∷ Γ) G) → Seq K W
-          (‵ (fat fullShare (tyArray Feature-has.mir 32) l₁₂ 0 (many-val (laid n array-read rows))) ∷ ‵ (flft κ₀ q₀) ∷ ‵ (flft κ₁ q₁) ∷ ‵ (flft κ₂ q₂) ∷ ‵ (flft κ₃ q₃) ∷ ‵ (flft κ₄ q₄) ∷ ‵ (flft κ₅ q₅) ∷ ‵ (flft κ₆ q₆) ∷ ‵ (flft κ₇ q₇) ∷ ‵ (texts-last texts-read) ∷ ‵ (references-last references-read) ∷ ‵ (comments-last comments-read) ∷ ‵
+          (‵ (fat fullShare (tyArray Feature-has.mir 33) l₁₂ 0 (many-val (laid n array-read rows))) ∷ ‵ (flft κ₀ q₀) ∷ ‵ (flft κ₁ q₁) ∷ ‵ (flft κ₂ q₂) ∷ ‵ (flft κ₃ q₃) ∷ ‵ (flft κ₄ q₄) ∷ ‵ (flft κ₅ q₅) ∷ ‵ (flft κ₆ q₆) ∷ ‵ (flft κ₇ q₇) ∷ ‵ (texts-last texts-read) ∷ ‵ (references-last references-read) ∷ ‵ (comments-last comments-read) ∷ ‵
           (features-own (features .now)) ∷ ‵ (qualifiers-last qualifiers-read) ∷ ‵ (locations-last locations-read) ∷ ‵ (letters-last letters-read) ∷ Γ) G
       lends-put-rows t z next =
           move t (5 ∷ 12 ∷ []) $
@@ -366,9 +366,9 @@ module _ {M : Type 1} (𝓤 : URA M) (H : Heap 𝓤) (A : Atoms 𝓤) (W : Given
 
       back-put-rows : {K : Type 0} {Γ : List (Item 𝓤)} {d : S.Place} {rest : S.Body} {q : Ending 𝓤 H} → K →
           ((r-put-rows : Unit {0}) (r-put-rows-is : Is unit r-put-rows (vunit ∷ [])) (features-put-rows : List ℕ) (features-put-rows-long : length features-put-rows ≡ length (features .now)) (said-put-rows : Said-put-rows r-put-rows features-put-rows) → Seq K W
-          (‵ (fat fullShare (tyArray Feature-has.mir 32) l₁₂ 0 (many-val (laid n array-read rows))) ∷ ‵ (flft κ₀ q₀) ∷ ‵ (flft κ₁ q₁) ∷ ‵ (flft κ₂ q₂) ∷ ‵ (flft κ₃ q₃) ∷ ‵ (flft κ₄ q₄) ∷ ‵ (flft κ₅ q₅) ∷ ‵ (flft κ₆ q₆) ∷ ‵ (flft κ₇ q₇) ∷ ‵ (texts-last texts-read) ∷ ‵ (references-last references-read) ∷ ‵ (comments-last comments-read) ∷ ‵
+          (‵ (fat fullShare (tyArray Feature-has.mir 33) l₁₂ 0 (many-val (laid n array-read rows))) ∷ ‵ (flft κ₀ q₀) ∷ ‵ (flft κ₁ q₁) ∷ ‵ (flft κ₂ q₂) ∷ ‵ (flft κ₃ q₃) ∷ ‵ (flft κ₄ q₄) ∷ ‵ (flft κ₅ q₅) ∷ ‵ (flft κ₆ q₆) ∷ ‵ (flft κ₇ q₇) ∷ ‵ (texts-last texts-read) ∷ ‵ (references-last references-read) ∷ ‵ (comments-last comments-read) ∷ ‵
           (features-last features-put-rows) ∷ ‵ (qualifiers-last qualifiers-read) ∷ ‵ (locations-last locations-read) ∷ ‵ (letters-last letters-read) ∷ Γ) (lands C Λ E d vunit rest q))
-          → (u : Val) → Seq K W (raw (put-rows-contract 𝓤 H A mem run .post to-put-rows u) ∷ ‵ (fat fullShare (tyArray Feature-has.mir 32) l₁₂ 0 (many-val (laid n array-read rows))) ∷ ‵ (flft κ₀ q₀) ∷ ‵ (flft κ₁ q₁) ∷ ‵ (flft κ₂ q₂) ∷ ‵ (flft κ₃ q₃) ∷ ‵ (flft κ₅ q₅) ∷ ‵ (flft κ₆ q₆) ∷ ‵ (flft κ₇ q₇) ∷ ‵ (texts-last texts-read) ∷ ‵
+          → (u : Val) → Seq K W (raw (put-rows-contract 𝓤 H A mem run .post to-put-rows u) ∷ ‵ (fat fullShare (tyArray Feature-has.mir 33) l₁₂ 0 (many-val (laid n array-read rows))) ∷ ‵ (flft κ₀ q₀) ∷ ‵ (flft κ₁ q₁) ∷ ‵ (flft κ₂ q₂) ∷ ‵ (flft κ₃ q₃) ∷ ‵ (flft κ₅ q₅) ∷ ‵ (flft κ₆ q₆) ∷ ‵ (flft κ₇ q₇) ∷ ‵ (texts-last texts-read) ∷ ‵
           (references-last references-read) ∷ ‵ (comments-last comments-read) ∷ ‵ (qualifiers-last qualifiers-read) ∷ ‵ (locations-last locations-read) ∷ ‵ (letters-last letters-read) ∷ Γ) (lands C Λ E d u rest q)
       back-put-rows t next u =
           use1 W (later (some (λ (r-put-rows : Unit {0}). ((‵ (flft κ₄ q₄) ⊛ ‵ ftrue) ⊛ ‵ (unit .own r-put-rows (u ∷ []))) ⊛ raw (ensured 𝓤 H A put-rows.ended (put-rows.clauses 𝓤 H A mem run) lfts-put-rows args-put-rows tt r-put-rows)))) (id⊢ 𝓤 _) $
@@ -415,7 +415,7 @@ module _ {M : Type 1} (𝓤 : URA M) (H : Heap 𝓤) (A : Atoms 𝓤) (W : Given
             holds (v texts) ∷ holds (vptr (references .ptr .0) (references .ptr .1)) ∷ holds (v references) ∷ holds (vptr (comments .ptr .0) (comments .ptr .1)) ∷ holds (v comments) ∷ holds (vptr l₁₂ 0) ∷ holds (sliceVal (l₁₂, 0) n) ∷ holds (vptr (qualifiers .ptr .0) (qualifiers .ptr .1)) ∷ holds (v qualifiers) ∷ holds
             (vptr (locations .ptr .0) (locations .ptr .1)) ∷ holds (v locations) ∷ holds (vptr (letters .ptr .0) (letters .ptr .1)) ∷ holds (v letters) ∷ holds vunit ∷ holds (many-val (laid n array-read rows)) ∷ holds (vptr (features .ptr .0) (features .ptr .1)) ∷ holds (v features) ∷ []
 
-        part-8 : Sq W (‵ (fat fullShare (tyArray Feature-has.mir 32) l₁₂ 0 (many-val (laid n array-read rows))) ∷ ‵ (flft κ₀ q₀) ∷ ‵ (flft κ₁ q₁) ∷ ‵ (flft κ₂ q₂) ∷ ‵ (flft κ₃ q₃) ∷ ‵ (flft κ₄ q₄) ∷ ‵ (flft κ₅ q₅) ∷ ‵ (flft κ₆ q₆) ∷ ‵ (flft κ₇ q₇) ∷ ‵ (texts-last texts-read) ∷ ‵ (references-last references-read) ∷ ‵ (comments-last comments-read) ∷
+        part-8 : Sq W (‵ (fat fullShare (tyArray Feature-has.mir 33) l₁₂ 0 (many-val (laid n array-read rows))) ∷ ‵ (flft κ₀ q₀) ∷ ‵ (flft κ₁ q₁) ∷ ‵ (flft κ₂ q₂) ∷ ‵ (flft κ₃ q₃) ∷ ‵ (flft κ₄ q₄) ∷ ‵ (flft κ₅ q₅) ∷ ‵ (flft κ₆ q₆) ∷ ‵ (flft κ₇ q₇) ∷ ‵ (texts-last texts-read) ∷ ‵ (references-last references-read) ∷ ‵ (comments-last comments-read) ∷
             ‵ (features-last features-put-rows) ∷ ‵ (qualifiers-last qualifiers-read) ∷ ‵ (locations-last locations-read) ∷ ‵ (letters-last letters-read) ∷ standing part-8-holds) (runs C Λ E body.t-21 (atRet E Post))
         part-8 =
             assigns ! (of-opd ! (load ! (from ! (stop !)) (look ! 28 refl))) (from ! (stop !)) (init ! 16 refl (EL.lawful ReadAnswer-is.the-type ReadAnswer-has.the-laws 𝓤 H A W tt .typed r-read ((ReadAnswer-val r-read) ∷ []) r-read-is .0)) $
@@ -431,7 +431,7 @@ module _ {M : Type 1} (𝓤 : URA M) (H : Heap 𝓤) (A : Atoms 𝓤) (W : Given
           holds (v texts) ∷ holds (vptr (references .ptr .0) (references .ptr .1)) ∷ holds (v references) ∷ holds (vptr (comments .ptr .0) (comments .ptr .1)) ∷ holds (v comments) ∷ holds (vptr l₁₂ 0) ∷ holds (sliceVal (l₁₂, 0) n) ∷ holds (vptr (qualifiers .ptr .0) (qualifiers .ptr .1)) ∷ holds (v qualifiers) ∷ holds
           (vptr (locations .ptr .0) (locations .ptr .1)) ∷ holds (v locations) ∷ holds (vptr (letters .ptr .0) (letters .ptr .1)) ∷ holds (v letters) ∷ vacant ∷ holds (many-val (laid n array-read rows)) ∷ holds (vptr (features .ptr .0) (features .ptr .1)) ∷ holds (v features) ∷ []
 
-      part-7 : Sq W (‵ (fat fullShare (tyArray Feature-has.mir 32) l₁₂ 0 (many-val (laid n array-read rows))) ∷ ‵ (flft κ₀ q₀) ∷ ‵ (flft κ₁ q₁) ∷ ‵ (flft κ₂ q₂) ∷ ‵ (flft κ₃ q₃) ∷ ‵ (flft κ₄ q₄) ∷ ‵ (flft κ₅ q₅) ∷ ‵ (flft κ₆ q₆) ∷ ‵ (flft κ₇ q₇) ∷ ‵ (texts-last texts-read) ∷ ‵ (references-last references-read) ∷ ‵ (comments-last comments-read) ∷ ‵
+      part-7 : Sq W (‵ (fat fullShare (tyArray Feature-has.mir 33) l₁₂ 0 (many-val (laid n array-read rows))) ∷ ‵ (flft κ₀ q₀) ∷ ‵ (flft κ₁ q₁) ∷ ‵ (flft κ₂ q₂) ∷ ‵ (flft κ₃ q₃) ∷ ‵ (flft κ₄ q₄) ∷ ‵ (flft κ₅ q₅) ∷ ‵ (flft κ₆ q₆) ∷ ‵ (flft κ₇ q₇) ∷ ‵ (texts-last texts-read) ∷ ‵ (references-last references-read) ∷ ‵ (comments-last comments-read) ∷ ‵
           (features-own (features .now)) ∷ ‵ (qualifiers-last qualifiers-read) ∷ ‵ (locations-last locations-read) ∷ ‵ (letters-last letters-read) ∷ standing part-7-holds) (runs C Λ E body.t-20 (atRet E Post))
       part-7 =
           lends-put-rows ! tt (
@@ -445,11 +445,11 @@ module _ {M : Type 1} (𝓤 : URA M) (H : Heap 𝓤) (A : Atoms 𝓤) (W : Given
           holds (v texts) ∷ holds (vptr (references .ptr .0) (references .ptr .1)) ∷ holds (v references) ∷ holds (vptr (comments .ptr .0) (comments .ptr .1)) ∷ holds (v comments) ∷ holds (vptr l₁₂ 0) ∷ holds (sliceVal (l₁₂, 0) n) ∷ holds (vptr (qualifiers .ptr .0) (qualifiers .ptr .1)) ∷ holds (v qualifiers) ∷ holds
           (vptr (locations .ptr .0) (locations .ptr .1)) ∷ holds (v locations) ∷ holds (vptr (letters .ptr .0) (letters .ptr .1)) ∷ holds (v letters) ∷ vacant ∷ vacant ∷ vacant ∷ vacant ∷ []
 
-      part-6 : Sq W (‵ (fat fullShare (tyArray Feature-has.mir 32) l₁₂ 0 (many-val (laid n array-read rows))) ∷ ‵ (flft κ₀ q₀) ∷ ‵ (flft κ₁ q₁) ∷ ‵ (flft κ₂ q₂) ∷ ‵ (flft κ₃ q₃) ∷ ‵ (flft κ₄ q₄) ∷ ‵ (flft κ₅ q₅) ∷ ‵ (flft κ₆ q₆) ∷ ‵ (flft κ₇ q₇) ∷ ‵ (texts-last texts-read) ∷ ‵ (references-last references-read) ∷ ‵ (comments-last comments-read) ∷ ‵
+      part-6 : Sq W (‵ (fat fullShare (tyArray Feature-has.mir 33) l₁₂ 0 (many-val (laid n array-read rows))) ∷ ‵ (flft κ₀ q₀) ∷ ‵ (flft κ₁ q₁) ∷ ‵ (flft κ₂ q₂) ∷ ‵ (flft κ₃ q₃) ∷ ‵ (flft κ₄ q₄) ∷ ‵ (flft κ₅ q₅) ∷ ‵ (flft κ₆ q₆) ∷ ‵ (flft κ₇ q₇) ∷ ‵ (texts-last texts-read) ∷ ‵ (references-last references-read) ∷ ‵ (comments-last comments-read) ∷ ‵
           (features-own (features .now)) ∷ ‵ (qualifiers-last qualifiers-read) ∷ ‵ (locations-last locations-read) ∷ ‵ (letters-last letters-read) ∷ standing part-6-holds) (runs C Λ E body.t-17 (atRet E Post))
       part-6 =
           assigns ! (of-opd ! (load ! (from ! (stop !)) (look ! 0 refl))) (from ! (stop !))
-          (init ! 44 refl (array-lawful 𝓤 H A W Feature-is.the-row (LL.lawful Feature-is.the-type Feature-has.the-laws 𝓤 H A W) 32 .typed (laid n array-read rows) (array-vals (LL.vals Feature-is.the-type Feature-has.the-laws) (laid n array-read rows)) array-read-is .0)) $
+          (init ! 44 refl (array-lawful 𝓤 H A W Feature-is.the-row (LL.lawful Feature-is.the-type Feature-has.the-laws 𝓤 H A W) 33 .typed (laid n array-read rows) (array-vals (LL.vals Feature-is.the-type Feature-has.the-laws) (laid n array-read rows)) array-read-is .0)) $
           assigns ! (addr ! (from ! (fld ! refl (hop ! (look-in ! 24 (sub ! 0 refl (whole !))) (stop !))))) (from ! (stop !)) (init ! 45 refl (tt, tt)) $
           assigns ! (agg ! (and-then ! (load ! (from ! (stop !)) (look ! 45 refl)) (and-then ! (load ! (from ! (fld ! refl (stop !))) (look-in ! 24 (sub ! 1 refl (whole !)))) (no-more !)))) (from ! (stop !)) (init ! 46 refl (tt, (tt, (record { fits = features-room .0 }, tt)))) $
           part-7
@@ -520,7 +520,7 @@ module _ {M : Type 1} (𝓤 : URA M) (H : Heap 𝓤) (A : Atoms 𝓤) (W : Given
     part-1 : Sq W (‵ (flft κ₀ q₀) ∷ ‵ (flft κ₁ q₁) ∷ ‵ (flft κ₂ q₂) ∷ ‵ (flft κ₃ q₃) ∷ ‵ (flft κ₄ q₄) ∷ ‵ (flft κ₅ q₅) ∷ ‵ (flft κ₆ q₆) ∷ ‵ (flft κ₇ q₇) ∷ ‵ s-own ∷ ‵ (texts-own (texts .now)) ∷ ‵ (references-own (references .now)) ∷ ‵ (comments-own (comments .now)) ∷ ‵ (features-own (features .now)) ∷ ‵ (qualifiers-own (qualifiers .now)) ∷ ‵
         (locations-own (locations .now)) ∷ ‵ (letters-own (letters .now)) ∷ standing part-1-holds) (runs C Λ E body.t-1 (atRet E Post))
     part-1 =
-        assigns ! (of-opd ! (load ! (from ! (stop !)) (look ! 22 refl))) (from ! (stop !)) (init ! 28 refl (array-lawful 𝓤 H A W Feature-is.the-row (LL.lawful Feature-is.the-type Feature-has.the-laws 𝓤 H A W) 32 .typed rows (array-vals (LL.vals Feature-is.the-type Feature-has.the-laws) rows) rows-is .0)) $
+        assigns ! (of-opd ! (load ! (from ! (stop !)) (look ! 22 refl))) (from ! (stop !)) (init ! 28 refl (array-lawful 𝓤 H A W Feature-is.the-row (LL.lawful Feature-is.the-type Feature-has.the-laws 𝓤 H A W) 33 .typed rows (array-vals (LL.vals Feature-is.the-type Feature-has.the-laws) rows) rows-is .0)) $
         assigns ! (addr ! (from ! (fld ! refl (hop ! (look-in ! 19 (sub ! 0 refl (whole !))) (stop !))))) (from ! (stop !)) (init ! 30 refl (tt, tt)) $
         assigns ! (agg ! (and-then ! (load ! (from ! (stop !)) (look ! 30 refl)) (and-then ! (load ! (from ! (fld ! refl (stop !))) (look-in ! 19 (sub ! 1 refl (whole !)))) (no-more !)))) (from ! (stop !)) (init ! 31 refl (tt, (tt, (record { fits = texts-room .0 }, tt)))) $
         assigns ! (addr ! (from ! (fld ! refl (hop ! (look-in ! 20 (sub ! 0 refl (whole !))) (stop !))))) (from ! (stop !)) (init ! 32 refl (tt, tt)) $
@@ -530,7 +530,7 @@ module _ {M : Type 1} (𝓤 : URA M) (H : Heap 𝓤) (A : Atoms 𝓤) (W : Given
         (raw (Dies 𝓤 H A E) ∷ Had [])) (params′ E ((v s) ∷ (vint w64 at′) ∷ (v texts) ∷ (v references) ∷ (v comments) ∷ (many-val rows) ∷ (vint w64 n) ∷ (v features) ∷ (v qualifiers) ∷ (v locations) ∷ (v letters) ∷ []) (runs C Λ E body.t-1 (atRet E Post)))
     begins =
         params1 ! $ pass1 ! (init ! 1 refl (tt, (tt, (record { fits = s-room .0 }, tt)))) $ pass1 ! (init ! 2 refl (uint-lawful 𝓤 H A W w64 .typed at′ ((vint w64 at′) ∷ []) at′-is .0)) $ pass1 ! (init ! 3 refl (tt, (tt, (record { fits = texts-room .0 }, tt)))) $ pass1 ! (init ! 4 refl (tt, (tt, (record { fits = references-room .0 }, tt)))) $ pass1
-        ! (init ! 5 refl (tt, (tt, (record { fits = comments-room .0 }, tt)))) $ pass1 ! (init ! 6 refl (array-lawful 𝓤 H A W Feature-is.the-row (LL.lawful Feature-is.the-type Feature-has.the-laws 𝓤 H A W) 32 .typed rows (array-vals (LL.vals Feature-is.the-type Feature-has.the-laws) rows) rows-is .0)) $ pass1 !
+        ! (init ! 5 refl (tt, (tt, (record { fits = comments-room .0 }, tt)))) $ pass1 ! (init ! 6 refl (array-lawful 𝓤 H A W Feature-is.the-row (LL.lawful Feature-is.the-type Feature-has.the-laws 𝓤 H A W) 33 .typed rows (array-vals (LL.vals Feature-is.the-type Feature-has.the-laws) rows) rows-is .0)) $ pass1 !
         (init ! 7 refl (uint-lawful 𝓤 H A W w64 .typed n ((vint w64 n) ∷ []) n-is .0)) $ pass1 ! (init ! 8 refl (tt, (tt, (record { fits = features-room .0 }, tt)))) $ pass1 ! (init ! 9 refl (tt, (tt, (record { fits = qualifiers-room .0 }, tt)))) $ pass1 ! (init ! 10 refl (tt, (tt, (record { fits = locations-room .0 }, tt)))) $ pass1 !
         (init ! 11 refl (tt, (tt, (record { fits = letters-room .0 }, tt)))) $ pass0 ! $
         move ! (33 ∷ 34 ∷ []) $ opened ! part-1
@@ -556,7 +556,7 @@ module _ {M : Type 1} (𝓤 : URA M) (H : Heap 𝓤) (A : Atoms 𝓤) (W : Given
               (
                 mut-slice-tells (named 3) (κs .1 .1 .1 .0) usize,
                 (
-                  array-tells Feature-is.the-row (LL.vals Feature-is.the-type Feature-has.the-laws) (LL.tells Feature-is.the-type Feature-has.the-laws) 32,
+                  array-tells Feature-is.the-row (LL.vals Feature-is.the-type Feature-has.the-laws) (LL.tells Feature-is.the-type Feature-has.the-laws) 33,
                   (uint-tells w64, (mut-slice-tells (named 4) (κs .1 .1 .1 .1 .0) usize, (mut-slice-tells (named 5) (κs .1 .1 .1 .1 .1 .0) usize, (mut-slice-tells (named 6) (κs .1 .1 .1 .1 .1 .1 .0) usize, (mut-slice-tells (named 7) (κs .1 .1 .1 .1 .1 .1 .1 .0) u8, tt))))),
                 ),
               ),
@@ -564,7 +564,7 @@ module _ {M : Type 1} (𝓤 : URA M) (H : Heap 𝓤) (A : Atoms 𝓤) (W : Given
           ),
         ),
       ))
-      (λ κs qs bounds a g are. needs 𝓤 (((a .1 .1 .1 .1 .1 .1 .0) ≤ 32) × (8 * (a .1 .1 .1 .1 .1 .1 .0) ≤ length (((a .1 .1 .1 .1 .1 .1 .1 .0) .now))) × (flat (take (a .1 .1 .1 .1 .1 .1 .0) (a .1 .1 .1 .1 .1 .0)) ≡ take (8 * (a .1 .1 .1 .1 .1 .1 .0)) (((a .1 .1 .1 .1 .1 .1 .1 .0) .now)))) _
+      (λ κs qs bounds a g are. needs 𝓤 (((a .1 .1 .1 .1 .1 .1 .0) ≤ 33) × (8 * (a .1 .1 .1 .1 .1 .1 .0) ≤ length (((a .1 .1 .1 .1 .1 .1 .1 .0) .now))) × (flat (take (a .1 .1 .1 .1 .1 .1 .0) (a .1 .1 .1 .1 .1 .0)) ≡ take (8 * (a .1 .1 .1 .1 .1 .1 .0)) (((a .1 .1 .1 .1 .1 .1 .1 .0) .now)))) _
       (λ required. walk 𝓤 H A W mem run (κs .0) (κs .1 .0) (κs .1 .1 .0) (κs .1 .1 .1 .0) (κs .1 .1 .1 .1 .0) (κs .1 .1 .1 .1 .1 .0) (κs .1 .1 .1 .1 .1 .1 .0) (κs .1 .1 .1 .1 .1 .1 .1 .0) (qs .0) (qs .1 .0) (qs .1 .1 .0) (qs .1 .1 .1 .0) (qs .1 .1 .1 .1 .0) (qs .1 .1 .1 .1 .1 .0) (qs .1 .1 .1 .1 .1 .1 .0) (qs .1 .1 .1 .1 .1 .1 .1 .0) (a .0)
       (a .1 .0) (a .1 .1 .0) (a .1 .1 .1 .0) (a .1 .1 .1 .1 .0) (a .1 .1 .1 .1 .1 .0) (a .1 .1 .1 .1 .1 .1 .0) (a .1 .1 .1 .1 .1 .1 .1 .0) (a .1 .1 .1 .1 .1 .1 .1 .1 .0) (a .1 .1 .1 .1 .1 .1 .1 .1 .1 .0) (a .1 .1 .1 .1 .1 .1 .1 .1 .1 .1 .0) (are .0 .0 .1) (are .1 .0) (are .1 .1 .0 .0 .1) (are .1 .1 .1 .0 .0 .1) (are .1 .1 .1 .1 .0 .0 .1)
       (are .1 .1 .1 .1 .1 .0) (are .1 .1 .1 .1 .1 .1 .0) (are .1 .1 .1 .1 .1 .1 .1 .0 .0 .1) (are .1 .1 .1 .1 .1 .1 .1 .1 .0 .0 .1) (are .1 .1 .1 .1 .1 .1 .1 .1 .1 .0 .0 .1) (are .1 .1 .1 .1 .1 .1 .1 .1 .1 .1 .0 .0 .1) required (𝓣 .C) (𝓣 .Λ) (fmOf 𝓤 H (W .laws) 𝓣) known-read known-put-rows))
@@ -581,7 +581,7 @@ module _ {M : Type 1} (𝓤 : URA M) (H : Heap 𝓤) (A : Atoms 𝓤) (W : Given
           (
             goes-gave-slice 𝓤 H A W 8 3 tt (plain (λ _. usize)),
             (
-              goes-dropped 𝓤 H A W 8 (plain (λ _. (Many 32))) yes (λ κs x f. refl),
+              goes-dropped 𝓤 H A W 8 (plain (λ _. (Many 33))) yes (λ κs x f. refl),
               (goes-dropped 𝓤 H A W 8 (plain (λ _. usize)) yes (λ κs x f. refl), (goes-gave-slice 𝓤 H A W 8 4 tt (plain (λ _. usize)), (goes-gave-slice 𝓤 H A W 8 5 tt (plain (λ _. usize)), (goes-gave-slice 𝓤 H A W 8 6 tt (plain (λ _. usize)), (goes-gave-slice 𝓤 H A W 8 7 tt (plain (λ _. u8)), tt))))),
             ),
           ),

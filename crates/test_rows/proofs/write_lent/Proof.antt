@@ -85,7 +85,7 @@ stayed = (
       (
         stay-dropped (shrSliceOf (3 ∷ []) tt (plain (λ _. usize))) yes,
         (
-          stay-dropped (plain (λ _. (Many 32))) yes,
+          stay-dropped (plain (λ _. (Many 33))) yes,
           (
             stay-dropped (plain (λ _. usize)) yes,
             (
@@ -122,8 +122,8 @@ module _ {M : Type 1} (𝓤 : URA M) (H : Heap 𝓤) (A : Atoms 𝓤) (mem : Mem
 
 module _ {M : Type 1} (𝓤 : URA M) (H : Heap 𝓤) (A : Atoms 𝓤) (W : Given 𝓤 H A) (mem : Memory → SProp 𝓤) (run : Routine → Fun 𝓤) (κ₀ κ₁ κ₂ κ₃ κ₄ κ₅ κ₆ : Lft) (q₀ q₁ q₂ q₃ q₄ q₅ q₆ : Share) (out : RefT (List ℕ)) (texts : RefT (List ℕ)) (references : RefT (List ℕ)) (comments : RefT (List ℕ)) (rows : List Feature) (n : ℕ) (qualifiers : RefT (List ℕ))
     (locations : RefT (List ℕ)) (letters : RefT (List ℕ)) (head : Head) (how : How) (out-room : Room u8 (length (out .now))) (texts-room : Room u8 (length (texts .now))) (references-room : Room usize (length (references .now))) (comments-room : Room usize (length (comments .now)))
-    (rows-is : Is (Many 32) rows (array-vals (LL.vals Feature-is.the-type Feature-has.the-laws) rows)) (n-is : Is usize n ((vint w64 n) ∷ [])) (qualifiers-room : Room usize (length (qualifiers .now))) (locations-room : Room usize (length (locations .now))) (letters-room : Room u8 (length (letters .now)))
-    (head-is : Is Head-is.the-row head ((Head-val head) ∷ [])) (how-is : Is How-is.the-row how ((How-val how) ∷ [])) (required : n ≤ 32) where
+    (rows-is : Is (Many 33) rows (array-vals (LL.vals Feature-is.the-type Feature-has.the-laws) rows)) (n-is : Is usize n ((vint w64 n) ∷ [])) (qualifiers-room : Room usize (length (qualifiers .now))) (locations-room : Room usize (length (locations .now))) (letters-room : Room u8 (length (letters .now)))
+    (head-is : Is Head-is.the-row head ((Head-val head) ∷ [])) (how-is : Is How-is.the-row how ((How-val how) ∷ [])) (required : n ≤ 33) where
   abbrev a : (RefT (List ℕ)) × ((RefT (List ℕ)) × ((RefT (List ℕ)) × ((RefT (List ℕ)) × ((List Feature) × (ℕ × ((RefT (List ℕ)) × ((RefT (List ℕ)) × ((RefT (List ℕ)) × (Head × (How × Unit {0}))))))))))
   a = (out, (texts, (references, (comments, (rows, (n, (qualifiers, (locations, (letters, (head, (how, tt)))))))))))
 
@@ -164,13 +164,13 @@ module _ {M : Type 1} (𝓤 : URA M) (H : Heap 𝓤) (A : Atoms 𝓤) (W : Given
   -- what is had at entry
   abbrev Had : List (Item 𝓤) → List (Item 𝓤)
   Had Γ = (‵ (flft κ₀ q₀) ⊛ ‵ (flft κ₁ q₁) ⊛ ‵ (flft κ₂ q₂) ⊛ ‵ (flft κ₃ q₃) ⊛ ‵ (flft κ₄ q₄) ⊛ ‵ (flft κ₅ q₅) ⊛ ‵ (flft κ₆ q₆) ⊛ ‵ ftrue) ∷ ‵
-      (owns (MutSlice (named 0) κ₀ u8 ∷ ShrSlice (named 1) κ₁ u8 ∷ ShrSlice (named 2) κ₂ usize ∷ ShrSlice (named 3) κ₃ usize ∷ (Many 32) ∷ usize ∷ ShrSlice (named 4) κ₄ usize ∷ ShrSlice (named 5) κ₅ usize ∷ ShrSlice (named 6) κ₆ u8 ∷ Head-is.the-row ∷ How-is.the-row ∷ []) a at-entry) ∷ Γ
+      (owns (MutSlice (named 0) κ₀ u8 ∷ ShrSlice (named 1) κ₁ u8 ∷ ShrSlice (named 2) κ₂ usize ∷ ShrSlice (named 3) κ₃ usize ∷ (Many 33) ∷ usize ∷ ShrSlice (named 4) κ₄ usize ∷ ShrSlice (named 5) κ₅ usize ∷ ShrSlice (named 6) κ₆ u8 ∷ Head-is.the-row ∷ How-is.the-row ∷ []) a at-entry) ∷ Γ
 
   opened : {K : Type 0} {Γ : List (Item 𝓤)} {G : Goal 𝓤 H} → K → Seq K W (‵ (flft κ₀ q₀) ∷ ‵ (flft κ₁ q₁) ∷ ‵ (flft κ₂ q₂) ∷ ‵ (flft κ₃ q₃) ∷ ‵ (flft κ₄ q₄) ∷ ‵ (flft κ₅ q₅) ∷ ‵ (flft κ₆ q₆) ∷ ‵ (out-own (out .now)) ∷ ‵ texts-own ∷ ‵ references-own ∷ ‵ comments-own ∷ ‵ qualifiers-own ∷ ‵ locations-own ∷ ‵ letters-own ∷ Γ) G → Seq K W (Had Γ) G
   opened t then =
       splits t (‵ (flft κ₀ q₀) ∷ ‵ (flft κ₁ q₁) ∷ ‵ (flft κ₂ q₂) ∷ ‵ (flft κ₃ q₃) ∷ ‵ (flft κ₄ q₄) ∷ ‵ (flft κ₅ q₅) ∷ ‵ (flft κ₆ q₆) ∷ []) (id⊢ 𝓤 _) $
       move t (7 ∷ []) $
-      splits t (‵ (out-own (out .now)) ∷ ‵ texts-own ∷ ‵ references-own ∷ ‵ comments-own ∷ ‵ ((Many 32) .own rows (array-vals (LL.vals Feature-is.the-type Feature-has.the-laws) rows)) ∷ ‵ (usize .own n ((vint w64 n) ∷ [])) ∷ ‵ qualifiers-own ∷ ‵ locations-own ∷ ‵ letters-own ∷ ‵ (Head-is.the-row .own head ((Head-val head) ∷ [])) ∷ ‵
+      splits t (‵ (out-own (out .now)) ∷ ‵ texts-own ∷ ‵ references-own ∷ ‵ comments-own ∷ ‵ ((Many 33) .own rows (array-vals (LL.vals Feature-is.the-type Feature-has.the-laws) rows)) ∷ ‵ (usize .own n ((vint w64 n) ∷ [])) ∷ ‵ qualifiers-own ∷ ‵ locations-own ∷ ‵ letters-own ∷ ‵ (Head-is.the-row .own head ((Head-val head) ∷ [])) ∷ ‵
       (How-is.the-row .own how ((How-val how) ∷ [])) ∷ []) (id⊢ 𝓤 _) $
       move t (4 ∷ 5 ∷ 9 ∷ 10 ∷ 11 ∷ 12 ∷ 13 ∷ 14 ∷ 15 ∷ 16 ∷ 17 ∷ 0 ∷ 1 ∷ 2 ∷ 3 ∷ 6 ∷ 7 ∷ 8 ∷ []) $
       drop t $ drop t $ drop t $ drop t $
@@ -179,24 +179,24 @@ module _ {M : Type 1} (𝓤 : URA M) (H : Heap 𝓤) (A : Atoms 𝓤) (W : Given
   module _ (C : Calls 𝓤 H) (Λ : Loops 𝓤 H) (fm : FmC 𝓤 H (W .laws) C) (known-write : Triple 𝓤 (C #write-record·write) (write-contract 𝓤 H A mem run)) (l₀ l₁ l₂ l₃ l₄ l₅ l₆ l₇ l₈ l₉ l₁₀ l₁₁ l₁₂ l₁₃ l₁₄ l₁₅ l₁₆ : ℕ) where
     -- the locals, and their entries with what is owed of them
     abbrev E : Env 𝓤 H
-    E = (WriteAnswer-has.mir, l₀) ∷ (sliceTy (tyRef (named 0) mut (tyInt w8)), l₁) ∷ (sliceTy (tyRef (named 1) imm (tyInt w8)), l₂) ∷ (sliceTy (tyRef (named 2) imm (tyInt w64)), l₃) ∷ (sliceTy (tyRef (named 3) imm (tyInt w64)), l₄) ∷ (tyArray Feature-has.mir 32, l₅) ∷ (tyInt w64, l₆) ∷ (sliceTy (tyRef (named 4) imm (tyInt w64)), l₇) ∷
-        (sliceTy (tyRef (named 5) imm (tyInt w64)), l₈) ∷ (sliceTy (tyRef (named 6) imm (tyInt w8)), l₉) ∷ (Head-has.mir, l₁₀) ∷ (How-has.mir, l₁₁) ∷ (tyArray Feature-has.mir 32, l₁₂) ∷ (tyRef erased mut (tyInt w8), l₁₃) ∷ (sliceTy (tyRef erased mut (tyInt w8)), l₁₄) ∷ (tyRef erased imm (tyArray (pointee (Feature-is.the-row .written)) 32), l₁₅) ∷
+    E = (WriteAnswer-has.mir, l₀) ∷ (sliceTy (tyRef (named 0) mut (tyInt w8)), l₁) ∷ (sliceTy (tyRef (named 1) imm (tyInt w8)), l₂) ∷ (sliceTy (tyRef (named 2) imm (tyInt w64)), l₃) ∷ (sliceTy (tyRef (named 3) imm (tyInt w64)), l₄) ∷ (tyArray Feature-has.mir 33, l₅) ∷ (tyInt w64, l₆) ∷ (sliceTy (tyRef (named 4) imm (tyInt w64)), l₇) ∷
+        (sliceTy (tyRef (named 5) imm (tyInt w64)), l₈) ∷ (sliceTy (tyRef (named 6) imm (tyInt w8)), l₉) ∷ (Head-has.mir, l₁₀) ∷ (How-has.mir, l₁₁) ∷ (tyArray Feature-has.mir 33, l₁₂) ∷ (tyRef erased mut (tyInt w8), l₁₃) ∷ (sliceTy (tyRef erased mut (tyInt w8)), l₁₄) ∷ (tyRef erased imm (tyArray (pointee (Feature-is.the-row .written)) 33), l₁₅) ∷
         (sliceTy (tyRef erased imm (pointee (Feature-is.the-row .written))), l₁₆) ∷ []
 
     abbrev standing : List Cell → List (Item 𝓤)
     standing cs = locals 𝓤 H A E cs (raw (Dies 𝓤 H A E) ∷ [])
 
-    within-write : n ≤ 32
+    within-write : n ≤ 33
     within-write = required
 
     -- the call of `write`
-    abbrev lfts-write : (full-array : length rows ≡ 32) (k-array : Loan) → Lft × (Lft × (Lft × (Lft × (Lft × (Lft × (Lft × (Lft × Unit {0})))))))
+    abbrev lfts-write : (full-array : length rows ≡ 33) (k-array : Loan) → Lft × (Lft × (Lft × (Lft × (Lft × (Lft × (Lft × (Lft × Unit {0})))))))
     lfts-write full-array k-array = (κ₀, (κ₁, (κ₂, (κ₃, (k-array .life ∷ [], (κ₄, (κ₅, (κ₆, tt))))))))
 
-    abbrev args-write : (full-array : length rows ≡ 32) (k-array : Loan) → (RefT (List ℕ)) × ((RefT (List ℕ)) × ((RefT (List ℕ)) × ((RefT (List ℕ)) × ((RefT (List Feature)) × ((RefT (List ℕ)) × ((RefT (List ℕ)) × ((RefT (List ℕ)) × (Head × (How × Unit {0})))))))))
+    abbrev args-write : (full-array : length rows ≡ 33) (k-array : Loan) → (RefT (List ℕ)) × ((RefT (List ℕ)) × ((RefT (List ℕ)) × ((RefT (List ℕ)) × ((RefT (List Feature)) × ((RefT (List ℕ)) × ((RefT (List ℕ)) × ((RefT (List ℕ)) × (Head × (How × Unit {0})))))))))
     args-write full-array k-array = (slice-at u8 out (out .name) (out .now), (texts, (references, (comments, (placed Feature-is.the-row l₁₂ (k-array .name) (front n rows), (qualifiers, (locations, (letters, (head, (how, tt))))))))))
 
-    abbrev to-write : (full-array : length rows ≡ 32) (k-array : Loan) → write-contract 𝓤 H A mem run .Ghost
+    abbrev to-write : (full-array : length rows ≡ 33) (k-array : Loan) → write-contract 𝓤 H A mem run .Ghost
     to-write full-array k-array = (
       (
         (lfts-write full-array k-array),
@@ -208,7 +208,7 @@ module _ {M : Type 1} (𝓤 : URA M) (H : Heap 𝓤) (A : Atoms 𝓤) (W : Given
       tt,
     )
 
-    goes-write : (full-array : length rows ≡ 32) (k-array : Loan) → ent 𝓤
+    goes-write : (full-array : length rows ≡ 33) (k-array : Loan) → ent 𝓤
         (⋆ 𝓤 H A (‵ (flft κ₀ q₀) ∷ ‵ (flft κ₁ q₁) ∷ ‵ (flft κ₂ q₂) ∷ ‵ (flft κ₃ q₃) ∷ ‵ (flft (k-array .life ∷ []) fullShare) ∷ ‵ (flft κ₄ q₄) ∷ ‵ (flft κ₅ q₅) ∷ ‵ (flft κ₆ q₆) ∷ ‵ (out-own (out .now)) ∷ ‵ texts-own ∷ ‵ references-own ∷ ‵ comments-own ∷ ‵ (SharedCells Feature-is.the-row (named 4) l₁₂ n (front n rows) k-array) ∷ ‵ qualifiers-own ∷ ‵
         locations-own ∷ ‵ letters-own ∷ [])) (write-contract 𝓤 H A mem run .pre (to-write full-array k-array))
     goes-write full-array k-array = qed W (‵ (flft κ₀ q₀) ∷ ‵ (flft κ₁ q₁) ∷ ‵ (flft κ₂ q₂) ∷ ‵ (flft κ₃ q₃) ∷ ‵ (flft (k-array .life ∷ []) fullShare) ∷ ‵ (flft κ₄ q₄) ∷ ‵ (flft κ₅ q₅) ∷ ‵ (flft κ₆ q₆) ∷ ‵ (out-own (out .now)) ∷ ‵ texts-own ∷ ‵ references-own ∷ ‵ comments-own ∷ ‵
@@ -220,15 +220,15 @@ module _ {M : Type 1} (𝓤 : URA M) (H : Heap 𝓤) (A : Atoms 𝓤) (W : Given
         group ! 9 $
         done !
 
-    lends-write : {K : Type 0} {Γ : List (Item 𝓤)} {G : Goal 𝓤 H} → K → Soaks G → ((full-array : length rows ≡ 32) (k-array : Loan) → Seq K W (raw (write-contract 𝓤 H A mem run .pre (to-write full-array k-array)) ∷ ‵ (MineShr Feature-is.the-row l₁₂ (front n rows) k-array) ∷ ‵ (Rest Feature-is.the-row n rows l₁₂) ∷ Γ) G) → Seq K W
-        (‵ (fat fullShare (tyArray Feature-has.mir 32) l₁₂ 0 (many-val rows)) ∷ ‵ (flft κ₀ q₀) ∷ ‵ (flft κ₁ q₁) ∷ ‵ (flft κ₂ q₂) ∷ ‵ (flft κ₃ q₃) ∷ ‵ (flft κ₄ q₄) ∷ ‵ (flft κ₅ q₅) ∷ ‵ (flft κ₆ q₆) ∷ ‵ (out-own (out .now)) ∷ ‵ texts-own ∷ ‵ references-own ∷ ‵ comments-own ∷ ‵ qualifiers-own ∷ ‵ locations-own ∷ ‵ letters-own ∷ Γ) G
+    lends-write : {K : Type 0} {Γ : List (Item 𝓤)} {G : Goal 𝓤 H} → K → Soaks G → ((full-array : length rows ≡ 33) (k-array : Loan) → Seq K W (raw (write-contract 𝓤 H A mem run .pre (to-write full-array k-array)) ∷ ‵ (MineShr Feature-is.the-row l₁₂ (front n rows) k-array) ∷ ‵ (Rest Feature-is.the-row n rows l₁₂) ∷ Γ) G) → Seq K W
+        (‵ (fat fullShare (tyArray Feature-has.mir 33) l₁₂ 0 (many-val rows)) ∷ ‵ (flft κ₀ q₀) ∷ ‵ (flft κ₁ q₁) ∷ ‵ (flft κ₂ q₂) ∷ ‵ (flft κ₃ q₃) ∷ ‵ (flft κ₄ q₄) ∷ ‵ (flft κ₅ q₅) ∷ ‵ (flft κ₆ q₆) ∷ ‵ (out-own (out .now)) ∷ ‵ texts-own ∷ ‵ references-own ∷ ‵ comments-own ∷ ‵ qualifiers-own ∷ ‵ locations-own ∷ ‵ letters-own ∷ Γ) G
     lends-write t z next =
-        owned t (Many 32) (Is (Many 32)) (array-makes 𝓤 H A W Feature-is.the-row (LL.makes Feature-is.the-type Feature-has.the-plain 𝓤 H A) 32) rows (array-vals (LL.vals Feature-is.the-type Feature-has.the-laws) rows) rows-is $
+        owned t (Many 33) (Is (Many 33)) (array-makes 𝓤 H A W Feature-is.the-row (LL.makes Feature-is.the-type Feature-has.the-plain 𝓤 H A) 33) rows (array-vals (LL.vals Feature-is.the-type Feature-has.the-laws) rows) rows-is $
         move t (1 ∷ 0 ∷ []) $
-        use2 W (given (length rows ≡ 32) (‵ (side-by-side (in-memory Feature-is.the-row) rows l₁₂ 0))) (apart 32 𝓤 H A W l₁₂ rows (many-val rows)) $ learn t (λ full-array.
-        use1 W (‵ (side-by-side (in-memory Feature-is.the-row) (front n rows) l₁₂ 0) ⊛ ‵ (Rest Feature-is.the-row n rows l₁₂)) (cut Feature-is.the-row n 32 within-write rows full-array 𝓤 H A W l₁₂) $ split t $
+        use2 W (given (length rows ≡ 33) (‵ (side-by-side (in-memory Feature-is.the-row) rows l₁₂ 0))) (apart 33 𝓤 H A W l₁₂ rows (many-val rows)) $ learn t (λ full-array.
+        use1 W (‵ (side-by-side (in-memory Feature-is.the-row) (front n rows) l₁₂ 0) ⊛ ‵ (Rest Feature-is.the-row n rows l₁₂)) (cut Feature-is.the-row n 33 within-write rows full-array 𝓤 H A W l₁₂) $ split t $
         use1 W (later (some (λ (k-array : Loan). ‵ (flft (k-array .life ∷ []) fullShare) ⊛ ‵ (SharedCells Feature-is.the-row (named 4) l₁₂ n (front n rows) k-array) ⊛ ‵ (MineShr Feature-is.the-row l₁₂ (front n rows) k-array))))
-        (shares-cells Feature-is.the-row 𝓤 H A W (named 4) l₁₂ n (front-room Feature-is.the-row n 32 within-write rows full-array (lit< tt, lit< tt)) (front n rows) (front-long Feature-is.the-row n 32 within-write rows full-array)) $
+        (shares-cells Feature-is.the-row 𝓤 H A W (named 4) l₁₂ n (front-room Feature-is.the-row n 33 within-write rows full-array (lit< tt, lit< tt)) (front n rows) (front-long Feature-is.the-row n 33 within-write rows full-array)) $
         await t z $ pick t (λ k-array. split3 t $
         move t (4 ∷ 5 ∷ 6 ∷ 7 ∷ 0 ∷ 8 ∷ 9 ∷ 10 ∷ 11 ∷ 12 ∷ 13 ∷ 14 ∷ 1 ∷ 15 ∷ 16 ∷ 17 ∷ []) $
         group t 16 $
@@ -239,9 +239,9 @@ module _ {M : Type 1} (𝓤 : URA M) (H : Heap 𝓤) (A : Atoms 𝓤) (W : Given
     abbrev Said-write : WriteAnswer → List ℕ → Type 0
     Said-write r-write out-write = WriteAnswered how (roomsIn (texts .now) (references .now) (comments .now) (flat (front n rows)) (qualifiers .now) (locations .now) (letters .now)) head (out .now) (out-write) r-write
 
-    back-write : {K : Type 0} {Γ : List (Item 𝓤)} {d : S.Place} {rest : S.Body} {q : Ending 𝓤 H} → K → (full-array : length rows ≡ 32) (k-array : Loan) →
+    back-write : {K : Type 0} {Γ : List (Item 𝓤)} {d : S.Place} {rest : S.Body} {q : Ending 𝓤 H} → K → (full-array : length rows ≡ 33) (k-array : Loan) →
         ((r-write : WriteAnswer) (r-write-is : Is WriteAnswer-is.the-row r-write ((WriteAnswer-val r-write) ∷ [])) (out-write : List ℕ) (out-write-long : length out-write ≡ length (out .now)) (said-write : Said-write r-write out-write) → Seq K W
-        (‵ (fat fullShare (tyArray Feature-has.mir 32) l₁₂ 0 (many-val rows)) ∷ ‵ (flft κ₀ q₀) ∷ ‵ (flft κ₁ q₁) ∷ ‵ (flft κ₂ q₂) ∷ ‵ (flft κ₃ q₃) ∷ ‵ (flft κ₄ q₄) ∷ ‵ (flft κ₅ q₅) ∷ ‵ (flft κ₆ q₆) ∷ ‵ (out-last out-write) ∷ Γ) (lands C Λ E d (WriteAnswer-val r-write) rest q))
+        (‵ (fat fullShare (tyArray Feature-has.mir 33) l₁₂ 0 (many-val rows)) ∷ ‵ (flft κ₀ q₀) ∷ ‵ (flft κ₁ q₁) ∷ ‵ (flft κ₂ q₂) ∷ ‵ (flft κ₃ q₃) ∷ ‵ (flft κ₄ q₄) ∷ ‵ (flft κ₅ q₅) ∷ ‵ (flft κ₆ q₆) ∷ ‵ (out-last out-write) ∷ Γ) (lands C Λ E d (WriteAnswer-val r-write) rest q))
         → (u : Val) → Seq K W (raw (write-contract 𝓤 H A mem run .post (to-write full-array k-array) u) ∷ ‵ (MineShr Feature-is.the-row l₁₂ (front n rows) k-array) ∷ ‵ (Rest Feature-is.the-row n rows l₁₂) ∷ Γ) (lands C Λ E d u rest q)
     back-write t full-array k-array next u =
         use1 W (later (some (λ (r-write : WriteAnswer). ((‵ (flft κ₀ q₀) ⊛ ‵ (flft κ₁ q₁) ⊛ ‵ (flft κ₂ q₂) ⊛ ‵ (flft κ₃ q₃) ⊛ ‵ (flft (k-array .life ∷ []) fullShare) ⊛ ‵ (flft κ₄ q₄) ⊛ ‵ (flft κ₅ q₅) ⊛ ‵ (flft κ₆ q₆) ⊛ ‵ ftrue) ⊛ ‵ (WriteAnswer-is.the-row .own r-write (u ∷ []))) ⊛ raw
@@ -261,11 +261,11 @@ module _ {M : Type 1} (𝓤 : URA M) (H : Heap 𝓤) (A : Atoms 𝓤) (W : Given
         move t (8 ∷ []) $
         lands-at t WriteAnswer-is.the-row (EL.vals WriteAnswer-is.the-type WriteAnswer-has.the-laws) (EL.tells WriteAnswer-is.the-type WriteAnswer-has.the-laws) r-write u (λ r-write-is.
         move t (4 ∷ 9 ∷ []) $
-        use2 W (later (‵ (side-by-side (in-memory Feature-is.the-row) (front n rows) l₁₂ 0))) (shr-cells-back Feature-is.the-row 𝓤 H A W (named 4) l₁₂ n (front-room Feature-is.the-row n 32 within-write rows full-array (lit< tt, lit< tt)) k-array (front n rows)) $ await t tt $
+        use2 W (later (‵ (side-by-side (in-memory Feature-is.the-row) (front n rows) l₁₂ 0))) (shr-cells-back Feature-is.the-row 𝓤 H A W (named 4) l₁₂ n (front-room Feature-is.the-row n 33 within-write rows full-array (lit< tt, lit< tt)) k-array (front n rows)) $ await t tt $
         move t (0 ∷ 9 ∷ []) $
-        use2 W (‵ (side-by-side (in-memory Feature-is.the-row) rows l₁₂ 0)) (whole-again Feature-is.the-row n 32 within-write rows full-array 𝓤 H A W l₁₂) $
-        use1 W (‵ (fat fullShare (tyArray Feature-has.mir 32) l₁₂ 0 (many-val rows)) ⊛ ‵ ((Many 32) .own rows (array-vals (LL.vals Feature-is.the-type Feature-has.the-laws) rows))) (together 32 𝓤 H A W l₁₂ rows full-array) $
-        split t $ move t (1 ∷ []) $ peeks t (Many 32) (Is (Many 32)) (shows 𝓤 H A (Many 32)) rows (array-vals (LL.vals Feature-is.the-type Feature-has.the-laws) rows) (λ array-is. drop t $
+        use2 W (‵ (side-by-side (in-memory Feature-is.the-row) rows l₁₂ 0)) (whole-again Feature-is.the-row n 33 within-write rows full-array 𝓤 H A W l₁₂) $
+        use1 W (‵ (fat fullShare (tyArray Feature-has.mir 33) l₁₂ 0 (many-val rows)) ⊛ ‵ ((Many 33) .own rows (array-vals (LL.vals Feature-is.the-type Feature-has.the-laws) rows))) (together 33 𝓤 H A W l₁₂ rows full-array) $
+        split t $ move t (1 ∷ []) $ peeks t (Many 33) (Is (Many 33)) (shows 𝓤 H A (Many 33)) rows (array-vals (LL.vals Feature-is.the-type Feature-has.the-laws) rows) (λ array-is. drop t $
         next r-write r-write-is (ws .0) out-long said-write))))))
 
     module _ (r-write : WriteAnswer) (r-write-is : Is WriteAnswer-is.the-row r-write ((WriteAnswer-val r-write) ∷ [])) (out-write : List ℕ) (out-write-long : length out-write ≡ length (out .now)) (said-write : Said-write r-write out-write) where
@@ -290,7 +290,7 @@ module _ {M : Type 1} (𝓤 : URA M) (H : Heap 𝓤) (A : Atoms 𝓤) (W : Given
       part-3-holds = holds (WriteAnswer-val r-write) ∷ holds (v out) ∷ holds (v texts) ∷ holds (v references) ∷ holds (v comments) ∷ holds (many-val rows) ∷ holds (vint w64 n) ∷ holds (v qualifiers) ∷ holds (v locations) ∷ holds (v letters) ∷ holds (Head-val head) ∷ holds (How-val how) ∷ away ∷ holds (vptr (out .ptr .0) (out .ptr .1)) ∷ holds
           (v out) ∷ holds (vptr l₁₂ 0) ∷ holds (sliceVal (l₁₂, 0) n) ∷ []
 
-      part-3 : Sq W (‵ (fat fullShare (tyArray Feature-has.mir 32) l₁₂ 0 (many-val rows)) ∷ ‵ (flft κ₀ q₀) ∷ ‵ (flft κ₁ q₁) ∷ ‵ (flft κ₂ q₂) ∷ ‵ (flft κ₃ q₃) ∷ ‵ (flft κ₄ q₄) ∷ ‵ (flft κ₅ q₅) ∷ ‵ (flft κ₆ q₆) ∷ ‵ (out-last out-write) ∷ standing part-3-holds) (runs C Λ E body.t-7 (atRet E Post))
+      part-3 : Sq W (‵ (fat fullShare (tyArray Feature-has.mir 33) l₁₂ 0 (many-val rows)) ∷ ‵ (flft κ₀ q₀) ∷ ‵ (flft κ₁ q₁) ∷ ‵ (flft κ₂ q₂) ∷ ‵ (flft κ₃ q₃) ∷ ‵ (flft κ₄ q₄) ∷ ‵ (flft κ₅ q₅) ∷ ‵ (flft κ₆ q₆) ∷ ‵ (out-last out-write) ∷ standing part-3-holds) (runs C Λ E body.t-7 (atRet E Post))
       part-3 =
           move ! (1 ∷ 2 ∷ 3 ∷ 4 ∷ 5 ∷ 6 ∷ 7 ∷ 8 ∷ 9 ∷ 10 ∷ 11 ∷ 12 ∷ 13 ∷ 14 ∷ 15 ∷ 16 ∷ 17 ∷ 18 ∷ 19 ∷ 20 ∷ 0 ∷ []) $
           returns ! (look ! 8 refl) $ frees-all ! at-last
@@ -322,7 +322,7 @@ module _ {M : Type 1} (𝓤 : URA M) (H : Heap 𝓤) (A : Atoms 𝓤) (W : Given
 
     part-1 : Sq W (‵ (flft κ₀ q₀) ∷ ‵ (flft κ₁ q₁) ∷ ‵ (flft κ₂ q₂) ∷ ‵ (flft κ₃ q₃) ∷ ‵ (flft κ₄ q₄) ∷ ‵ (flft κ₅ q₅) ∷ ‵ (flft κ₆ q₆) ∷ ‵ (out-own (out .now)) ∷ ‵ texts-own ∷ ‵ references-own ∷ ‵ comments-own ∷ ‵ qualifiers-own ∷ ‵ locations-own ∷ ‵ letters-own ∷ standing part-1-holds) (runs C Λ E body.t-1 (atRet E Post))
     part-1 =
-        assigns ! (of-opd ! (load ! (from ! (stop !)) (look ! 19 refl))) (from ! (stop !)) (init ! 26 refl (array-lawful 𝓤 H A W Feature-is.the-row (LL.lawful Feature-is.the-type Feature-has.the-laws 𝓤 H A W) 32 .typed rows (array-vals (LL.vals Feature-is.the-type Feature-has.the-laws) rows) rows-is .0)) $
+        assigns ! (of-opd ! (load ! (from ! (stop !)) (look ! 19 refl))) (from ! (stop !)) (init ! 26 refl (array-lawful 𝓤 H A W Feature-is.the-row (LL.lawful Feature-is.the-type Feature-has.the-laws 𝓤 H A W) 33 .typed rows (array-vals (LL.vals Feature-is.the-type Feature-has.the-laws) rows) rows-is .0)) $
         assigns ! (addr ! (from ! (fld ! refl (hop ! (look-in ! 15 (sub ! 0 refl (whole !))) (stop !))))) (from ! (stop !)) (init ! 27 refl (tt, tt)) $
         assigns ! (agg ! (and-then ! (load ! (from ! (stop !)) (look ! 27 refl)) (and-then ! (load ! (from ! (fld ! refl (stop !))) (look-in ! 15 (sub ! 1 refl (whole !)))) (no-more !)))) (from ! (stop !)) (init ! 28 refl (tt, (tt, (record { fits = out-room .0 }, tt)))) $
         assigns ! (addr ! (from ! (stop !))) (from ! (stop !)) (init ! 29 refl (tt, tt)) $
@@ -332,7 +332,7 @@ module _ {M : Type 1} (𝓤 : URA M) (H : Heap 𝓤) (A : Atoms 𝓤) (W : Given
         (params′ E ((v out) ∷ (v texts) ∷ (v references) ∷ (v comments) ∷ (many-val rows) ∷ (vint w64 n) ∷ (v qualifiers) ∷ (v locations) ∷ (v letters) ∷ (Head-val head) ∷ (How-val how) ∷ []) (runs C Λ E body.t-1 (atRet E Post)))
     begins =
         params1 ! $ pass1 ! (init ! 1 refl (tt, (tt, (record { fits = out-room .0 }, tt)))) $ pass1 ! (init ! 2 refl (tt, (tt, (record { fits = texts-room .0 }, tt)))) $ pass1 ! (init ! 3 refl (tt, (tt, (record { fits = references-room .0 }, tt)))) $ pass1 ! (init ! 4 refl (tt, (tt, (record { fits = comments-room .0 }, tt)))) $ pass1 !
-        (init ! 5 refl (array-lawful 𝓤 H A W Feature-is.the-row (LL.lawful Feature-is.the-type Feature-has.the-laws 𝓤 H A W) 32 .typed rows (array-vals (LL.vals Feature-is.the-type Feature-has.the-laws) rows) rows-is .0)) $ pass1 ! (init ! 6 refl (uint-lawful 𝓤 H A W w64 .typed n ((vint w64 n) ∷ []) n-is .0)) $ pass1 !
+        (init ! 5 refl (array-lawful 𝓤 H A W Feature-is.the-row (LL.lawful Feature-is.the-type Feature-has.the-laws 𝓤 H A W) 33 .typed rows (array-vals (LL.vals Feature-is.the-type Feature-has.the-laws) rows) rows-is .0)) $ pass1 ! (init ! 6 refl (uint-lawful 𝓤 H A W w64 .typed n ((vint w64 n) ∷ []) n-is .0)) $ pass1 !
         (init ! 7 refl (tt, (tt, (record { fits = qualifiers-room .0 }, tt)))) $ pass1 ! (init ! 8 refl (tt, (tt, (record { fits = locations-room .0 }, tt)))) $ pass1 ! (init ! 9 refl (tt, (tt, (record { fits = letters-room .0 }, tt)))) $ pass1 !
         (init ! 10 refl (LL.lawful Head-is.the-type Head-has.the-laws 𝓤 H A W .typed head ((Head-val head) ∷ []) head-is .0)) $ pass1 ! (init ! 11 refl (LL.lawful How-is.the-type How-has.the-laws 𝓤 H A W .typed how ((How-val how) ∷ []) how-is .0)) $ pass0 ! $
         move ! (18 ∷ 19 ∷ []) $ opened ! part-1
@@ -356,14 +356,14 @@ module _ {M : Type 1} (𝓤 : URA M) (H : Heap 𝓤) (A : Atoms 𝓤) (W : Given
             (
               shr-slice-tells (named 3) (κs .1 .1 .1 .0) usize,
               (
-                array-tells Feature-is.the-row (LL.vals Feature-is.the-type Feature-has.the-laws) (LL.tells Feature-is.the-type Feature-has.the-laws) 32,
+                array-tells Feature-is.the-row (LL.vals Feature-is.the-type Feature-has.the-laws) (LL.tells Feature-is.the-type Feature-has.the-laws) 33,
                 (uint-tells w64, (shr-slice-tells (named 4) (κs .1 .1 .1 .1 .0) usize, (shr-slice-tells (named 5) (κs .1 .1 .1 .1 .1 .0) usize, (shr-slice-tells (named 6) (κs .1 .1 .1 .1 .1 .1 .0) u8, (LL.tells Head-is.the-type Head-has.the-laws, (LL.tells How-is.the-type How-has.the-laws, tt)))))),
               ),
             ),
           ),
         ),
       ))
-      (λ κs qs bounds a g are. needs 𝓤 ((a .1 .1 .1 .1 .1 .0) ≤ 32) _
+      (λ κs qs bounds a g are. needs 𝓤 ((a .1 .1 .1 .1 .1 .0) ≤ 33) _
       (λ required. walk 𝓤 H A W mem run (κs .0) (κs .1 .0) (κs .1 .1 .0) (κs .1 .1 .1 .0) (κs .1 .1 .1 .1 .0) (κs .1 .1 .1 .1 .1 .0) (κs .1 .1 .1 .1 .1 .1 .0) (qs .0) (qs .1 .0) (qs .1 .1 .0) (qs .1 .1 .1 .0) (qs .1 .1 .1 .1 .0) (qs .1 .1 .1 .1 .1 .0) (qs .1 .1 .1 .1 .1 .1 .0) (a .0) (a .1 .0) (a .1 .1 .0) (a .1 .1 .1 .0) (a .1 .1 .1 .1 .0)
       (a .1 .1 .1 .1 .1 .0) (a .1 .1 .1 .1 .1 .1 .0) (a .1 .1 .1 .1 .1 .1 .1 .0) (a .1 .1 .1 .1 .1 .1 .1 .1 .0) (a .1 .1 .1 .1 .1 .1 .1 .1 .1 .0) (a .1 .1 .1 .1 .1 .1 .1 .1 .1 .1 .0) (are .0 .0 .1) (are .1 .0 .0 .1) (are .1 .1 .0 .0 .1) (are .1 .1 .1 .0 .0 .1) (are .1 .1 .1 .1 .0) (are .1 .1 .1 .1 .1 .0) (are .1 .1 .1 .1 .1 .1 .0 .0 .1)
       (are .1 .1 .1 .1 .1 .1 .1 .0 .0 .1) (are .1 .1 .1 .1 .1 .1 .1 .1 .0 .0 .1) (are .1 .1 .1 .1 .1 .1 .1 .1 .1 .0) (are .1 .1 .1 .1 .1 .1 .1 .1 .1 .1 .0) required (𝓣 .C) (𝓣 .Λ) (fmOf 𝓤 H (W .laws) 𝓣) known-write))
@@ -378,7 +378,7 @@ module _ {M : Type 1} (𝓤 : URA M) (H : Heap 𝓤) (A : Atoms 𝓤) (W : Given
         (
           goes-dropped 𝓤 H A W 7 (shrSliceOf (3 ∷ []) tt (plain (λ _. usize))) yes (λ κs x f. refl),
           (
-            goes-dropped 𝓤 H A W 7 (plain (λ _. (Many 32))) yes (λ κs x f. refl),
+            goes-dropped 𝓤 H A W 7 (plain (λ _. (Many 33))) yes (λ κs x f. refl),
             (
               goes-dropped 𝓤 H A W 7 (plain (λ _. usize)) yes (λ κs x f. refl),
               (
