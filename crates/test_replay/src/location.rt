@@ -20,6 +20,9 @@ fn number_of(r: Location) -> usize {
 
 // The text is read as stored; its rows count only where it has a reading.
 fn read_as_stored(text: &[u8], gaps: bool, number: usize, rows: &[usize]) -> bool {
+    if 4096 < text.len() {
+        return false;
+    }
     let mut room = number_room();
     let none: [usize; 0] = [];
     let r = read_location::location_at(text, Laid::Piece, gaps, 0, &mut room, &none, 0);
@@ -35,9 +38,6 @@ fn read_as_stored(text: &[u8], gaps: bool, number: usize, rows: &[usize]) -> boo
 // The first n bytes are the text.
 fn part_as_stored(text: &[u8], n: usize, gaps: bool, number: usize, rows: &[usize]) -> bool {
     if text.len() < n {
-        return false;
-    }
-    if 4096 < n {
         return false;
     }
     read_as_stored(&text[0..n], gaps, number, rows)

@@ -248,32 +248,45 @@ fn write_table(
     }
 }
 
+// The same from the qualifiers on.
+fn write_rest(
+    s: &[u8],
+    at: usize,
+    texts: &[u8],
+    references: &[usize],
+    comments: &[usize],
+    features: &[usize],
+    counts: &mut [usize],
+) -> Checked {
+    let mut qualifiers = number_room();
+    let mut locations = number_room();
+    let mut letters = io::buffer();
+    let a = take_numbers(s, at, &mut qualifiers);
+    let b = take_numbers(s, a.next, &mut locations);
+    let c = take_text(s, b.next, &mut letters);
+    write_table(
+        s,
+        c.next,
+        texts,
+        references,
+        comments,
+        features,
+        &qualifiers,
+        &locations,
+        &letters,
+        counts,
+    )
+}
+
 // The writing whose fields start there.
 pub fn replay_writing(s: &[u8], at: usize, counts: &mut [usize]) -> Checked {
     let mut texts = io::buffer();
     let mut references = number_room();
     let mut comments = number_room();
     let mut features = number_room();
-    let mut qualifiers = number_room();
-    let mut locations = number_room();
-    let mut letters = io::buffer();
     let a = take_text(s, at, &mut texts);
     let b = take_numbers(s, a.next, &mut references);
     let c = take_numbers(s, b.next, &mut comments);
     let d = take_numbers(s, c.next, &mut features);
-    let e = take_numbers(s, d.next, &mut qualifiers);
-    let f = take_numbers(s, e.next, &mut locations);
-    let g = take_text(s, f.next, &mut letters);
-    write_table(
-        s,
-        g.next,
-        &texts,
-        &references,
-        &comments,
-        &features,
-        &qualifiers,
-        &locations,
-        &letters,
-        counts,
-    )
+    write_rest(s, d.next, &texts, &references, &comments, &features, counts)
 }

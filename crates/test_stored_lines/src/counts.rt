@@ -69,6 +69,13 @@ fn say_line(word: &[u8], n: usize) {
     io::write_all(1, b"\n");
 }
 
+// None at that place, if there is such a place.
+fn clear(counts: &mut [usize], i: usize) {
+    if i < counts.len() {
+        counts[i] = 0;
+    }
+}
+
 // How many cases of a source there were; the next source is counted from 0.
 pub fn say_source(title: &[u8], counts: &mut [usize]) {
     io::write_all(1, title);
@@ -77,9 +84,9 @@ pub fn say_source(title: &[u8], counts: &mut [usize]) {
         say(b" readings, ", counts[WRITINGS]);
         say(b" writings, ", counts[LOCATIONS]);
         io::write_all(1, b" locations\n");
-        counts[READINGS] = 0;
-        counts[WRITINGS] = 0;
-        counts[LOCATIONS] = 0;
+        clear(counts, READINGS);
+        clear(counts, WRITINGS);
+        clear(counts, LOCATIONS);
     }
 }
 
