@@ -22,7 +22,7 @@ int main(void) {
     size_t length = fread(input, 1, MOST, stdin), no_number[1];
     struct vilggodan_feature no_feature[1];
     struct vilggodan_reading answer =
-        vilggodan_read(input, length, 0, no_byte, 0, no_number, 0, no_number, 0, no_feature, 0, no_number, 0, no_byte, 0);
+        vilggodan_read(input, length, 0, no_byte, 0, no_number, 0, no_number, 0, no_feature, 0, no_number, 0, no_number, 0, no_byte, 0);
     if (answer.number == 6) {
         struct vilggodan_sizes n = answer.sizes;
         answer = vilggodan_read(
@@ -32,9 +32,10 @@ int main(void) {
             room(n.comments, 2 * sizeof(size_t)), 2 * n.comments,
             room(n.features, sizeof(struct vilggodan_feature)), n.features,
             room(n.qualifiers, 4 * sizeof(size_t)), 4 * n.qualifiers,
+            room(n.locations, 7 * sizeof(size_t)), 7 * n.locations,
             room(n.letters, 1), n.letters);
     }
     printf("number %zu, place %zu: references %zu, comments %zu, features %zu, letters %zu\n",
-        answer.number, answer.place, answer.head[25], answer.head[26], answer.head[27], answer.head[30]);
+        answer.number, answer.place, answer.head[25], answer.head[26], answer.head[27], answer.head[32]);
     return answer.number != 0;
 }

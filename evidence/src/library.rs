@@ -1,7 +1,7 @@
 //! The proved library, called through its boundary with rooms that have canaries around them.
 use crate::table::{Rooms, HEAD, ROWS};
 
-/// A row of features, which is six numbers in memory.
+/// A row of features, which is eight numbers in memory.
 #[repr(C)]
 struct Feature([usize; ROWS[2]]);
 
@@ -12,13 +12,13 @@ pub struct Answer {
     pub number: usize,
     pub place: usize,
     pub head: [usize; HEAD],
-    pub sizes: [usize; 6],
+    pub sizes: [usize; 7],
 }
 
 impl Answer {
     /// A number and a place, and zeros.
     pub fn new(number: usize, place: usize) -> Answer {
-        Answer { number, place, head: [0; HEAD], sizes: [0; 6] }
+        Answer { number, place, head: [0; HEAD], sizes: [0; 7] }
     }
 
     /// It is 0 with this place and the head of these rooms.
@@ -38,23 +38,24 @@ struct Written {
 extern "C" {
     fn vilggodan_read(
         s: *const u8, s_length: usize, at: usize, texts: *mut u8, texts_length: usize, references: *mut usize, references_length: usize, comments: *mut usize,
-        comments_length: usize, features: *mut Feature, features_length: usize, qualifiers: *mut usize, qualifiers_length: usize, letters: *mut u8,
-        letters_length: usize,
+        comments_length: usize, features: *mut Feature, features_length: usize, qualifiers: *mut usize, qualifiers_length: usize, locations: *mut usize,
+        locations_length: usize, letters: *mut u8, letters_length: usize,
     ) -> Answer;
     fn vilggodan_write(
         out: *mut u8, out_length: usize, texts: *const u8, texts_length: usize, references: *const usize, references_length: usize, comments: *const usize,
-        comments_length: usize, features: *const Feature, features_length: usize, qualifiers: *const usize, qualifiers_length: usize, letters: *const u8,
-        letters_length: usize, head: *const usize, head_length: usize, width: usize, keep: bool, truncate: bool, escape: bool,
+        comments_length: usize, features: *const Feature, features_length: usize, qualifiers: *const usize, qualifiers_length: usize, locations: *const usize,
+        locations_length: usize, letters: *const u8, letters_length: usize, head: *const usize, head_length: usize, width: usize, keep: bool, truncate: bool, escape: bool,
     ) -> Written;
 }
 
 /// Reads into these rooms.
-pub fn read(s: &[u8], at: usize, texts: &mut [u8], rows: [&mut [usize]; 4], letters: &mut [u8]) -> Answer {
-    let [references, comments, features, qualifiers] = rows;
+pub fn read(s: &[u8], at: usize, texts: &mut [u8], rows: [&mut [usize]; 5], letters: &mut [u8]) -> Answer {
+    let [references, comments, features, qualifiers, locations] = rows;
     unsafe {
         vilggodan_read(
             s.as_ptr(), s.len(), at, texts.as_mut_ptr(), texts.len(), references.as_mut_ptr(), references.len(), comments.as_mut_ptr(), comments.len(),
-            features.as_mut_ptr().cast(), features.len() / ROWS[2], qualifiers.as_mut_ptr(), qualifiers.len(), letters.as_mut_ptr(), letters.len(),
+            features.as_mut_ptr().cast(), features.len() / ROWS[2], qualifiers.as_mut_ptr(), qualifiers.len(), locations.as_mut_ptr(), locations.len(),
+            letters.as_mut_ptr(), letters.len(),
         )
     }
 }
@@ -70,12 +71,12 @@ pub struct How {
 
 /// Writes the table of the rooms; the number answered and the bytes written or needed.
 pub fn write(out: &mut [u8], rooms: &Rooms, how: How) -> (usize, usize) {
-    let Rooms { texts, references, comments, features, qualifiers, letters, head } = rooms;
+    let Rooms { texts, references, comments, features, qualifiers, locations, letters, head } = rooms;
     let Written { number, count } = unsafe {
         vilggodan_write(
             out.as_mut_ptr(), out.len(), texts.as_ptr(), texts.len(), references.as_ptr(), references.len(), comments.as_ptr(), comments.len(),
-            features.as_ptr().cast(), features.len() / ROWS[2], qualifiers.as_ptr(), qualifiers.len(), letters.as_ptr(), letters.len(), head.as_ptr(), head.len(), how.width,
-            how.keeping, how.truncate, how.escape,
+            features.as_ptr().cast(), features.len() / ROWS[2], qualifiers.as_ptr(), qualifiers.len(), locations.as_ptr(), locations.len(), letters.as_ptr(), letters.len(), head.as_ptr(),
+            head.len(), how.width, how.keeping, how.truncate, how.escape,
         )
     };
     (number, count)
@@ -111,13 +112,13 @@ impl<T: Copy + PartialEq> Guarded<T> {
 /// The rooms of one reading, each with canaries.
 pub struct Lent {
     texts: Guarded<u8>,
-    rows: [Guarded<usize>; 4],
+    rows: [Guarded<usize>; 5],
     letters: Guarded<u8>,
 }
 
 impl Lent {
-    /// Rooms of these lengths: texts, the four kinds of rows in numbers, letters.
-    pub fn new(lengths: [usize; 6]) -> Lent {
+    /// Rooms of these lengths: texts, the five kinds of rows in numbers, letters.
+    pub fn new(lengths: [usize; 7]) -> Lent {
         let [texts, rows @ .., letters] = lengths;
         let canary = 0xa5a5_a5a5_a5a5_a5a5;
         Lent {
@@ -133,7 +134,7 @@ impl Lent {
 
     /// The rooms hold these and nothing else was touched.
     pub fn holds(&self, rooms: &Rooms) -> bool {
-        let rows = [&rooms.references, &rooms.comments, &rooms.features, &rooms.qualifiers];
+        let rows = [&rooms.references, &rooms.comments, &rooms.features, &rooms.qualifiers, &rooms.locations];
         self.texts.holds(&rooms.texts) && self.letters.holds(&rooms.letters) && self.rows.iter().zip(rows).all(|(lent, row)| lent.holds(row))
     }
 }

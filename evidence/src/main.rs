@@ -1,6 +1,7 @@
 //! Holds the proved library against the Rust gb-io in one process, and measures both. `evidence/run` says how to call it.
 mod files;
 mod library;
+mod location;
 mod random;
 mod reading;
 mod roundtrip;

@@ -91,7 +91,7 @@ pub fn judged(slice: &[u8], at: usize, r: &mut Random) -> Result<Judged, &'stati
         Reading::Done(table, used) => done(slice, at, &Rooms::of(table, || 0), at + used, r)?,
         _ if bytes.is_empty() => refused(slice, at, &[1], at)?,
         Reading::Panicked => refused(slice, at, &[2], at)?,
-        Reading::Refused if unchanged != Reading::None => refused(slice, at, &[2, 4, 5, 7, 8, 9], at)?,
+        Reading::Refused if unchanged != Reading::None => refused(slice, at, &[2, 4, 5, 7, 8, 9, 14], at)?,
         Reading::None | Reading::Refused => refused(slice, at, &[2, 4], at)?,
     };
     let verdict = match expected {
@@ -115,15 +115,15 @@ fn same(a: &Reading, b: &Reading) -> bool {
 }
 
 /// How long the rooms must be, in bytes and numbers.
-fn lengths(rooms: &Rooms) -> [usize; 6] {
+fn lengths(rooms: &Rooms) -> [usize; 7] {
     let sizes = rooms.sizes();
-    [sizes[0], sizes[1] * ROWS[0], sizes[2] * ROWS[1], sizes[3] * ROWS[2], sizes[4] * ROWS[3], sizes[5]]
+    [sizes[0], sizes[1] * ROWS[0], sizes[2] * ROWS[1], sizes[3] * ROWS[2], sizes[4] * ROWS[3], sizes[5] * ROWS[4], sizes[6]]
 }
 
 /// The library refuses with one of the numbers and touches nothing, whatever the rooms.
 fn refused(slice: &[u8], at: usize, numbers: &[usize], place: usize) -> Result<usize, &'static str> {
     let mut first = 0;
-    for lengths in [[0; 6], [slice.len().min(1000); 6]] {
+    for lengths in [[0; 7], [slice.len().min(1000); 7]] {
         let mut rooms = Lent::new(lengths);
         let answer = rooms.read(slice, at);
         let number = answer.number;
@@ -148,10 +148,10 @@ fn refused(slice: &[u8], at: usize, numbers: &[usize], place: usize) -> Result<u
 fn done(slice: &[u8], at: usize, rooms: &Rooms, place: usize, r: &mut Random) -> Result<usize, &'static str> {
     let exact = lengths(rooms);
     let mut short = exact;
-    let needed: Vec<usize> = (0..6).filter(|&i| exact[i] > 0).collect();
+    let needed: Vec<usize> = (0..7).filter(|&i| exact[i] > 0).collect();
     let i = r.pick(&needed);
     short[i] -= 1;
-    for small in [[0; 6], short] {
+    for small in [[0; 7], short] {
         let mut room = Lent::new(small);
         let answer = room.read(slice, at);
         if answer.number != 6 {

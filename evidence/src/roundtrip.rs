@@ -51,9 +51,9 @@ pub fn round(table: &Table, how: How, r: &mut Random) -> Result<(), &'static str
     }
     let end = slice.len();
     slice.extend(after.as_bytes());
-    let [texts, references, comments, features, qualifiers, letters] = rooms.sizes();
-    let rows = [references * ROWS[0], comments * ROWS[1], features * ROWS[2], qualifiers * ROWS[3]];
-    let mut lent = Lent::new([texts, rows[0], rows[1], rows[2], rows[3], letters]);
+    let [texts, references, comments, features, qualifiers, locations, letters] = rooms.sizes();
+    let rows = [references * ROWS[0], comments * ROWS[1], features * ROWS[2], qualifiers * ROWS[3], locations * ROWS[4]];
+    let mut lent = Lent::new([texts, rows[0], rows[1], rows[2], rows[3], rows[4], letters]);
     let answer = lent.read(&slice, at);
     if answer.number != 0 {
         return Err("the reader does not read it");

@@ -1,5 +1,6 @@
 //! Numbers 11 and 13 of document 01, read once more in Rust: what gb-io cannot tell about a writing.
 use crate::library::How;
+use crate::location::{reading, Reading};
 use crate::table::{Table, Text};
 use std::str::from_utf8;
 
@@ -30,6 +31,10 @@ fn visible(text: &[u8]) -> bool {
     !text.is_empty() && within(text, 33, 126)
 }
 
+fn locates(text: &[u8], gaps: bool) -> bool {
+    matches!(reading(text, gaps), Reading::One(_))
+}
+
 /// Number 11 is not due.
 pub fn laid_out(t: &Table, how: How) -> bool {
     let name = printed_name(t, how);
@@ -41,11 +46,11 @@ pub fn laid_out(t: &Table, how: How) -> bool {
         && t.header_texts().iter().all(|text| from_utf8(text).is_ok())
         && t.date.map_or(true, date_fits)
         && t.features.iter().all(|f| {
-            visible(&f.kind) && f.kind.len() <= how.width - 7 && f.kind[0] != b'/' && visible(&f.location) && f.qualifiers.iter().all(|(key, value)| {
+            visible(&f.kind) && f.kind.len() <= how.width - 7 && f.kind[0] != b'/' && locates(&f.location, false) && f.qualifiers.iter().all(|(key, value)| {
                 visible(key) && key.len() <= how.width - 25 && !key.contains(&b'=') && value.as_ref().map_or(true, |v| value_fits(key, v))
             })
         })
-        && t.contig.as_ref().map_or(true, |c| visible(c))
+        && t.contig.as_ref().map_or(true, |c| locates(c, true))
         && t.letters.iter().all(u8::is_ascii_alphabetic)
         && (t.letters.is_empty() || t.length.map_or(true, |n| n == t.letters.len()))
 }

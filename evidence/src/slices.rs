@@ -167,7 +167,7 @@ impl Slices {
         let (a, b) = (r.from_to(1, 9), r.from_to(11, 99));
         match r.below(10) {
             0..=3 => format!("{a}..{b}"),
-            4..=7 => match r.below(14) {
+            4..=7 => match r.below(15) {
                 0 => format!("complement({a}..{b})"),
                 1 => format!("join({a}..{b},20..30)"),
                 2 => format!("<{a}..>{b}"),
@@ -178,7 +178,8 @@ impl Slices {
                     let parts: Vec<String> = (1..r.from_to(2, 40)).step_by(3).map(|i| format!("{}..{}", i, i + 5)).collect();
                     format!("join({})", parts.join(","))
                 }
-                k => ["order(1..2,complement(5..9))", "4^5", "gap(10)", "gap()", "gap(unk100)", "bond(1,5)", "one-of(3,7)"][k - 7].to_string(),
+                7 => nested(r),
+                k => ["order(1..2,complement(5..9))", "4^5", "gap(10)", "gap()", "gap(unk100)", "bond(1,5)", "one-of(3,7)"][k - 8].to_string(),
             },
             _ => match r.below(22) {
                 0 => format!("{a}.5"),
@@ -438,4 +439,18 @@ fn replace(line: &mut Vec<u8>, old: u8, new: &str, most: usize) {
         }
     }
     *line = out;
+}
+
+/// Words in one another, up to two more than may be open at once, now and then with a fault in them.
+fn nested(r: &mut Random) -> String {
+    let depth = r.pick(&[2, 3, 15, 16, 16, 17, 17, 18]);
+    let mut out = String::new();
+    for _ in 0..depth {
+        out += r.pick(&["join(", "order(", "complement("]);
+        if r.chance(4) {
+            out += r.pick(&["0", "1", "1,", "x"]);
+        }
+    }
+    out += r.pick(&["1..5", "7", "A.1:<3..>9", "4^5", "01", ""]);
+    out + &")".repeat(if r.chance(90) { depth } else { r.below(depth) })
 }

@@ -115,22 +115,22 @@ const HOW: How = How { keeping: false, width: WIDTH, truncate: false, escape: fa
 
 /// Sizes first, then rooms of these sizes, then the record.
 fn read_asked(text: &[u8]) -> Option<Rooms> {
-    let answer = library::read(text, 0, &mut [], [&mut [], &mut [], &mut [], &mut []], &mut []);
+    let answer = library::read(text, 0, &mut [], [&mut [], &mut [], &mut [], &mut [], &mut []], &mut []);
     if answer.number != 6 {
         return None;
     }
     let sizes = answer.sizes;
     let row = |i: usize| vec![0; sizes[1 + i] * ROWS[i]];
-    let mut rooms = Rooms { texts: vec![0; sizes[0]], references: row(0), comments: row(1), features: row(2), qualifiers: row(3), letters: vec![0; sizes[5]],
-        head: Vec::new() };
+    let mut rooms = Rooms { texts: vec![0; sizes[0]], references: row(0), comments: row(1), features: row(2), qualifiers: row(3), locations: row(4),
+        letters: vec![0; sizes[6]], head: Vec::new() };
     rooms.head = read_at_hand(text, &mut rooms)?;
     Some(rooms)
 }
 
 /// The head of the record that is read into these rooms.
 fn read_at_hand(text: &[u8], rooms: &mut Rooms) -> Option<Vec<usize>> {
-    let Rooms { texts, references, comments, features, qualifiers, letters, .. } = rooms;
-    let answer = library::read(text, 0, texts, [references, comments, features, qualifiers], letters);
+    let Rooms { texts, references, comments, features, qualifiers, locations, letters, .. } = rooms;
+    let answer = library::read(text, 0, texts, [references, comments, features, qualifiers, locations], letters);
     (answer.number == 0).then(|| answer.head.to_vec())
 }
 

@@ -1,4 +1,6 @@
-//! A record table, and the rooms that hold it: crates/spec_format/specs/Rooms.antt says what stands where, crates/api_head the head's 31 numbers.
+//! A record table, whose locations have the rows of their readings, and the rooms that hold it: crates/spec_format/specs/Rooms.antt says what stands where, crates/api_head the head's 33 numbers.
+
+use crate::location::{reading, rows, Reading, Row};
 
 pub type Text = Vec<u8>;
 
@@ -72,7 +74,7 @@ impl Table {
     }
 }
 
-/// What the six rooms hold, and the head.
+/// What the seven rooms hold, and the head.
 #[derive(Clone, PartialEq, Default)]
 pub struct Rooms {
     pub texts: Vec<u8>,
@@ -80,14 +82,15 @@ pub struct Rooms {
     pub comments: Vec<usize>,
     pub features: Vec<usize>,
     pub qualifiers: Vec<usize>,
+    pub locations: Vec<usize>,
     pub letters: Vec<u8>,
     pub head: Vec<usize>,
 }
 
-pub const HEAD: usize = 31;
+pub const HEAD: usize = 33;
 
-/// How many numbers a row has: references, comments, features, qualifiers.
-pub const ROWS: [usize; 4] = [14, 2, 6, 4];
+/// How many numbers a row has: references, comments, features, qualifiers, locations.
+pub const ROWS: [usize; 5] = [14, 2, 8, 4, 7];
 
 impl Rooms {
     /// The table laid out; before each text `gap()` bytes are left unused.
@@ -110,12 +113,14 @@ impl Rooms {
             rooms.features.extend(p.always(&f.kind));
             rooms.features.extend(p.always(&f.location));
             rooms.features.extend([rooms.qualifiers.len() / ROWS[3], f.qualifiers.len()]);
+            rooms.features.extend(place(&mut rooms.locations, rows(&f.location, false)));
             for (key, value) in &f.qualifiers {
                 rooms.qualifiers.extend(p.always(key));
                 rooms.qualifiers.extend(p.perhaps(value));
             }
         }
         let contig = p.perhaps(&t.contig);
+        let contig_rows = t.contig.as_ref().map_or([0, 0], |text| place(&mut rooms.locations, rows(text, true)));
         let head = &mut rooms.head;
         head.extend(name);
         head.push(t.length.map_or(0, |n| n + 1));
@@ -126,6 +131,7 @@ impl Rooms {
         head.extend(singles.concat());
         head.extend([t.references.len(), t.comments.len(), t.features.len()]);
         head.extend(contig);
+        head.extend(contig_rows);
         head.push(t.letters.len());
         rooms.texts = p.texts;
         rooms.letters = t.letters.clone();
@@ -133,15 +139,15 @@ impl Rooms {
     }
 
     /// The sizes that answer 6 gives: bytes of text, rows, letters.
-    pub fn sizes(&self) -> [usize; 6] {
-        let rows = [&self.references, &self.comments, &self.features, &self.qualifiers];
-        let counts = [0, 1, 2, 3].map(|i| rows[i].len() / ROWS[i]);
-        [self.texts.len(), counts[0], counts[1], counts[2], counts[3], self.letters.len()]
+    pub fn sizes(&self) -> [usize; 7] {
+        let rows = [&self.references, &self.comments, &self.features, &self.qualifiers, &self.locations];
+        let counts = [0, 1, 2, 3, 4].map(|i| rows[i].len() / ROWS[i]);
+        [self.texts.len(), counts[0], counts[1], counts[2], counts[3], counts[4], self.letters.len()]
     }
 }
 
 impl Rooms {
-    /// The table in the rooms; None where a text or row is outside its room, which is number 10.
+    /// The table in the rooms; None where a text or row is outside its room, or location rows are not those of their text, which is number 10.
     pub fn table(&self) -> Option<Table> {
         let h = &self.head;
         let counts = [h[25], h[26], h[27]];
@@ -167,8 +173,8 @@ impl Rooms {
             references: self.references.chunks(ROWS[0]).take(counts[0]).map(|row| self.reference(row)).collect::<Option<_>>()?,
             comments: self.comments.chunks(ROWS[1]).take(counts[1]).map(|row| self.always(row)).collect::<Option<_>>()?,
             features: self.features_in(counts[2])?,
-            contig: self.perhaps(&h[28..])?,
-            letters: self.letters.get(..h[30])?.to_vec(),
+            contig: self.contig(&h[28..32])?,
+            letters: self.letters.get(..h[32])?.to_vec(),
         })
     }
 
@@ -180,6 +186,27 @@ impl Rooms {
         match row[1].checked_sub(1) {
             None => Some(None),
             Some(length) => self.always(&[row[0], length]).map(Some),
+        }
+    }
+
+    fn contig(&self, row: &[usize]) -> Option<Option<Text>> {
+        match self.perhaps(row)? {
+            Some(text) => self.rows_are(&text, true, row[2], row[3]).then_some(Some(text)),
+            None => Some(None),
+        }
+    }
+
+    /// The `count` location rows from `first` on lie in their room, and are those of the text's reading, where it has one.
+    fn rows_are(&self, text: &[u8], gaps: bool, first: usize, count: usize) -> bool {
+        let there: Option<Vec<Row>> = match count {
+            0 => Some(Vec::new()),
+            _ => first.checked_add(count).filter(|&end| end <= self.locations.len() / ROWS[4]).map(|end| {
+                self.locations[first * ROWS[4]..end * ROWS[4]].chunks(ROWS[4]).map(|row| row.try_into().expect("seven numbers")).collect()
+            }),
+        };
+        match (there, reading(text, gaps)) {
+            (Some(there), Reading::One(rows)) => there == rows,
+            (there, _) => there.is_some(),
         }
     }
 
@@ -207,9 +234,18 @@ impl Rooms {
                 }
                 from = end;
             }
-            Some(Feature { kind: self.always(row)?, location: self.always(&row[2..])?, qualifiers })
+            let location = self.always(&row[2..])?;
+            self.rows_are(&location, false, row[6], row[7]).then_some(())?;
+            Some(Feature { kind: self.always(row)?, location, qualifiers })
         }).collect()
     }
+}
+
+/// Rows put behind those of a room: the first of them, and how many.
+fn place(room: &mut Vec<usize>, rows: Vec<Row>) -> [usize; 2] {
+    let first = room.len() / ROWS[4];
+    room.extend(rows.concat());
+    [first, rows.len()]
 }
 
 /// The store of texts as it is filled.

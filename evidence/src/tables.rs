@@ -143,7 +143,42 @@ impl Tables {
         self.text(12, 12)
     }
 
-    fn location(&mut self, used: usize) -> Text {
+    /// A location, mostly one that has a reading, of one line or several; `used` columns stand before it.
+    fn location(&mut self, used: usize, gaps: bool) -> Text {
+        if self.odd(15) {
+            return self.r.pick(&["", "a b", "é", "\x7f", "/x", "01..2", "gap(5)", "join(1,2", "1..<5", "A:1", "5.9"]).into();
+        }
+        let more = self.r.pick(&[0, 1, 2, 3, 4, 32, 92]);
+        let room = (self.width + more).saturating_sub(used + 2).max(1);
+        let leaf = |r: &mut Random| match r.below(if gaps { 8 } else { 7 }) {
+            0 => format!("{}^{}", r.from_to(1, 99), r.from_to(1, 99)),
+            1 => format!("<{}..>{}", r.from_to(1, 99), r.from_to(1, 9999)),
+            2 => format!("{}_{}.{}:{}", r.pick(&["A", "NC", "9"]), r.from_to(1, 999999), r.from_to(0, 9), r.from_to(1, 99)),
+            3 => format!("complement({})", r.from_to(1, 4294967295)),
+            7 => format!("gap({})", r.pick(&["", "100", "unk100", "a/b,c"])),
+            _ => format!("{}..{}", r.from_to(1, 99), r.from_to(100, 9999)),
+        };
+        if self.r.chance(30) {
+            return leaf(&mut self.r).into_bytes();
+        }
+        if self.r.chance(3) {
+            let depth = self.r.pick(&[15, 16, if self.gentle { 16 } else { 17 }]);
+            return format!("{}7{}", "join(".repeat(depth), ")".repeat(depth)).into_bytes();
+        }
+        let mut out = self.r.pick(&["join(", "order(", "complement(join("]).to_string();
+        let brackets = out.matches('(').count();
+        loop {
+            out += &leaf(&mut self.r);
+            if out.len() >= room {
+                break;
+            }
+            out.push(',');
+        }
+        (out + &")".repeat(brackets)).into_bytes()
+    }
+
+    /// A text that is broken after commas.
+    fn commas(&mut self, used: usize) -> Text {
         if self.odd(15) {
             return self.r.pick(&["", "a b", "é", "\x7f", "/x"]).into();
         }
@@ -194,7 +229,7 @@ impl Tables {
         }
         let bare = BARE.contains(&&key[..]);
         let value = if COMMA.contains(&&key[..]) {
-            self.location(23 + key.len())
+            self.commas(23 + key.len())
         } else if key == b"translation" && (self.gentle || self.r.chance(60)) {
             (0..self.r.from_to(0, 200)).map(|_| self.r.pick(b"MKLVAG*")).collect()
         } else if self.odd(10) {
@@ -223,7 +258,7 @@ impl Tables {
 
     fn feature(&mut self) -> Feature {
         let kind = self.kind();
-        let location = self.location(21.max(6 + kind.len()));
+        let location = self.location(21.max(6 + kind.len()), false);
         let qualifiers = (0..self.r.pick(&[0, 1, 1, 2, 3])).map(|_| self.qualifier()).collect();
         Feature { kind, location, qualifiers }
     }
@@ -305,7 +340,7 @@ impl Tables {
         t.references = (0..self.r.pick(&[0, 0, 0, 1, 2])).map(|_| self.reference()).collect();
         t.comments = (0..self.r.pick(&[0, 0, 1, 2])).map(|_| self.header_text()).collect();
         t.features = (0..self.r.pick(&[0, 1, 1, 2, 3])).map(|_| self.feature()).collect();
-        t.contig = self.maybe(20, |s| s.location(12));
+        t.contig = self.maybe(20, |s| s.location(12, true));
         t
     }
 }

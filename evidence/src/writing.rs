@@ -43,11 +43,12 @@ fn laid(table: &Table, r: &mut Random) -> Rooms {
     let mut rooms = Rooms::of(table, || if scattered { r.below(3) } else { 0 });
     if r.chance(12) {
         let store = rooms.texts.len();
-        let numbers = match r.below(5) {
+        let numbers = match r.below(6) {
             0 => &mut rooms.references,
             1 => &mut rooms.comments,
             2 => &mut rooms.features,
             3 => &mut rooms.qualifiers,
+            4 => &mut rooms.locations,
             _ => &mut rooms.head,
         };
         if !numbers.is_empty() {
@@ -67,8 +68,8 @@ fn show(rooms: Rooms, how: How, why: &str, r: &mut Random) {
             let table = table.shrunk(|t| judged(&Rooms::of(t, || 0), how, r).is_err());
             eprintln!("{start} {}: {why}", table.shown());
         }
-        None => eprintln!("{start} the head {:?}, {} bytes of texts \"{}\", rows {:?} {:?} {:?} {:?}: {why}", rooms.head, rooms.texts.len(),
-            rooms.texts.escape_ascii(), rooms.references, rooms.comments, rooms.features, rooms.qualifiers),
+        None => eprintln!("{start} the head {:?}, {} bytes of texts \"{}\", rows {:?} {:?} {:?} {:?} {:?}: {why}", rooms.head, rooms.texts.len(),
+            rooms.texts.escape_ascii(), rooms.references, rooms.comments, rooms.features, rooms.qualifiers, rooms.locations),
     }
 }
 

@@ -42,6 +42,22 @@ class Reading(Case):
     def request(self, mask):
         return rust.read_request(mask, self.at, self.data)
 
+    def seventeens(self):
+        """The slice up to each bracket from the seventeenth on, closed as if seventeen words were open there, and `//`."""
+        brackets = [i + 1 for i in range(self.at, len(self.data)) if self.data[i:i + 1] == b"("]
+        return [self.data[self.at:i] + b"1" + b")" * 17 + b"\n//\n" for i in brackets[16:]]
+
+    def requests(self):
+        masks = rust.mask(self.departures), rust.mask(self.departures + (rust.SEVENTEEN,))
+        return super().requests() + [rust.read_request(m, 0, s) for s in self.seventeens() for m in masks]
+
+    def take(self, replies):
+        """Number 14 is due if one of `seventeens` is read with seventeen words allowed and not with sixteen: up to that bracket there is no other trouble."""
+        closed = len(self.seventeens()) * 2
+        first, asked = replies[:len(replies) - closed], replies[len(replies) - closed:]
+        super().take(first)
+        self.deep = any(b.startswith("0 ") and not a.startswith("0 ") for a, b in zip(asked[::2], asked[1::2]))
+
     def show(self):
         return "read at %d of %r" % (self.at, self.data)
 
@@ -50,6 +66,8 @@ class Reading(Case):
             return [statements.refuses(self.data, self.at, 3, 0)]
         if self.at == len(self.data):
             return [statements.refuses(self.data, self.at, 1, self.at)]
+        if self.deep:
+            return [statements.refuses(self.data, self.at, 14, self.at)]
         kind, _, rest = self.departed.partition(" ")
         if kind == "0":
             place, _, table = rest.partition(" ")
@@ -87,7 +105,7 @@ class Writing(Case):
 
     def __init__(self, width, truncate, escape, table):
         self.how, self.table = (width, truncate, escape), table
-        self.size = len(tables.to_line(table))
+        self.size = len(repr(table))
 
     def request(self, mask):
         return rust.write_request(mask, *self.how, tables.to_line(self.table))
@@ -96,12 +114,16 @@ class Writing(Case):
         short = {k: v for k, v in self.table.items() if v not in (None, [])}
         return "write at width %d, truncation %s, escaping %s: %r" % (self.how + (short,))
 
-    def laid_out(self):
-        return rules.laid_out(self.table, *self.how)
+    def refusal(self):
+        """The number with which both writers refuse it; 0 if the plain one does not."""
+        if not rules.rows_fine(self.table):
+            return 10
+        return 0 if rules.laid_out(self.table, *self.how) else 11
 
     def statements(self):
-        if not self.laid_out():
-            return [statements.writes_not(*self.how, self.table)]
+        refusal = self.refusal()
+        if refusal:
+            return [statements.writes_not(*self.how, self.table, refusal)]
         if not self.departed.startswith("ok "):
             return []
         data = bytes.fromhex(self.departed[len("ok x"):])
@@ -112,8 +134,9 @@ class Writing(Case):
         return out
 
     def verdict(self):
-        if not self.laid_out():
-            return _named((5,)) + ", number 11"
+        refusal = self.refusal()
+        if refusal:
+            return _named((5,)) + ", number %d" % refusal
         if not self.departed.startswith("ok "):
             return LEFT
         return self.smallest(lambda a, b: a == b)
@@ -121,6 +144,7 @@ class Writing(Case):
     def smaller(self):
         for t in _smaller_tables(self.table):
             yield Writing(*self.how, t)
+            yield Writing(*self.how, tables.with_rows(t))
 
 
 def _smaller_texts(text):
@@ -159,6 +183,8 @@ def _smaller_qualifiers(q):
 
 def _smaller_features(f):
     yield from _smaller_rows(f, ())
+    for rows in _smaller_members(f["rows"], lambda row: ()):
+        yield dict(f, rows=rows)
     for qs in _smaller_members(f["qualifiers"], _smaller_qualifiers):
         yield dict(f, qualifiers=qs)
 
@@ -169,6 +195,8 @@ def _smaller_tables(t):
         x["letters"] = t["letters"]
         if x["source"] is None:
             x["organism"] = None
+        if x["contig"] is None:
+            x["contig_rows"] = None
         yield x
     for x in _smaller_texts(t["letters"]):
         yield dict(t, letters=x, length=None if t["length"] is None else len(x))

@@ -3,6 +3,7 @@ import random
 
 import rules
 import tables
+from location_texts import LocationTexts
 
 WORDS = ["a", "Test", "plasmid.", "gene", "of", "x-1", "says", '"keep"', "beta-lactamase", "Escherichia coli", "é", "naïve", "€5", "𝄞",
          "/pseudo", "//", "LOCUS", "1..5", "a=b", "(bases 1 to 12)", ";", "No. 7"]
@@ -25,6 +26,7 @@ class Slices:
 
     def __init__(self, seed):
         self.r = random.Random("slices %s" % seed)
+        self.places = LocationTexts(self.r)
 
     def chance(self, p):
         return self.r.random() < p
@@ -94,8 +96,10 @@ class Slices:
                 out.append(self.r.choice([b"", b"UNKNOWN  x", b"  TITLE     lost", b"PROJECT     x", b"SEGMENT 1", "é".encode(), b"BASE COUNT  5 a"]))
         return out
 
-    def location(self):
+    def location(self, contig):
         r = self.r
+        if self.chance(0.3):
+            return self.places.text(contig)
         a, b = r.randint(1, 9), r.randint(11, 99)
         plain = "%d..%d" % (a, b)
         kind = r.randrange(10)
@@ -136,7 +140,7 @@ class Slices:
         kind = r.choice(KINDS) if self.chance(0.94) else r.choice(["/x", "é", "a" * 15, "b" * 16, "c" * 20, "\x7f", "x\ty"])
         start = before + kind
         start += " " * max(1, 21 - len(start)) if self.chance(0.93) else " " * r.randint(1, 3)
-        location = self.location()
+        location = self.location(False)
         lines = [(start + location).encode()]
         if len(location) > 12 and self.chance(0.3):
             cut = location.find(",", 8) + 1 or 9
@@ -157,7 +161,7 @@ class Slices:
         if self.chance(0.08):
             out += self.field(0, "BASE COUNT")
         if self.chance(0.15):
-            location = self.location()
+            location = self.location(True)
             out.append(("CONTIG      " + location).encode())
             if self.chance(0.3):
                 out.append(b" " * 12 + r.choice([b"x", b",5..6)", b"", b" "]))
@@ -191,6 +195,40 @@ class Slices:
         if self.chance(0.4):
             text = text[:len(text) - r.randint(0, min(len(text), 6))]
         return text + (r.choice([b"\r", b"\xe9", b" ", b"/", b'"', b"    \xe9"]) if self.chance(0.15) else b"")
+
+    def broken(self, start, text):
+        """A text after `start`, over several lines at any place, now and then with a wrong indent."""
+        r = self.r
+        out, text = start, text.encode()
+        while len(text) > 1 and self.chance(0.4):
+            cut = r.randint(0, len(text))
+            indent = len(start) + (r.choice([-1, 1]) if self.chance(0.05) else 0)
+            out += text[:cut] + r.choice([b"\n", b"\n", b"\r\n"]) + b" " * indent
+            text = text[cut:]
+        return out + text + b"\n"
+
+    def located(self):
+        """A small record with locations over several lines; some have a stray CR, and some end the slice."""
+        r = self.r
+        out = b"LOCUS x\n"
+        if self.chance(0.75):
+            out += b"FEATURES Location/Qualifiers\n"
+            for _ in range(r.choice([1, 1, 2])):
+                start = b" " * r.randint(1, 3) + b"a" + b" " * r.randint(1, 3)
+                out += self.broken(start, self.places.text(False))
+                if self.chance(0.2):
+                    out += b" " * len(start) + r.choice([b"/k\n", b'/k="v"\n', b"/k=join(\n", b"/", b'/k="v'])
+        if self.chance(0.1):
+            out += r.choice([b"BASE COUNT 1\n", b"BASE COUNT", b"DEFINITION a\nDEFINITION b\n"])
+        if self.chance(0.5):
+            out += self.broken(b"CONTIG" + b" " * r.randint(1, 3), self.places.text(True))
+        out += r.choice([b"//\n", b"//\n", b"//\n", b"", b"x\n", b"x\n//\n", b"ORIGIN\na\n//\n", b"ORIGIN\n-\n//\n", b" b 1\n//\n"])
+        at = r.randint(min(len(out), 30), len(out))
+        if self.chance(0.15):
+            out = out[:at] + r.choice([b"\r", b"\r", b"\n", b"\xff", b"/", b" "]) + out[at:]
+        if self.chance(0.25):
+            out = out[:r.randint(at, len(out))] + r.choice([b"", b"", b"\r", b"\n", b"\n ", b"\r\n   "])
+        return out
 
     def damaged(self, text):
         r = self.r
@@ -231,9 +269,11 @@ class Slices:
 
     def one(self):
         kind = self.r.random()
-        if kind < 0.25:
+        if kind < 0.2:
             return self.small()
-        if kind < 0.6:
+        if kind < 0.4:
+            return self.located()
+        if kind < 0.7:
             return self.record()
         return self.damaged(self.record())
 
@@ -263,6 +303,7 @@ class Writings:
 
     def __init__(self, seed):
         self.r = random.Random("writings %s" % seed)
+        self.places = LocationTexts(self.r)
 
     def chance(self, p):
         return self.r.random() < p
@@ -336,10 +377,40 @@ class Writings:
             out += b"%d..%d," % (r.randint(1, 99), r.randint(100, 9999))
         return out[:-1] + b")" if kind == 3 else (out + b"xxxxxxxxx")[:max(1, room)]
 
-    def location(self, used):
+    def comma_broken(self, used):
         if self.odd(0.15):
             return self.r.choice([b"", b"a b", "é".encode(), b"\x7f", b"/x"])
         return self.commas(used)
+
+    def location(self, used, contig):
+        """A location that ends near a line's end, one of any form, and in an odd table one without a reading."""
+        r = self.r
+        if self.odd(0.25):
+            return self.places.text(contig).encode() if self.chance(0.8) else r.choice([b"", b"a b", b"/x", self.commas(used)])
+        if self.chance(0.4):
+            return self.places.good(contig, r.choice([0, 1, 2, 3])).encode()
+        room = max(20, self.width - used + r.choice([-2, -1, 0, 1, 2, 30, 90]))
+        if contig and self.chance(0.3):
+            return b"gap(" + bytes(r.choice(b",,x/") for _ in range(room - 5)) + b")"
+        out = b"" if self.chance(0.2) else b"join("
+        while out and len(out) < room - 12:
+            out += b"%d..%d," % (r.randint(1, 99), r.randint(100, 9999))
+        return out + b"A" * max(1, room - len(out) - len(".1:5" + ")" * bool(out))) + b".1:5" + b")" * bool(out)
+
+    def wrong_rows(self, rows):
+        """Rows that differ from these."""
+        r = self.r
+        rows = [list(row) for row in rows]
+        kind = r.randrange(4)
+        if not rows or kind == 0:
+            return rows + [[1, 0, 1, 1, 0, 0, 0]]
+        at = r.randrange(len(rows))
+        if kind == 1:
+            return rows[:at] + rows[at + 1:]
+        if kind == 2:
+            return rows[:at] + [rows[at]] + rows[at:]
+        rows[at][r.randrange(7)] += r.choice([1, 2, 18446744073709551000])
+        return rows
 
     def qualifier(self):
         r = self.r
@@ -352,7 +423,7 @@ class Writings:
         if self.chance(0.1):
             return key, None
         if key in rules.COMMA:
-            return key, self.location(23 + len(key))
+            return key, self.comma_broken(23 + len(key))
         if key == b"translation" and self.chance(0.6):
             return key, bytes(r.choice(b"MKLVAG*") for _ in range(r.randint(0, 200)))
         if self.odd(0.1):
@@ -370,7 +441,8 @@ class Writings:
 
     def feature(self):
         kind = self.kind()
-        return {"kind": kind, "location": self.location(max(21, 6 + len(kind))), "qualifiers": [self.qualifier() for _ in range(self.r.choice([0, 1, 1, 2, 3]))]}
+        f = tables.feature(kind, self.location(max(21, 6 + len(kind)), False), [self.qualifier() for _ in range(self.r.choice([0, 1, 1, 2, 3]))])
+        return dict(f, rows=self.wrong_rows(f["rows"])) if self.chance(0.04) else f
 
     def name(self, digits):
         r = self.r
@@ -427,7 +499,10 @@ class Writings:
             t["references"].append({k: self.header_text() if k in ("text", "title") else self.maybe(0.4, self.header_text) for k in tables.REFERENCE})
         t["comments"] = [self.header_text() for _ in range(r.choice([0, 0, 1, 2]))]
         t["features"] = [self.feature() for _ in range(r.choice([0, 1, 1, 2, 3]))]
-        t["contig"] = self.maybe(0.2, lambda: self.location(12))
+        t["contig"] = self.maybe(0.2, lambda: self.location(12, True))
+        t["contig_rows"] = tables.contig_rows(t["contig"])
+        if t["contig"] is not None and self.chance(0.04):
+            t["contig_rows"] = self.wrong_rows(t["contig_rows"])
         return self.width, truncate, escape, t
 
 
@@ -445,4 +520,4 @@ def slices(seed, count):
 
 
 def writings(seed, count):
-    return list(distinct(Writings(seed), count, lambda x: x[:3] + (tables.to_line(x[3]),)))
+    return list(distinct(Writings(seed), count, lambda x: x[:3] + (repr(x[3]),)))

@@ -1,5 +1,7 @@
-"""Numbers 11 and 13 of document 01, read a second time, in Python: what the Rust cannot tell about a writing."""
+"""Numbers 10, 11 and 13 of documents 01 and 02, read a second time, in Python: what the Rust cannot tell about a writing."""
 import re
+
+import locations
 
 COMMA = (b"anticodon", b"transl_except")
 BARE = COMMA + (b"citation", b"codon_start", b"compare", b"direction", b"estimated_length", b"mod_base", b"number", b"rpt_type",
@@ -42,6 +44,19 @@ def visible(text):
     return len(text) > 0 and within(text, 33, 126)
 
 
+def located(t):
+    """Each location of the table: whether it is CONTIG, its text, its rows."""
+    for f in t["features"]:
+        yield False, f["location"], f["rows"]
+    if t["contig"] is not None:
+        yield True, t["contig"], t["contig_rows"]
+
+
+def rows_fine(t):
+    """Number 10 is not due for location rows: where a text has its reading, they are that reading's."""
+    return all(locations.reading(contig, text) in (rows, locations.NONE, locations.DEEP) for contig, text, rows in located(t))
+
+
 def laid_out(t, width, truncate, escape):
     """Number 11 is not due."""
     name = printed_name(t, truncate, escape)
@@ -54,14 +69,14 @@ def laid_out(t, width, truncate, escape):
         if not (1 <= day <= 31 and 1 <= month <= 12 and 0 <= year <= 9999):
             return False
     for f in t["features"]:
-        if not visible(f["kind"]) or len(f["kind"]) > width - 7 or f["kind"].startswith(b"/") or not visible(f["location"]):
+        if not visible(f["kind"]) or len(f["kind"]) > width - 7 or f["kind"].startswith(b"/"):
             return False
         for key, value in f["qualifiers"]:
             if not visible(key) or len(key) > width - 25 or b"=" in key:
                 return False
             if value is not None and not (visible(value) if key in COMMA else utf8(value)):
                 return False
-    if t["contig"] is not None and not visible(t["contig"]):
+    if any(isinstance(locations.reading(contig, text), str) for contig, text, _ in located(t)):
         return False
     if not all(65 <= b <= 90 or 97 <= b <= 122 for b in t["letters"]):
         return False
@@ -102,7 +117,7 @@ def kept(t, width, truncate, escape):
     if any(b"\n" in (r["pubmed"] or b"") for r in t["references"]):
         return False
     for f in t["features"]:
-        if len(f["kind"]) > 15 or b"/" in f["location"]:
+        if len(f["kind"]) > 15:
             return False
         if any(v is not None and not value_kept(k, v, width) for k, v in f["qualifiers"]):
             return False

@@ -7,6 +7,7 @@ PROGRAM = pathlib.Path(__file__).resolve().parent.parent / "build" / "oracle"
 UNCHANGED = "-"
 READING = (1, 2, 3)  # the departures that a reading can be put down to
 WRITING = (4, 6)  # and a writing
+SEVENTEEN = 7  # no departure: with departure 3 on, seventeen words may be open at once
 
 
 def subsets(departures):
@@ -23,6 +24,10 @@ def mask(departures):
 
 def read_request(mask, at, data):
     return "R %s %d x%s" % (mask, at, data.hex())
+
+
+def location_request(text):
+    return "L x%s" % text.hex()
 
 
 def write_request(mask, width, truncate, escape, table):

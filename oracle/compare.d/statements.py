@@ -30,34 +30,44 @@ use mathlib.Core.Path.{_≡_, refl}
 use mathlib.Core.List.{List, [], _∷_}
 use lib.Dec.{eqb}
 use Rattle.spec_format.specs.Bytes.{bytes, May, absent, is, pick, same, among}
-use Rattle.spec_format.specs.Table.{Locus, Source, Reference, Qualifier, Feature, Table}
-use Rattle.spec_format.specs.Record.{Outcome, Read, Not, number, placeWith}
+use Rattle.spec_format.specs.Table.{Locus, Source, Reference, Qualifier, LocationRow, Feature, Contig, Table}
+use Rattle.spec_format.specs.Record.{Outcome, Read, Not}
+use Rattle.spec_format.specs.Numbers.{unreadNumber, unreadPlace}
 use Rattle.spec_format.specs.declared.Dated.the-variants as dated
-use Rattle.spec_format.specs.declared.Unread.the-variants as unread
 %s
 -- a refusal: its number and what is returned with it
 abbrev refusal : ℕ → Outcome → List ℕ
 refusal at (Read t r) = []
-refusal at (Not u) = number u ∷ placeWith u at ∷ []
+refusal at (Not u) = unreadNumber u ∷ unreadPlace u at ∷ []
 
 -- refused with one of these numbers and the place given
 abbrev refusedBy : List (List ℕ) → ℕ → Outcome → Bool
 refusedBy numbers at (Read t r) = false
-refusedBy numbers at (Not u) = pick (eqb (placeWith u at) at) (among (number u ∷ []) numbers) false
+refusedBy numbers at (Not u) = pick (eqb (unreadPlace u at) at) (among (unreadNumber u ∷ []) numbers) false
 
--- both writers' numbers and the bytes
+-- both writers' numbers and the bytes, for a table that lies in rooms, its location rows right or wrong: `plainAnswer` and `keepingAnswer` with room enough
 pub data Written : Type 0 where
   Refused : ℕ → Written
   Wrote : ℕ → List ℕ → Written
 
-abbrev writing : ℕ → Bool → Bool → Table → Written
-writing w truncate escape t =
+abbrev writtenFrom : ℕ → Bool → Bool → Table → Written
+writtenFrom w truncate escape t =
   pick (WellFormed.wellFormed w truncate escape t)
   (Wrote (pick (Keeping.keeps w truncate escape t) 0 13) (Write.written w truncate escape t)) (Refused 11)
+
+abbrev writing : ℕ → Bool → Bool → Table → Written
+writing w truncate escape t =
+  pick (Rooms.roomsFine (Rooms.layout t) (Rooms.headOf t)) (writtenFrom w truncate escape (Rooms.tableOf (Rooms.layout t) (Rooms.headOf t))) (Refused 10)
 """
 
 
 # ---- what can be stated
+
+def location(contig, text, found):
+    """The reading of a location's text: rows, or "none", or "deep"."""
+    answer = {"none": "Location.none", "deep": "Location.tooDeep"}[found] if isinstance(found, str) else "Location.one %s" % tables.antt_rows(found)
+    return "Location.reading %s %s ≡ %s" % (tables.antt_bool(contig), tables.antt_bytes(text), answer)
+
 
 def reads(data, at, table, place):
     return "Record.readAt %s %d ≡ Read %s %s" % (tables.antt_bytes(data), at, tables.antt_table(table), tables.antt_bytes(data[place:]))
@@ -80,8 +90,8 @@ def writes(width, truncate, escape, table, keeping, data):
     return "%s ≡ Wrote %d %s" % (_writing(width, truncate, escape, table), keeping, tables.antt_bytes(data))
 
 
-def writes_not(width, truncate, escape, table):
-    return "%s ≡ Refused 11" % _writing(width, truncate, escape, table)
+def writes_not(width, truncate, escape, table, number):
+    return "%s ≡ Refused %d" % (_writing(width, truncate, escape, table), number)
 
 
 # ---- the definitions
@@ -104,7 +114,7 @@ def _needed():
 
 def _unfoldable():
     """What must be unfolded for the definitions below to compute: all that can be, in their modules and those they use."""
-    wanted, texts = ["Record", "Write", "WellFormed", "Keeping"], {}
+    wanted, texts = ["Answers"], {}
     while wanted:
         module = wanted.pop()
         path = REPOSITORY / "crates" / "spec_format" / "specs" / (module + ".antt")
@@ -136,12 +146,12 @@ class Prover:
         for part in ("src", "specs"):
             (crate / part).mkdir(parents=True, exist_ok=True)
         (crate / "src" / "lib.rt").write_text(LIBRARY)
-        (crate / "specs" / "Lib.antt").write_text("pub mod Answers\n")
+        (crate / "specs" / "Lib.antt").write_text("pub mod Held\n")
         modules = sorted({n.split(".")[0] for n in self.names})
         text = [OPENING % "".join("use Rattle.spec_format.specs.%s as %s\n" % (m, m) for m in modules)]
         for i, statement in statements:
             text.append("case%d : %s\nunfolding %s\ncase%d = refl\n" % (i, statement, " ".join(self.names), i))
-        (crate / "specs" / "Answers.antt").write_text("\n".join(text))
+        (crate / "specs" / "Held.antt").write_text("\n".join(text))
 
     def _check(self, crates):
         listed = ["%s:%s" % item for item in self.needed.items()] + ["%s: spec_format" % name for name in crates]

@@ -1,7 +1,8 @@
 """A record table and its three forms: the vectors' JSON, the harness's line of tokens, and antt.
 
-A table is a dict with the names of the vectors' README. A text is `bytes`, an absent one None.
+A table is a dict with the names of the vectors' README. A text is `bytes`, an absent one None. Where a form has no location rows they are those of the texts.
 """
+import locations
 
 TEXTS = ("definition", "accession", "version", "dblink", "keywords", "source", "organism")
 REFERENCE = ("text", "authors", "consrtm", "title", "journal", "pubmed", "remark")
@@ -10,8 +11,24 @@ REFERENCE = ("text", "authors", "consrtm", "title", "journal", "pubmed", "remark
 def empty():
     t = {k: None for k in TEXTS}
     t.update(name=None, length=None, molecule=None, topology="linear", division=b"UNK", date=None,
-             references=[], comments=[], features=[], contig=None, letters=b"")
+             references=[], comments=[], features=[], contig=None, contig_rows=None, letters=b"")
     return t
+
+
+def feature(kind, location, qualifiers):
+    """A feature with the rows of its location."""
+    return {"kind": kind, "location": location, "qualifiers": qualifiers, "rows": locations.rows(False, location)}
+
+
+def contig_rows(contig):
+    """The location rows of CONTIG; None where it is absent."""
+    return None if contig is None else locations.rows(True, contig)
+
+
+def with_rows(t):
+    """The table with the rows of its locations."""
+    features = [feature(f["kind"], f["location"], f["qualifiers"]) for f in t["features"]]
+    return dict(t, features=features, contig_rows=contig_rows(t["contig"]))
 
 
 # ---- the vectors' JSON
@@ -29,8 +46,11 @@ def from_json(j):
     t["date"] = tuple(j["date"]) if j["date"] is not None else None
     t["references"] = [{k: _text(r[k]) for k in REFERENCE} for r in j["references"]]
     t["comments"] = [_text(c) for c in j["comments"]]
-    t["features"] = [{"kind": _text(f["kind"]), "location": _text(f["location"]),
-                      "qualifiers": [(_text(k), _text(v)) for k, v in f["qualifiers"]]} for f in j["features"]]
+    t["features"] = []
+    for f in j["features"]:
+        found = feature(_text(f["kind"]), _text(f["location"]), [(_text(k), _text(v)) for k, v in f["qualifiers"]])
+        t["features"].append(dict(found, rows=f.get("rows", found["rows"])))
+    t["contig_rows"] = j.get("contig_rows", contig_rows(t["contig"]))
     return t
 
 
@@ -81,8 +101,9 @@ def from_line(line):
         t[k] = text()
     t["references"] = [{k: text() for k in REFERENCE} for _ in some()]
     t["comments"] = [text() for _ in some()]
-    t["features"] = [{"kind": text(), "location": text(), "qualifiers": [(text(), text()) for _ in some()]} for _ in some()]
+    t["features"] = [feature(text(), text(), [(text(), text()) for _ in some()]) for _ in some()]
     t["contig"] = text()
+    t["contig_rows"] = contig_rows(t["contig"])
     t["letters"] = text()
     return t
 
@@ -115,6 +136,13 @@ def _fields(pairs):
     return "(record { " + "; ".join("%s = %s" % p for p in pairs) + " })"
 
 
+ROW = ("form", "marks", "from", "to", "start", "length", "inside")
+
+
+def antt_rows(rows):
+    return _list(_fields(zip(ROW, row)) for row in rows)
+
+
 def antt_table(t):
     date = "dated.Absent" if t["date"] is None else "(dated.On %s)" % _fields(zip(("day", "month", "year"), t["date"]))
     locus = _fields([("name", _may(t["name"])), ("length", "absent" if t["length"] is None else "(is %d)" % t["length"]),
@@ -126,7 +154,8 @@ def antt_table(t):
                        for r in t["references"])
     features = _list(_fields([("kind", antt_bytes(f["kind"])), ("location", antt_bytes(f["location"])),
                               ("qualifiers", _list(_fields([("key", antt_bytes(k)), ("value", _may(v))])
-                                                   for k, v in f["qualifiers"]))]) for f in t["features"])
+                                                   for k, v in f["qualifiers"])), ("rows", antt_rows(f["rows"]))]) for f in t["features"])
+    contig = "absent" if t["contig"] is None else "(is %s)" % _fields([("text", antt_bytes(t["contig"])), ("rows", antt_rows(t["contig_rows"]))])
     return _fields([("locus", locus)] + [(k, _may(t[k])) for k in TEXTS[:5]] +
                    [("source", source), ("references", references), ("comments", _list(map(antt_bytes, t["comments"]))),
-                    ("features", features), ("contig", _may(t["contig"])), ("letters", antt_bytes(t["letters"]))])
+                    ("features", features), ("contig", contig), ("letters", antt_bytes(t["letters"]))])

@@ -32,15 +32,78 @@ pub fn more_bare_keys(key: &str) -> bool {
     on(6) && more.contains(&key)
 }
 
-/// Departure 3: the text itself stands for the location, if it is not empty and all bytes are 33 to 126.
+/// Departure 3: a feature's location is taken if document 02 reads it (ticket 1); the text itself stands for it.
 pub fn location(text: &[u8]) -> IResult<&[u8], Location> {
+    taken(text, false)
+}
+
+/// The same for CONTIG, where gap( ) is a location too.
+pub fn contig_location(text: &[u8]) -> IResult<&[u8], Location> {
+    taken(text, true)
+}
+
+fn taken(text: &[u8], contig: bool) -> IResult<&[u8], Location> {
     if !on(3) {
         return super::location::location(text);
     }
-    match visible(text) {
-        Some(kept) => Ok((&[], Location::External(kept, None))),
-        None => Err(nom::Err::Error(Error::new(text, ErrorKind::MapRes))),
+    let words = if on(7) { 17 } else { 16 }; // 7 is no departure: it tells a seventeenth word from a fault
+    match after_location(text, contig, words) {
+        Some([]) => Ok((&[], Location::External(text.iter().map(|&b| b as char).collect(), None))),
+        _ => Err(nom::Err::Error(Error::new(text, ErrorKind::MapRes))),
     }
+}
+
+/// What follows the location that `s` begins with; `words` more may open.
+fn after_location(s: &[u8], contig: bool, words: usize) -> Option<&[u8]> {
+    for (word, several) in [("complement(", false), ("join(", true), ("order(", true)] {
+        if let Some(mut s) = s.strip_prefix(word.as_bytes()) {
+            let words = words.checked_sub(1)?;
+            loop {
+                s = after_location(s, contig, words)?;
+                match s.strip_prefix(b",") {
+                    Some(next) if several => s = next,
+                    _ => return s.strip_prefix(b")"),
+                }
+            }
+        }
+    }
+    match s.strip_prefix(b"gap(") {
+        Some(gap) if contig => some(gap, |b| (33..=126).contains(&b) && !b"()".contains(&b)).unwrap_or(gap).strip_prefix(b")"),
+        _ => after_bases(after_accession(s).unwrap_or(s)),
+    }
+}
+
+/// What follows one or more bytes that pass.
+fn some(s: &[u8], passes: impl Fn(u8) -> bool) -> Option<&[u8]> {
+    let n = s.iter().take_while(|&&b| passes(b)).count();
+    (n > 0).then(|| &s[n..])
+}
+
+fn after_accession(s: &[u8]) -> Option<&[u8]> {
+    let version = some(s, |b| b.is_ascii_alphanumeric() || b == b'_')?.strip_prefix(b".")?;
+    some(version, |b| b.is_ascii_digit())?.strip_prefix(b":")
+}
+
+fn after_bases(s: &[u8]) -> Option<&[u8]> {
+    if let Some(s) = s.strip_prefix(b"<") {
+        return after_last(after_base(s)?.strip_prefix(b"..")?);
+    }
+    let s = after_base(s)?;
+    match (s.strip_prefix(b".."), s.strip_prefix(b"^")) {
+        (Some(last), _) => after_last(last),
+        (_, Some(next)) => after_base(next),
+        _ => Some(s),
+    }
+}
+
+fn after_last(s: &[u8]) -> Option<&[u8]> {
+    after_base(s.strip_prefix(b">").unwrap_or(s))
+}
+
+fn after_base(s: &[u8]) -> Option<&[u8]> {
+    let rest = some(s, |b| b.is_ascii_digit())?;
+    let digits = std::str::from_utf8(&s[..s.len() - rest.len()]).ok()?;
+    number(digits, 1..=10, 4_294_967_295).filter(|_| !digits.starts_with('0')).map(|_| rest)
 }
 
 /// Departure 3: what a feature's kind may be.

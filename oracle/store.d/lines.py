@@ -7,7 +7,7 @@ import rules
 import rust
 import tables
 
-TEXT, NUMBERS = 4096, 256  # the rooms of `replay`
+TEXT, NUMBERS = 4096, 264  # the rooms of `replay`
 LARGEST = 18446744073709551615
 
 REFUSED = (2, 4, 5, 7, 8, 9)  # what the Rust's error may be here: it does not tell them apart
@@ -26,10 +26,11 @@ def text(value):
 
 
 def in_rooms(r):
+    """What lies in the rooms, in their order: texts, references, comments, features, qualifiers, location rows, letters."""
     return text(r.texts) + "".join(map(numbers, r.rows())) + text(r.letters)
 
 
-NOTHING = text(b"") + 4 * numbers([]) + text(b"")
+NOTHING = in_rooms(rooms.Rooms(None))
 
 
 class Reading:
@@ -82,12 +83,14 @@ def departures(case):
 
 
 def rust_reading(case):
-    """What the Rust, with the departures on, makes of a slice. Its refusals have no number."""
+    """What the Rust, with the departures on, makes of a slice. Its refusals have no number; 14 is found by closing the slice (compare.d/cases.py)."""
     at, by = case.at, departures(case)
     if at > len(case.data):
         return Reading(case.data, at, [3], [0], departures=by)
     if at == len(case.data):
         return Reading(case.data, at, [1], [at], departures=by)
+    if case.deep:
+        return Reading(case.data, at, [14], [at], departures=by)
     kind, _, rest = case.departed.partition(" ")
     if kind == "0":
         place, _, table = rest.partition(" ")
@@ -98,10 +101,10 @@ def rust_reading(case):
 
 
 def rust_writing(case):
-    """What it writes. Number 11 and the keeping writer's number are a second reading of document 01 in Python, compare.d/rules.py."""
-    table, by = rooms.Rooms(case.table), departures(case)
-    if not case.laid_out():
-        return Writing(table, case.how, 11, 11, b"", by)
+    """What it writes. Numbers 10 and 11 and the keeping writer's number are a second reading of documents 01 and 02 in Python, compare.d/rules.py."""
+    table, by, refusal = rooms.Rooms(case.table), departures(case), case.refusal()
+    if refusal:
+        return Writing(table, case.how, refusal, refusal, b"", by)
     return Writing(table, case.how, 0, 0 if rules.kept(case.table, *case.how) else 13, bytes.fromhex(case.departed[len("ok x"):]), by)
 
 
@@ -114,5 +117,5 @@ def short_rooms(readings):
         exact = found.lengths()
         shorts = [exact[:i] + [n - 1] + exact[i + 1:] for i, n in enumerate(exact) if n]
         yield Reading(r.data, r.at, [0], r.told, r.table, r.departures, exact)
-        for lent in [[0] * 6] + shorts:
+        for lent in [[0] * len(exact)] + shorts:
             yield Reading(r.data, r.at, [6], [r.at] + found.sizes(), departures=[5], lent=lent)

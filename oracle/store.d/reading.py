@@ -9,7 +9,7 @@ import sys
 import cases
 import lines
 
-ROOMS = [4096, 3 * 14, 3 * 2, 4 * 6, 8 * 4, 4096]  # enough for every case
+ROOMS = [4096, 3 * 14, 3 * 2, 4 * 8, 8 * 4, 24 * 7, 4096]  # enough for every case
 
 
 def case(title, data, last, at=None):
@@ -31,6 +31,7 @@ TWO = b"DEFINITION  a\nDEFINITION  b\n"
 TABLE = b"FEATURES             Location/Qualifiers\n"
 FEATURE = b"     misc_feature    1..3\n"
 QUALIFIER = b" " * 21
+LOCATED = b"FEATURES Location/Qualifiers\n"
 END = b"//\n"
 
 CASES = [
@@ -103,12 +104,42 @@ CASES = [
     case("a bare reading after a quoted one", A + TABLE + FEATURE + QUALIFIER + b'/note="abc"x\n' + END, 1),
     case("no value, an empty value, an empty text", A + TABLE + FEATURE + QUALIFIER + b"/a\n" + QUALIFIER + b"/b=\n" + QUALIFIER + b'/c=""\n' + END, 1),
     case("a location over lines", A + TABLE + b"     CDS             join(1..2,\n" + QUALIFIER + b"3..3)\n" + END, 1),
-    case("slashes inside a location", A + TABLE + b"     CDS             1..2//3\n" + END, 1),
+    case("slashes inside a location", A + TABLE + b"     CDS             1..2//3\n" + END, 7),
     case("a space in a location", A + TABLE + b"     CDS             1 ..2\n" + END, 7),
     case("two features", A + TABLE + FEATURE + QUALIFIER + b"/x=1\n" + QUALIFIER + b"/y=2\n" + b"     CDS             2..3\n" + QUALIFIER + b"/z=3\n" + END, 1),
     case("a value that is not UTF-8", A + TABLE + FEATURE + QUALIFIER + b'/note="\xff"\n' + END, 7),
     case("BASE COUNT and CONTIG", A + TABLE + FEATURE + b"BASE COUNT  1 a\nCONTIG      join(A.1:1..2,\n            B.1:1..2)\n" + END, 1),
     case("CONTIG with a space", A + b"CONTIG      a b\n" + END, 7),
+    # Locations.
+    case("a base, a range with marks, a place between", A + LOCATED + b" a 1\n a <2..>4294967295\n a 5^9\n" + END, 1),
+    case("words in words, an accession", A + LOCATED + b" a join(1..3,complement(order(5,A.1:<7..8)))\n" + END, 1),
+    case("a word over lines, with CR LF", A + LOCATED + b" a com\r\n   plement(1\n   2)\n" + END, 1),
+    case("an accession of digits", A + LOCATED + b" a 9.1:5\n" + END, 1),
+    case("no reading", A + LOCATED + b" a 1\n a x\n" + END, 7),
+    case("a leading zero", A + LOCATED + b" a 01..2\n" + END, 7),
+    case("a number too large", A + LOCATED + b" a 4294967296\n" + END, 7),
+    case("something after it", A + LOCATED + b" a 1..x\n" + END, 7),
+    case("two members in a complement", A + LOCATED + b" a complement(1,2)\n" + END, 7),
+    case("a gap in a feature", A + LOCATED + b" a gap(5)\n" + END, 7),
+    case("gaps in CONTIG", A + b"CONTIG      join(A.1:1..5,gap(),gap(unk100),gap(x,/))\n" + END, 1),
+    case("a gap in a gap", A + b"CONTIG      gap(gap(5))\n" + END, 7),
+    case("the largest 64-bit number, negative", A + LOCATED + b" a -9223372036854775808\n" + END, 7),
+    case("sixteen words", A + LOCATED + b" a " + b"join(" * 16 + b"1" + b")" * 16 + b"\n" + END, 1),
+    case("seventeen", A + LOCATED + b" a " + b"join(" * 17 + b"1" + b")" * 17 + b"\n" + END, 14),
+    case("seventeen in CONTIG", A + b"CONTIG " + b"order(" * 17 + b"1" + b")" * 17 + b"\n" + END, 14),
+    case("seventeen, and the slice ends with its bracket", A + LOCATED + b" a " + b"join(" * 17, 14),
+    case("seventeen, and the slice ends ahead of its bracket", A + LOCATED + b" a " + b"join(" * 16 + b"join", 2),
+    case("seventeen, and the slice ends in the indent", A + LOCATED + b" a " + b"join(" * 17 + b"\n  ", 14),
+    case("sixteen, and the slice ends in the indent", A + LOCATED + b" a " + b"join(" * 16 + b"\n  ", 2),
+    case("seventeen, and then a stray CR", A + LOCATED + b" a " + b"join(" * 17 + b"\rx\n" + END, 14),
+    case("a stray CR ahead of the seventeenth", A + LOCATED + b" a " + b"join(" * 16 + b"\rjoin(\n" + END, 7),
+    case("seventeen, and then no UTF-8", A + LOCATED + b" a " + b"join(" * 17 + b"\xff\n" + END, 14),
+    case("a fault ahead of the seventeenth", A + LOCATED + b" a join(0," + b"join(" * 16 + b"1\n" + END, 7),
+    case("a bad feature ahead of it", A + LOCATED + b" a x\n a " + b"join(" * 17 + b"\n" + END, 7),
+    case("the seventeenth on a further line of CONTIG, ahead of a stray CR", A + b"CONTIG " + b"join(" * 16 + b"\n       join(\r\n" + END, 14),
+    case("the seventeenth after a gap whose further line begins with a slash", A + b"CONTIG join(gap(\n       /)," + b"join(" * 16 + b"\n" + END, 14),
+    case("seventeen, and two DEFINITIONs", A + TWO + LOCATED + b" a " + b"join(" * 17 + b"\n" + END, 5),
+    case("seventeen, and then bad letters", A + LOCATED + b" a " + b"complement(" * 17 + b"1\nORIGIN\n-\n" + END, 14),
     # The letters.
     case("three letters", A + b"ORIGIN      \n        1 acg\n" + END, 1),
     case("two letters", A + b"ORIGIN      \n        1 ac\n" + END, 8),

@@ -1,7 +1,7 @@
 """Tables at the edges of lines, columns and rules, by hand, and two that are read back: document 01's run examples.
 
 A case: what it shows, a table, a width, and what else is not as usual. The bytes come from the Rust with departures 4 and 6 on; 11 and 13 are after compare.d/rules.py,
-6, 10 and 12 after document 01. To add a case, add a line and run oracle/store --cases.
+6, 10 and 12 after documents 01 and 02. To add a case, add a line and run oracle/store --cases.
 """
 import cases
 import lines
@@ -41,7 +41,7 @@ def case(title, table, width=80, truncate=False, escape=False, number=None, slic
 
 
 def feature(kind, location, key, value):
-    return dict(P318, features=[{"kind": kind, "location": location, "qualifiers": [(key, value)]}])
+    return dict(P318, features=[tables.feature(kind, location, [(key, value)])])
 
 
 def value(key, text):
@@ -75,8 +75,33 @@ def keys():
 
 def locations():
     for width in (60, 80):
-        for name, location in (("with commas", COMMAS), ("without", TENS), ("that is empty", b"")):
+        for name, location in (("with commas", COMMAS), ("without", TENS + b".1:1"), ("that is empty", b""), ("without a reading", TENS),
+                               ("of sixteen words", b"join(" * 16 + b"1" + b")" * 16), ("of seventeen", b"join(" * 17 + b"1" + b")" * 17)):
             yield case("a location %s, at width %d" % (name, width), feature(b"CDS", location, b"note", b"a"), width)
+    gaps = b"join(A.1:1..5," + b"gap(,/,)," * 9 + b"gap())"
+    yield case("a CONTIG with gaps", dict(P318, contig=gaps, contig_rows=tables.contig_rows(gaps)), 60)
+
+
+def rows():
+    """Location rows that are not those of the text, of a text that has none, and rows elsewhere in their room."""
+    def change(*places):
+        def changed(r):
+            for room, at, value in places:
+                getattr(r, room)[at] = value
+        return changed
+
+    two = dict(P318, features=[tables.feature(b"gene", b"join(1,2)", []), tables.feature(b"gene", b"1", [])])
+    yield case("the second feature's row in the rows of the first", two, change=change(("features", 14, 0)))
+    yield case("another base", two, change=change(("features", 14, 1)), number=10)
+    yield case("no rows", two, change=change(("features", 15, 0)), number=10)
+    yield case("rows past the room", two, change=change(("features", 14, 4)), number=10)
+    yield case("the largest first row", two, change=change(("features", 14, lines.LARGEST)), number=10)
+    yield case("a number of a row", two, change=change(("locations", 2, 3)), number=10)
+    unread = dict(P318, features=[tables.feature(b"gene", b"x", []), tables.feature(b"gene", b"1", [])])
+    yield case("no reading and no rows, whose first is not read", unread, change=change(("features", 6, lines.LARGEST)))
+    yield case("no reading and any row", unread, change=change(("features", 7, 1)))
+    yield case("no reading and rows past the room", unread, change=change(("features", 7, 2)), number=10)
+    yield case("no reading, and another feature's rows wrong", unread, change=change(("features", 15, 0)), number=10)
 
 
 def values():
@@ -140,7 +165,7 @@ def read_back(written, last):
     """The reading of what was written, into one row of each."""
     reading = lines.rust_reading(lines.ask([cases.Reading(written.data, 0)])[0])
     assert last in reading.permitted, written.title
-    reading.permitted, reading.title, reading.lent = [last], written.title + ", read back", [lines.TEXT, 14, 2, 6, 4, 16]
+    reading.permitted, reading.title, reading.lent = [last], written.title + ", read back", [lines.TEXT, 14, 2, 8, 4, 7, 16]
     return reading
 
 
@@ -156,4 +181,4 @@ def run_examples():
 
 
 def writings():
-    return [w for part in (edges, kinds, keys, locations, values, definitions, sequences, names, slices, spans, run_examples) for w in part()]
+    return [w for part in (edges, kinds, keys, locations, rows, values, definitions, sequences, names, slices, spans, run_examples) for w in part()]

@@ -93,7 +93,7 @@ def ghost_names(text, crate):
 
 def short_names():
     """the short names of rooms that contracts use: name -> (parameters, body), and the names that the bodies use, as ghost_names has them"""
-    text = open('crates/spec_contracts/specs/Lent.antt', encoding='utf8').read()
+    text = re.sub(r'\n +', ' ', open('crates/spec_contracts/specs/Lent.antt', encoding='utf8').read())  # a body may go on in the next line
     short = {name: (params.split(), body) for name, params, body in re.findall(r'^(\w+) ((?:\w+ )+)=\s+(roomsIn .*)$', text, re.M)}
     return short, {n.strip(): (path, n.strip()) for path, names in re.findall(r'^use (\S+?)\.\{(.*)\}$', text, re.M) for n in names.split(',')}
 

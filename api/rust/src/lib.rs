@@ -14,14 +14,17 @@
 //! }
 //! ```
 
+mod location;
 mod raw;
+
+pub use location::{Location, Stretch};
 
 use std::fmt;
 
 /// Why a record was not read or not written.
 #[derive(Clone, Copy, Debug, PartialEq, Eq)]
 pub struct Error {
-    /// The number of the answer, 1 to 13.
+    /// The number of the answer, 1 to 14.
     pub number: usize,
     /// The same in words.
     pub reason: &'static str,
@@ -39,10 +42,11 @@ impl Error {
             7 => "a line that is no feature, qualifier, section or //",
             8 => "the letters are not as many as LOCUS says",
             9 => "a byte that cannot stand among the letters",
-            10 => "a text or row of the table lies outside its room",
+            10 => "a text or row of the table lies outside its room, or location rows are not those of their text",
             11 => "a text, date or sequence that cannot be laid out",
             12 => "the width is not 60 to 132",
-            _ => "a keeping rule is broken: it may not read back the same",
+            13 => "a keeping rule is broken: it may not read back the same",
+            _ => "a location opens more than 16 words of complement, join and order",
         };
         Error { number, reason }
     }
@@ -105,12 +109,19 @@ pub struct Feature<'a> {
     record: &'a Record,
     first: usize,
     count: usize,
+    row: usize,
+    rows: usize,
 }
 
 impl<'a> Feature<'a> {
     pub fn qualifiers(&self) -> impl Iterator<Item = Qualifier<'a>> {
         let record = self.record;
         (self.first..self.first + self.count).map(move |i| record.qualifier(4 * i))
+    }
+
+    /// The location as a tree.
+    pub fn tree(&self) -> Location<'a> {
+        self.record.location(self.location, self.row, self.rows)
     }
 }
 
@@ -129,6 +140,7 @@ pub struct Record {
     comments: Vec<usize>,
     features: Vec<raw::Feature>,
     qualifiers: Vec<usize>,
+    locations: Vec<usize>,
     letters: Vec<u8>,
     head: [usize; raw::HEAD],
 }
@@ -148,6 +160,7 @@ impl Record {
             comments: Vec::new(),
             features: Vec::new(),
             qualifiers: Vec::new(),
+            locations: Vec::new(),
             letters: Vec::new(),
             head: [0; raw::HEAD],
         }
@@ -173,6 +186,8 @@ impl Record {
                     self.features.len(),
                     self.qualifiers.as_mut_ptr(),
                     self.qualifiers.len(),
+                    self.locations.as_mut_ptr(),
+                    self.locations.len(),
                     self.letters.as_mut_ptr(),
                     self.letters.len(),
                 )
@@ -195,6 +210,7 @@ impl Record {
         grow(&mut self.comments, 2 * sizes.comments);
         grow(&mut self.features, sizes.features);
         grow(&mut self.qualifiers, 4 * sizes.qualifiers);
+        grow(&mut self.locations, 7 * sizes.locations);
         grow(&mut self.letters, sizes.letters);
     }
 
@@ -227,6 +243,8 @@ impl Record {
                     self.features.len(),
                     self.qualifiers.as_ptr(),
                     self.qualifiers.len(),
+                    self.locations.as_ptr(),
+                    self.locations.len(),
                     self.letters.as_ptr(),
                     self.letters.len(),
                     self.head.as_ptr(),
@@ -350,6 +368,8 @@ impl Record {
                 record: self,
                 first: row.first,
                 count: row.count,
+                row: row.row,
+                rows: row.rows,
             })
     }
 
@@ -361,9 +381,19 @@ impl Record {
         }
     }
 
+    /// CONTIG as a tree.
+    pub fn contig(&self) -> Option<Location<'_>> {
+        let text = self.may_text_in(&self.head, 28)?;
+        Some(self.location(text, self.head[30], self.head[31]))
+    }
+
+    fn location<'a>(&'a self, text: &'a [u8], row: usize, rows: usize) -> Location<'a> {
+        Location::of(text, &self.locations[7 * row..7 * (row + rows)])
+    }
+
     /// The letters of the sequence.
     pub fn letters(&self) -> &[u8] {
-        &self.letters[..self.head[30]]
+        &self.letters[..self.head[32]]
     }
 }
 

@@ -17,6 +17,9 @@ pub struct Feature {
     /// The first qualifier's row, and how many there are.
     pub first: usize,
     pub count: usize,
+    /// The first of the location's rows, and how many there are.
+    pub row: usize,
+    pub rows: usize,
 }
 
 /// What a record takes.
@@ -28,11 +31,12 @@ pub struct Sizes {
     pub comments: usize,
     pub features: usize,
     pub qualifiers: usize,
+    pub locations: usize,
     pub letters: usize,
 }
 
 /// How many numbers a head has.
-pub const HEAD: usize = 31;
+pub const HEAD: usize = 33;
 
 /// What reading answers.
 #[repr(C)]
@@ -70,6 +74,8 @@ extern "C" {
         features_length: usize,
         qualifiers: *mut usize,
         qualifiers_length: usize,
+        locations: *mut usize,
+        locations_length: usize,
         letters: *mut u8,
         letters_length: usize,
     ) -> Reading;
@@ -87,6 +93,8 @@ extern "C" {
         features_length: usize,
         qualifiers: *const usize,
         qualifiers_length: usize,
+        locations: *const usize,
+        locations_length: usize,
         letters: *const u8,
         letters_length: usize,
         head: *const usize,

@@ -1,5 +1,5 @@
 //! The safe wrapper on the examples of document 01 and at the edges of its answers.
-use vilggodan::{records, Layout, Record};
+use vilggodan::{records, Layout, Location, Record};
 
 const P318: &[u8] = b"LOCUS       P318                      12 bp    DNA     circular SYN 01-MAR-2024
 DEFINITION  Test plasmid.
@@ -90,4 +90,41 @@ fn kept_and_too_long_to_read() {
     let text = first(&file).keep(Layout::default()).unwrap();
     assert!(text.len() > 16_777_216);
     assert_eq!(Record::new().read(&text, 0).unwrap_err().number, 3);
+}
+
+/// P318 with another location.
+fn located(location: &str) -> Vec<u8> {
+    String::from_utf8(P318.to_vec()).unwrap().replace("1..12", location).into_bytes()
+}
+
+#[test]
+fn locations_are_trees() {
+    let file = located("join(1..3,complement(order(5,A.1:<7..8)))");
+    let record = first(&file);
+    let tree = record.features().next().unwrap().tree();
+    let range = |of, from, to, before| Location::Range { of, from, to, before, after: false };
+    let order = Location::Order(vec![Location::Base { of: None, base: 5 }, range(Some(&b"A.1"[..]), 7, 8, true)]);
+    assert_eq!(tree, Location::Join(vec![range(None, 1, 3, false), Location::Complement(Box::new(order))]));
+    let listed: Vec<_> = tree.stretches().iter().map(|s| (s.to_string(), s.reverse)).collect();
+    assert_eq!(listed, [("1..3".to_string(), false), ("5".to_string(), true), ("A.1:<7..8".to_string(), true)]);
+    assert_eq!(record.keep(Layout::default()).unwrap(), file);
+}
+
+#[test]
+fn contig_is_a_tree() {
+    let file = b"LOCUS       C 0 bp linear CON 01-MAR-2024\nCONTIG      join(A.1:1..5,gap(100))\n//\n";
+    let record = first(file);
+    let of = Some(&b"A.1"[..]);
+    let range = Location::Range { of, from: 1, to: 5, before: false, after: false };
+    assert_eq!(record.contig(), Some(Location::Join(vec![range, Location::Gap(b"100")])));
+    assert_eq!(first(P318).contig(), None);
+}
+
+#[test]
+fn bad_locations_have_numbers() {
+    let number = |location: &str| records(&located(location)).next().unwrap().unwrap_err().number;
+    assert_eq!(number("01..2"), 7);
+    assert_eq!(number("gap(5)"), 7);
+    assert_eq!(number(&("join(".repeat(17) + "1" + &")".repeat(17))), 14);
+    assert!(records(&located(&("join(".repeat(16) + "1" + &")".repeat(16)))).next().unwrap().is_ok());
 }

@@ -20,9 +20,10 @@ pub extern "C" fn vilggodan_read(
     comments: &mut [usize],
     features: &mut [Feature],
     qualifiers: &mut [usize],
+    locations: &mut [usize],
     letters: &mut [u8],
 ) -> Reading
-    ensures { λ r. ⌜ ReadTold (now (s .entry)) at (lent texts references comments features qualifiers letters) (left texts references comments features qualifiers letters) r ⌝ }
+    ensures { λ r. ⌜ ReadTold (now (s .entry)) at (lent texts references comments features qualifiers locations letters) (left texts references comments features qualifiers locations letters) r ⌝ }
 {
     let answer = read_record::read(
         s,
@@ -32,6 +33,7 @@ pub extern "C" fn vilggodan_read(
         comments,
         features,
         qualifiers,
+        locations,
         letters,
     );
     reading_of(at, answer)
@@ -46,6 +48,7 @@ pub extern "C" fn vilggodan_write(
     comments: &[usize],
     features: &[Feature],
     qualifiers: &[usize],
+    locations: &[usize],
     letters: &[u8],
     head: &[usize],
     width: usize,
@@ -53,7 +56,7 @@ pub extern "C" fn vilggodan_write(
     truncate: bool,
     escape: bool,
 ) -> Writing
-    ensures { λ r. ⌜ WriteTold (howOf keep width truncate escape) (lent texts references comments features qualifiers letters) (now (head .entry)) (now (out .entry)) (now (out .exit)) r ⌝ }
+    ensures { λ r. ⌜ WriteTold (howOf keep width truncate escape) (lent texts references comments features qualifiers locations letters) (now (head .entry)) (now (out .entry)) (now (out .exit)) r ⌝ }
 {
     let answer = write_record::write(
         out,
@@ -62,6 +65,7 @@ pub extern "C" fn vilggodan_write(
         comments,
         features,
         qualifiers,
+        locations,
         letters,
         head_from(head),
         How {

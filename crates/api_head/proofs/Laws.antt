@@ -11,6 +11,8 @@ use Rattle.spec_format.specs.declared.Text.{Text}
 use Rattle.spec_format.specs.declared.Text.the-variants as text
 use Rattle.spec_format.specs.declared.SourceText.{SourceText}
 use Rattle.spec_format.specs.declared.SourceText.the-variants as source
+use Rattle.spec_format.specs.declared.ContigText.{ContigText}
+use Rattle.spec_format.specs.declared.ContigText.the-variants as contig
 use Rattle.spec_format.specs.declared.Span.{Span}
 use Rattle.spec_format.specs.declared.Date.{Date}
 use Rattle.spec_format.specs.declared.Length.{Length}
@@ -19,8 +21,8 @@ use Rattle.spec_format.specs.declared.Dated.{Dated}
 use Rattle.spec_format.specs.declared.Dated.the-variants as dated
 use Rattle.spec_format.specs.declared.Head.{Head}
 use Rattle.base_pen.specs.Pen.{Writes, writes-append, wrote-eq}
-use Rattle.spec_contracts.specs.Numbers.{largest, textNumbers, sourceNumbers, lengthNumbers, dateNumbers, above, lower, textFrom, sourceFrom, lengthFrom}
-use Rattle.spec_contracts.specs.Numbers.{onDate, dateFrom, textIn, spanIn, sourceIn, dateIn, headIn, outside, headFrom}
+use Rattle.spec_contracts.specs.Numbers.{largest, textNumbers, sourceNumbers, contigNumbers, lengthNumbers, dateNumbers, above, lower, textFrom, sourceFrom, contigFrom}
+use Rattle.spec_contracts.specs.Numbers.{lengthFrom, onDate, dateFrom, textIn, spanIn, sourceIn, contigIn, dateIn, headIn, outside, headFrom}
 
 pub above-less : (n : ℕ) → n < largest → n + 1 ≡ above n
 above-less n h = rw (lt-ltb n largest h)
@@ -48,6 +50,10 @@ pub source-there : (start n : ℕ) (o : Text) → (n ≡ 0 → ⊥) → source.A
 source-there start zero o h = absurd (h refl)
 source-there start (suc n) o h = rw (suc-less n)
 
+pub contig-there : (start n row rows : ℕ) → (n ≡ 0 → ⊥) → contig.At (record { start = start; length = n - 1 }) row rows ≡ contigFrom start n row rows
+contig-there start zero row rows h = absurd (h refl)
+contig-there start (suc n) row rows h = rw (suc-less n)
+
 pub length-there : (n : ℕ) → (n ≡ 0 → ⊥) → bases.Bases (n - 1) ≡ lengthFrom n
 length-there zero h = absurd (h refl)
 length-there (suc n) h = rw (suc-less n)
@@ -60,25 +66,25 @@ module _ (d m y : ℕ) (a b : Bool) (e : a ≡ (eqb m 0 && eqb y 0)) (f : b ≡ 
   date-there t r g = rw (← e, ← f, t) g
 
 module _ (ns : List ℕ) (h : Head) where
-  pub too-few : length ns < 31 → h ≡ outside → h ≡ headFrom ns
+  pub too-few : length ns < 33 → h ≡ outside → h ≡ headFrom ns
   unfolding headFrom
-  too-few l e = rw (lt-leb 31 (length ns) l) e
+  too-few l e = rw (lt-leb 33 (length ns) l) e
 
-  pub too-long : 31 ≤ length ns → 4294967296 < getD ns 2 0 → h ≡ outside → h ≡ headFrom ns
+  pub too-long : 33 ≤ length ns → 4294967296 < getD ns 2 0 → h ≡ outside → h ≡ headFrom ns
   unfolding headFrom
-  too-long l m e = rw (le-leb 31 (length ns) l, lt-leb (getD ns 2 0) 4294967296 m) e
+  too-long l m e = rw (le-leb 33 (length ns) l, lt-leb (getD ns 2 0) 4294967296 m) e
 
-  pub enough : 31 ≤ length ns → getD ns 2 0 ≤ 4294967296 → h ≡ headIn ns → h ≡ headFrom ns
+  pub enough : 33 ≤ length ns → getD ns 2 0 ≤ 4294967296 → h ≡ headIn ns → h ≡ headFrom ns
   unfolding headFrom
-  enough l m e = rw (le-leb 31 (length ns) l, le-leb (getD ns 2 0) 4294967296 m) e
+  enough l m e = rw (le-leb 33 (length ns) l, le-leb (getD ns 2 0) 4294967296 m) e
 
 -- a head made of what was found
-module _ (ns : List ℕ) (length : Length) (name molecule definition accession version dblink keywords contig : Text) (division : Span) (date : Dated)
-    (source : SourceText) (flag references comments features letters : ℕ) where
+module _ (ns : List ℕ) (length : Length) (name molecule definition accession version dblink keywords : Text) (division : Span) (date : Dated)
+    (source : SourceText) (contig : ContigText) (flag references comments features letters : ℕ) where
   pub head-is : length ≡ lengthFrom (getD ns 2 0) → name ≡ textIn ns 0 → molecule ≡ textIn ns 3 → flag ≡ getD ns 5 0 → division ≡ spanIn ns 6
       → date ≡ dateIn ns 8 → definition ≡ textIn ns 11 → accession ≡ textIn ns 13 → version ≡ textIn ns 15 → dblink ≡ textIn ns 17
       → keywords ≡ textIn ns 19 → source ≡ sourceIn ns 21 → references ≡ getD ns 25 0 → comments ≡ getD ns 26 0 → features ≡ getD ns 27 0
-      → contig ≡ textIn ns 28 → letters ≡ getD ns 30 0
+      → contig ≡ contigIn ns 28 → letters ≡ getD ns 32 0
       → record {
         name = name;
         length = length;
@@ -123,6 +129,13 @@ module _ (l n : List ℕ) (i k : ℕ) where
       → Writes l i (s .start ∷ p ∷ []) m j → Writes m j (textNumbers o) n k → Writes l i (sourceNumbers t) n k
   source-some t s o p m j e f w v = rw e (writes-append (rw f at w) v)
 
+  pub contig-none : (t : ContigText) → t ≡ contig.Absent → Writes l i (0 ∷ 0 ∷ 0 ∷ 0 ∷ []) n k → Writes l i (contigNumbers t) n k
+  contig-none t e w = rw e w
+
+  pub contig-some : (t : ContigText) (s : Span) (row rows p : ℕ) → t ≡ contig.At s row rows → p ≡ above (s .length)
+      → Writes l i (s .start ∷ p ∷ row ∷ rows ∷ []) n k → Writes l i (contigNumbers t) n k
+  contig-some t s row rows p e f w = rw e (rw f at w)
+
   pub length-none : (t : Length) → t ≡ bases.Absent → Writes l i (0 ∷ []) n k → Writes l i (lengthNumbers t) n k
   length-none t e w = rw e w
 
@@ -143,6 +156,7 @@ pub ruleset ways = (
   number-past,
   text-there,
   source-there,
+  contig-there,
   length-there,
   date-none,
   date-there,
@@ -153,6 +167,8 @@ pub ruleset ways = (
   text-some,
   source-none,
   source-some,
+  contig-none,
+  contig-some,
   length-none,
   length-some,
   dated-none,

@@ -1,4 +1,4 @@
--- What is told of a head is understood: the numbers of a head are 31, and stand for that head. Numbers that stand for none are refused.
+-- What is told of a head is understood: the numbers of a head are 33, and stand for that head. Numbers that stand for none are refused.
 use Prim.Native.Nat.{ℕ, suc, _+_, _≤_, _<_}
 use mathlib.Core.Path.{_≡_, refl, ap, _∙_}
 use mathlib.Core.Bool.{Bool, true, false, not}
@@ -13,14 +13,16 @@ use Rattle.spec_format.specs.declared.Text.{Text}
 use Rattle.spec_format.specs.declared.Text.the-variants as text
 use Rattle.spec_format.specs.declared.SourceText.{SourceText}
 use Rattle.spec_format.specs.declared.SourceText.the-variants as source
+use Rattle.spec_format.specs.declared.ContigText.{ContigText}
+use Rattle.spec_format.specs.declared.ContigText.the-variants as contig
 use Rattle.spec_format.specs.declared.Length.{Length}
 use Rattle.spec_format.specs.declared.Length.the-variants as bases
 use Rattle.spec_format.specs.declared.Dated.{Dated}
 use Rattle.spec_format.specs.declared.Dated.the-variants as dated
 use Rattle.spec_format.specs.declared.Head.{Head}
-use Rattle.judge_rooms.specs.Steps.{and-left}
-use Rattle.spec_contracts.specs.Numbers.{largest, above, flag, textNumbers, sourceNumbers, lengthNumbers, dateNumbers, locusNumbers, fieldNumbers}
-use Rattle.spec_contracts.specs.Numbers.{restNumbers, headNumbers, textFrom, sourceFrom, lengthFrom, dateFrom, headIn, outside, headFrom}
+use Rattle.spec_rooms.specs.LayoutLengths.{and-left}
+use Rattle.spec_contracts.specs.Numbers.{largest, above, flag, textNumbers, sourceNumbers, contigNumbers, lengthNumbers, dateNumbers, locusNumbers, fieldNumbers}
+use Rattle.spec_contracts.specs.Numbers.{restNumbers, headNumbers, textFrom, sourceFrom, contigFrom, lengthFrom, dateFrom, headIn, outside, headFrom}
 
 -- ---- how many numbers
 
@@ -33,6 +35,11 @@ source-four : (t : SourceText) → sourceNumbers t ≡
 source-four source.Absent = refl
 source-four (source.At s text.Absent) = refl
 source-four (source.At s (text.At o)) = refl
+
+contig-four : (t : ContigText) → contigNumbers t ≡
+    getD (contigNumbers t) 0 0 ∷ getD (contigNumbers t) 1 0 ∷ getD (contigNumbers t) 2 0 ∷ getD (contigNumbers t) 3 0 ∷ []
+contig-four contig.Absent = refl
+contig-four (contig.At s row rows) = refl
 
 length-one : (t : Length) → lengthNumbers t ≡ getD (lengthNumbers t) 0 0 ∷ []
 length-one bases.Absent = refl
@@ -52,7 +59,8 @@ each h =
     getD (textNumbers (h .version)) 0 0 ∷ getD (textNumbers (h .version)) 1 0 ∷ getD (textNumbers (h .dblink)) 0 0 ∷ getD (textNumbers (h .dblink)) 1 0 ∷
     getD (textNumbers (h .keywords)) 0 0 ∷ getD (textNumbers (h .keywords)) 1 0 ∷ getD (sourceNumbers (h .source)) 0 0 ∷ getD (sourceNumbers (h .source)) 1 0 ∷
     getD (sourceNumbers (h .source)) 2 0 ∷ getD (sourceNumbers (h .source)) 3 0 ∷ h .references ∷ h .comments ∷ h .features ∷
-    getD (textNumbers (h .contig)) 0 0 ∷ getD (textNumbers (h .contig)) 1 0 ∷ h .letters ∷ []
+    getD (contigNumbers (h .contig)) 0 0 ∷ getD (contigNumbers (h .contig)) 1 0 ∷ getD (contigNumbers (h .contig)) 2 0 ∷ getD (contigNumbers (h .contig)) 3 0 ∷
+    h .letters ∷ []
 
 numbers-are : (h : Head) → headNumbers h ≡ each h
 unfolding each headNumbers locusNumbers fieldNumbers restNumbers
@@ -68,10 +76,10 @@ numbers-are h =
       text-two (h .dblink),
       text-two (h .keywords),
       source-four (h .source),
-      text-two (h .contig),
+      contig-four (h .contig),
     )
 
-pub head-length : (h : Head) → length (headNumbers h) ≡ 31
+pub head-length : (h : Head) → length (headNumbers h) ≡ 33
 unfolding each
 head-length h = rw (numbers-are h)
 
@@ -85,6 +93,10 @@ textSmall (text.At s) = s .length < largest
 abbrev pub sourceSmall : SourceText → Type 0
 sourceSmall source.Absent = Unit
 sourceSmall (source.At s o) = (s .length < largest) × textSmall o
+
+abbrev pub contigSmall : ContigText → Type 0
+contigSmall contig.Absent = Unit
+contigSmall (contig.At s row rows) = s .length < largest
 
 abbrev pub lengthSmall : Length → Type 0
 lengthSmall bases.Absent = Unit
@@ -106,7 +118,7 @@ pub record Small (h : Head) : Type 0 where
   pub dblink : textSmall (h .dblink)
   pub keywords : textSmall (h .keywords)
   pub source : sourceSmall (h .source)
-  pub contig : textSmall (h .contig)
+  pub contig : contigSmall (h .contig)
 
 above-suc : (n : ℕ) → n < largest → above n ≡ suc n
 above-suc n k = let e : n + 1 ≡ suc n = omega arith in rw (lt-ltb n largest k, e)
@@ -120,6 +132,11 @@ source-back : (t : SourceText) → sourceSmall t →
 source-back source.Absent k = refl
 source-back (source.At s text.Absent) k = rw (above-suc (s .length) (k .0))
 source-back (source.At s (text.At o)) k = rw (above-suc (s .length) (k .0), above-suc (o .length) (k .1))
+
+contig-back : (t : ContigText) → contigSmall t →
+    contigFrom (getD (contigNumbers t) 0 0) (getD (contigNumbers t) 1 0) (getD (contigNumbers t) 2 0) (getD (contigNumbers t) 3 0) ≡ t
+contig-back contig.Absent k = refl
+contig-back (contig.At s row rows) k = rw (above-suc (s .length) k)
 
 length-back : (t : Length) → lengthFrom (getD (lengthNumbers t) 0 0) ≡ t
 length-back bases.Absent = refl
@@ -140,7 +157,7 @@ date-back (dated.On d) k =
     rw (ne-eqb (d .day) 0 z, le-ltb 255 (d .day) (k .1 .0), le-ltb 255 (d .month) (k .1 .1 .0), le-ltb 65535 (d .year) (k .1 .1 .1))
 
 -- a head is known by its fields
-same : (h : Head) (name molecule definition accession version dblink keywords contig : Text) (length : Length) (circular : Bool) (date : Dated) (source : SourceText)
+same : (h : Head) (name molecule definition accession version dblink keywords : Text) (contig : ContigText) (length : Length) (circular : Bool) (date : Dated) (source : SourceText)
     → name ≡ h .name → molecule ≡ h .molecule → definition ≡ h .definition → accession ≡ h .accession → version ≡ h .version → dblink ≡ h .dblink
     → keywords ≡ h .keywords → contig ≡ h .contig → length ≡ h .length → circular ≡ h .circular → date ≡ h .date → source ≡ h .source
     → record {
@@ -169,7 +186,7 @@ unfolding each headIn
 each-back h k =
     same h _ _ _ _ _ _ _ _ _ _ _ _ (text-back (h .name) (k .name)) (text-back (h .molecule) (k .molecule)) (text-back (h .definition) (k .definition))
     (text-back (h .accession) (k .accession)) (text-back (h .version) (k .version)) (text-back (h .dblink) (k .dblink))
-    (text-back (h .keywords) (k .keywords)) (text-back (h .contig) (k .contig)) (length-back (h .length)) (flag-back (h .circular))
+    (text-back (h .keywords) (k .keywords)) (contig-back (h .contig) (k .contig)) (length-back (h .length)) (flag-back (h .circular))
     (date-back (h .date) (k .date)) (source-back (h .source) (k .source))
 
 each-fits : (h : Head) → Small h → headFrom (each h) ≡ headIn (each h)

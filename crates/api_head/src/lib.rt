@@ -1,8 +1,9 @@
-// The head of a table as 31 numbers and back, for callers that pass numbers and slices only. specs/Numbers.antt of `spec_contracts` has the layout.
+// The head of a table as 33 numbers and back, for callers that pass numbers and slices only. specs/Numbers.antt of `spec_contracts` has the layout.
 use base_arith::both;
 use base_pen::put_four;
 use base_pen::put_number;
 use base_pen::put_two;
+use spec_format::ContigText;
 use spec_format::Date;
 use spec_format::Dated;
 use spec_format::Head;
@@ -15,8 +16,8 @@ ghost use mathlib.Core.List.{[], _∷_};
 ghost use Prim.Native.Nat.{_≤_};
 ghost use lib.ListN.{getD};
 ghost use Rattle.base_pen.specs.Pen.{Writes};
-ghost use Rattle.spec_contracts.specs.Numbers.{above, flag, textNumbers, sourceNumbers, lengthNumbers, dateNumbers, locusNumbers, fieldNumbers, restNumbers, headNumbers, lower, textFrom};
-ghost use Rattle.spec_contracts.specs.Numbers.{textIn, spanIn, sourceFrom, sourceIn, lengthFrom, onDate, dateFrom, dateIn, headIn, outside, headFrom};
+ghost use Rattle.spec_contracts.specs.Numbers.{above, flag, textNumbers, sourceNumbers, contigNumbers, lengthNumbers, dateNumbers, locusNumbers, fieldNumbers, restNumbers, headNumbers, lower, textFrom};
+ghost use Rattle.spec_contracts.specs.Numbers.{textIn, spanIn, sourceFrom, sourceIn, contigFrom, contigIn, lengthFrom, onDate, dateFrom, dateIn, headIn, outside, headFrom};
 
 // ---- to numbers
 
@@ -46,6 +47,17 @@ fn put_source(out: &mut [usize], at: usize, source: SourceText) -> usize
         SourceText::At { text, organism } => {
             let next = put_two(out, at, text.start, plus_one(text.length));
             put_text(out, next, organism)
+        }
+    }
+}
+
+fn put_contig(out: &mut [usize], at: usize, contig: ContigText) -> usize
+    ensures { λ r. ⌜ Writes (now (out .entry)) at (contigNumbers contig) (now (out .exit)) r ⌝ }
+{
+    match contig {
+        ContigText::Absent => put_four(out, at, 0, 0, 0, 0),
+        ContigText::At { text, row, rows } => {
+            put_four(out, at, text.start, plus_one(text.length), row, rows)
         }
     }
 }
@@ -129,7 +141,7 @@ fn put_rest(out: &mut [usize], at: usize, head: Head) -> usize
     let contig = head.contig;
     let a = put_two(out, at, head.references, head.comments);
     let b = put_number(out, a, head.features);
-    let c = put_text(out, b, contig);
+    let c = put_contig(out, b, contig);
     put_number(out, c, head.letters)
 }
 
@@ -142,10 +154,10 @@ fn put_head(out: &mut [usize], at: usize, head: Head) -> usize
 }
 
 // The numbers of a head.
-pub fn head_numbers(head: Head) -> [usize; 31]
+pub fn head_numbers(head: Head) -> [usize; 33]
     ensures { λ r. ⌜ r ≡ headNumbers head ⌝ }
 {
-    let mut numbers = [0usize; 31];
+    let mut numbers = [0usize; 33];
     put_head(&mut numbers, 0, head);
     numbers
 }
@@ -193,6 +205,22 @@ fn source_from(start: usize, above: usize, organism: Text) -> SourceText
             length: above - 1,
         },
         organism: organism,
+    }
+}
+
+fn contig_from(start: usize, above: usize, row: usize, rows: usize) -> ContigText
+    ensures { λ r. ⌜ r ≡ contigFrom start above row rows ⌝ }
+{
+    if above == 0 {
+        return ContigText::Absent;
+    }
+    ContigText::At {
+        text: Span {
+            start: start,
+            length: above - 1,
+        },
+        row: row,
+        rows: rows,
     }
 }
 
@@ -267,7 +295,19 @@ fn source_at(ns: &[usize], i: usize) -> SourceText
     source_from(number_at(ns, i), number_at(ns, i + 1), text_at(ns, i + 2))
 }
 
-// The head of 31 numbers.
+fn contig_at(ns: &[usize], i: usize) -> ContigText
+    requires { ⌜ i ≤ 28 ⌝ }
+    ensures { λ r. ⌜ r ≡ contigIn (now (ns .entry)) i ⌝ }
+{
+    contig_from(
+        number_at(ns, i),
+        number_at(ns, i + 1),
+        number_at(ns, i + 2),
+        number_at(ns, i + 3),
+    )
+}
+
+// The head of 33 numbers.
 fn head_in(ns: &[usize], length: Length) -> Head
     requires { ⌜ length ≡ lengthFrom (getD (now ns) 2 0) ⌝ }
     ensures { λ r. ⌜ r ≡ headIn (now (ns .entry)) ⌝ }
@@ -288,8 +328,8 @@ fn head_in(ns: &[usize], length: Length) -> Head
         references: number_at(ns, 25),
         comments: number_at(ns, 26),
         features: number_at(ns, 27),
-        contig: text_at(ns, 28),
-        letters: number_at(ns, 30),
+        contig: contig_at(ns, 28),
+        letters: number_at(ns, 32),
     }
 }
 
@@ -315,7 +355,7 @@ fn no_head() -> Head
         references: 0,
         comments: 0,
         features: 0,
-        contig: Text::Absent,
+        contig: ContigText::Absent,
         letters: 0,
     }
 }
@@ -324,7 +364,7 @@ fn no_head() -> Head
 pub fn head_from(ns: &[usize]) -> Head
     ensures { λ r. ⌜ r ≡ headFrom (now (ns .entry)) ⌝ }
 {
-    if ns.len() < 31 {
+    if ns.len() < 33 {
         return no_head();
     }
     if 4294967296 < ns[2] {

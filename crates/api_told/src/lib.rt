@@ -21,6 +21,7 @@ fn no_sizes() -> Sizes
         comments: 0,
         features: 0,
         qualifiers: 0,
+        locations: 0,
         letters: 0,
     }
 }
@@ -39,13 +40,13 @@ pub fn reading_of(at: usize, answer: ReadAnswer) -> Reading
         ReadAnswer::Refused(why) => Reading {
             number: unread_number(why),
             place: unread_place(why, at),
-            head: [0usize; 31],
+            head: [0usize; 33],
             sizes: no_sizes(),
         },
         ReadAnswer::Room(n) => Reading {
             number: 6,
             place: at,
-            head: [0usize; 31],
+            head: [0usize; 33],
             sizes: n,
         },
     }

@@ -17,6 +17,7 @@ fn rewrite_input(options: Options) {
     let mut references = app_rooms::reference_room();
     let mut comments = app_rooms::comment_room();
     let mut qualifiers = app_rooms::qualifier_room();
+    let mut locations = app_rooms::location_room();
     let mut letters = app_rooms::text_room();
     let mut out = app_rooms::out_room();
     let n = io::read_full(0, &mut input);
@@ -30,6 +31,7 @@ fn rewrite_input(options: Options) {
         &mut references,
         &mut comments,
         &mut qualifiers,
+        &mut locations,
         &mut letters,
         &mut out,
         options,

@@ -1,4 +1,4 @@
-// Rooms that a stack of 8 MiB holds: an input and a record of up to 524,288 bytes, 1,024 references and comments, 32,768 qualifiers. Their
+// Rooms that a stack of 8 MiB holds: an input and a record of up to 524,288 bytes, 1,024 references and comments, 32,768 qualifiers, 16,384 location rows. Their
 // contracts say their lengths alone, so that a proof about a program does not write them out.
 ghost use lib.ListN.{length};
 ghost use mathlib.Core.Path.{_≡_};
@@ -36,6 +36,13 @@ pub fn qualifier_room() -> [usize; 131072]
     ensures { λ r. ⌜ 131072 ≡ length r ⌝ }
 {
     [0usize; 131072]
+}
+
+// 7 numbers a row.
+pub fn location_room() -> [usize; 114688]
+    ensures { λ r. ⌜ 114688 ≡ length r ⌝ }
+{
+    [0usize; 114688]
 }
 
 // What is written: four times the input.

@@ -33,10 +33,10 @@ how-refused a why how e = rw e
 pub how-room : (a : ReadAnswer) (sizes : Sizes) (how : How) → a ≡ read.Room sizes → notAtAll how ≡ howAfter a how
 how-room a sizes how e = rw e
 
-module _ (s : List ℕ) (at : ℕ) (old : Rooms) (how : How) (t rf cm : List ℕ) (rows : List Feature) (q l before after : List ℕ) (r : ReadAnswer) (w : WriteAnswer) where
+module _ (s : List ℕ) (at : ℕ) (old : Rooms) (how : How) (t rf cm : List ℕ) (rows : List Feature) (q n l before after : List ℕ) (r : ReadAnswer) (w : WriteAnswer) where
   -- the reader's contract and then the writer's
-  pub rounds : Answered s at old (roomsIn t rf cm (flat rows) q l) r → WriteAnswered (howAfter r how) (roomsIn t rf cm (flat rows) q l) (headOf r) before after w
-      → Rounds s at old how t rf cm q l before after r w
+  pub rounds : Answered s at old (roomsIn t rf cm (flat rows) q n l) r → WriteAnswered (howAfter r how) (roomsIn t rf cm (flat rows) q n l) (headOf r) before after w
+      → Rounds s at old how t rf cm q n l before after r w
   rounds a b =
       record {
         is = a .is;
@@ -44,8 +44,9 @@ module _ (s : List ℕ) (at : ℕ) (old : Rooms) (how : How) (t rf cm : List ℕ
         references-are = a .references;
         comments-are = a .comments;
         qualifiers-are = a .qualifiers;
+        locations-are = a .locations;
         letters-are = a .letters;
         wrote =
             subst (λ (rooms : Rooms). WriteAnswered (howAfter r how) rooms (headOf r) before after w)
-            (rooms-after s at old (roomsIn t rf cm (flat rows) q l) r a) b;
+            (rooms-after s at old (roomsIn t rf cm (flat rows) q n l) r a) b;
       }

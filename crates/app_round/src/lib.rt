@@ -1,5 +1,6 @@
 // A record read into rows of features that are structs, and written again from them. The rows are its own, so whoever calls it has plain parameters.
 use base_rows::Feature;
+use spec_format::ContigText;
 use spec_format::Dated;
 use spec_format::Head;
 use spec_format::How;
@@ -32,6 +33,8 @@ fn no_rows() -> [Feature; 8192]
         location: no,
         first: 0,
         count: 0,
+        row: 0,
+        rows: 0,
     }; 8192]
 }
 
@@ -57,7 +60,7 @@ fn no_head() -> Head
         references: 0,
         comments: 0,
         features: 0,
-        contig: Text::Absent,
+        contig: ContigText::Absent,
         letters: 0,
     }
 }
@@ -99,11 +102,12 @@ pub fn read_and_write(
     references: &mut [usize],
     comments: &mut [usize],
     qualifiers: &mut [usize],
+    locations: &mut [usize],
     letters: &mut [u8],
     out: &mut [u8],
     how: How,
 ) -> Round
-    ensures { λ r. ⌜ Rounds (now (s .entry)) at (roomsIn (now (texts .entry)) (now (references .entry)) (now (comments .entry)) (flat emptyRows) (now (qualifiers .entry)) (now (letters .entry))) how (now (texts .exit)) (now (references .exit)) (now (comments .exit)) (now (qualifiers .exit)) (now (letters .exit)) (now (out .entry)) (now (out .exit)) (r .read) (r .wrote) ⌝ }
+    ensures { λ r. ⌜ Rounds (now (s .entry)) at (roomsIn (now (texts .entry)) (now (references .entry)) (now (comments .entry)) (flat emptyRows) (now (qualifiers .entry)) (now (locations .entry)) (now (letters .entry))) how (now (texts .exit)) (now (references .exit)) (now (comments .exit)) (now (qualifiers .exit)) (now (locations .exit)) (now (letters .exit)) (now (out .entry)) (now (out .exit)) (r .read) (r .wrote) ⌝ }
 {
     let mut rows = no_rows();
     let read = read_record::read(
@@ -114,6 +118,7 @@ pub fn read_and_write(
         comments,
         &mut rows,
         qualifiers,
+        locations,
         letters,
     );
     let head = head_of(read);
@@ -125,6 +130,7 @@ pub fn read_and_write(
         comments,
         &rows,
         qualifiers,
+        locations,
         letters,
         head,
         after,

@@ -97,6 +97,7 @@ fn judge_at(
     references: &mut [usize],
     comments: &mut [usize],
     qualifiers: &mut [usize],
+    locations: &mut [usize],
     letters: &mut [u8],
     width: usize,
 ) -> Judged {
@@ -114,6 +115,7 @@ fn judge_at(
         references,
         comments,
         qualifiers,
+        locations,
         letters,
         &mut none,
         how,
@@ -128,6 +130,7 @@ pub fn judge_all(
     references: &mut [usize],
     comments: &mut [usize],
     qualifiers: &mut [usize],
+    locations: &mut [usize],
     letters: &mut [u8],
     width: usize,
 ) {
@@ -145,6 +148,7 @@ pub fn judge_all(
             references,
             comments,
             qualifiers,
+            locations,
             letters,
             width,
         ) {

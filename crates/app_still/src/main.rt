@@ -14,6 +14,7 @@ fn judge_input(width: usize) {
     let mut references = app_rooms::reference_room();
     let mut comments = app_rooms::comment_room();
     let mut qualifiers = app_rooms::qualifier_room();
+    let mut locations = app_rooms::location_room();
     let mut letters = app_rooms::text_room();
     let n = io::read_full(0, &mut input);
     if 524288 < n {
@@ -26,6 +27,7 @@ fn judge_input(width: usize) {
         &mut references,
         &mut comments,
         &mut qualifiers,
+        &mut locations,
         &mut letters,
         width,
     );

@@ -18,6 +18,7 @@ pub fn unread_number(why: Unread) -> usize
         Unread::NoSlashes => 7,
         Unread::OtherLength => 8,
         Unread::BadLetter => 9,
+        Unread::TooDeep => 14,
     }
 }
 
@@ -34,6 +35,7 @@ pub fn unread_place(why: Unread, at: usize) -> usize
         Unread::NoSlashes => at,
         Unread::OtherLength => at,
         Unread::BadLetter => at,
+        Unread::TooDeep => at,
     }
 }
 
@@ -104,6 +106,12 @@ fn tell_record(fd: i32, number: usize) {
     if number == 9 {
         io::write_all(fd, b"a byte that cannot stand among the letters");
     }
+    if number == 14 {
+        io::write_all(
+            fd,
+            b"a location opens more than 16 words of complement, join and order",
+        );
+    }
 }
 
 // The words for the numbers that are about rooms, and a table in them.
@@ -112,7 +120,10 @@ fn tell_table(fd: i32, number: usize) {
         io::write_all(fd, b"the room is too small");
     }
     if number == 10 {
-        io::write_all(fd, b"a text or row of the table lies outside its room");
+        io::write_all(
+            fd,
+            b"a text or row of the table lies outside its room, or location rows are not those of their text",
+        );
     }
     if number == 11 {
         io::write_all(fd, b"a text, date or sequence that cannot be laid out");

@@ -35,23 +35,23 @@ fetched-outside (x ∷ rows) (suc i) e = let h : length rows ≤ i = fetched-out
 
 -- ---- the flat numbers
 
-six-more : (n : ℕ) → 6 * suc n ≡ suc (suc (suc (suc (suc (suc (6 * n))))))
-six-more n = omega arith
+eight-more : (n : ℕ) → 8 * suc n ≡ suc (suc (suc (suc (suc (suc (suc (suc (8 * n))))))))
+eight-more n = omega arith
 
-six-further : (n k : ℕ) → 6 * suc n + k ≡ suc (suc (suc (suc (suc (suc (6 * n + k))))))
-six-further n k = omega arith
+eight-further : (n k : ℕ) → 8 * suc n + k ≡ suc (suc (suc (suc (suc (suc (suc (suc (8 * n + k))))))))
+eight-further n k = omega arith
 
-pub flat-length : (rows : List Feature) → length (flat rows) ≡ 6 * length rows
+pub flat-length : (rows : List Feature) → length (flat rows) ≡ 8 * length rows
 unfolding flat
 flat-length [] = refl
 flat-length (f ∷ rows) = rw (flat-length rows) (omega arith)
 
--- a stored row is six stored numbers
-pub flat-set : (rows : List Feature) (i : ℕ) (f : Feature) → flat (set rows i f) ≡ sets (flat rows) (6 * i) (numbers f)
+-- a stored row is eight stored numbers
+pub flat-set : (rows : List Feature) (i : ℕ) (f : Feature) → flat (set rows i f) ≡ sets (flat rows) (8 * i) (numbers f)
 unfolding flat
 flat-set [] i f = refl
 flat-set (x ∷ rows) zero f = refl
-flat-set (x ∷ rows) (suc i) f = rw (six-more i) (ap (λ (l : List ℕ). numbers x ++ l) (flat-set rows i f))
+flat-set (x ∷ rows) (suc i) f = rw (eight-more i) (ap (λ (l : List ℕ). numbers x ++ l) (flat-set rows i f))
 
 -- a row's numbers stand at a place of a room
 pub record Standing (room : List ℕ) (at : ℕ) (f : Feature) : Type 0 where
@@ -61,59 +61,68 @@ pub record Standing (room : List ℕ) (at : ℕ) (f : Feature) : Type 0 where
   pub location-length : getD room (at + 3) 0 ≡ f .location .length
   pub first : getD room (at + 4) 0 ≡ f .first
   pub count : getD room (at + 5) 0 ≡ f .count
+  pub row : getD room (at + 6) 0 ≡ f .row
+  pub rows : getD room (at + 7) 0 ≡ f .rows
 
-first-stands : (x : Feature) (rows : List Feature) → Standing (flat (x ∷ rows)) (6 * 0) x
+first-stands : (x : Feature) (rows : List Feature) → Standing (flat (x ∷ rows)) (8 * 0) x
 unfolding flat
-first-stands x rows = record { kind = refl; kind-length = refl; location = refl; location-length = refl; first = refl; count = refl }
+first-stands x rows = record { kind = refl; kind-length = refl; location = refl; location-length = refl; first = refl; count = refl; row = refl; rows = refl }
 
-later-stands : (x : Feature) (rows : List Feature) (i : ℕ) (f : Feature) → Standing (flat rows) (6 * i) f → Standing (flat (x ∷ rows)) (6 * suc i) f
+later-stands : (x : Feature) (rows : List Feature) (i : ℕ) (f : Feature) → Standing (flat rows) (8 * i) f → Standing (flat (x ∷ rows)) (8 * suc i) f
 unfolding flat
 later-stands x rows i f h =
     record {
-      kind = rw (six-more i) (h .kind);
-      kind-length = rw (six-further i 1) (h .kind-length);
-      location = rw (six-further i 2) (h .location);
-      location-length = rw (six-further i 3) (h .location-length);
-      first = rw (six-further i 4) (h .first);
-      count = rw (six-further i 5) (h .count);
+      kind = rw (eight-more i) (h .kind);
+      kind-length = rw (eight-further i 1) (h .kind-length);
+      location = rw (eight-further i 2) (h .location);
+      location-length = rw (eight-further i 3) (h .location-length);
+      first = rw (eight-further i 4) (h .first);
+      count = rw (eight-further i 5) (h .count);
+      row = rw (eight-further i 6) (h .row);
+      rows = rw (eight-further i 7) (h .rows);
     }
 
 -- what was fetched stands there
-pub fetched-stands : (rows : List Feature) (i : ℕ) (f : Feature) → rowAt rows i ≡ Row f → Standing (flat rows) (6 * i) f
+pub fetched-stands : (rows : List Feature) (i : ℕ) (f : Feature) → rowAt rows i ≡ Row f → Standing (flat rows) (8 * i) f
 fetched-stands [] i f e = impossible cc
-fetched-stands (x ∷ rows) zero f e = let q : x ≡ f = cc in subst (λ (y : Feature). Standing (flat (x ∷ rows)) (6 * 0) y) q (first-stands x rows)
+fetched-stands (x ∷ rows) zero f e = let q : x ≡ f = cc in subst (λ (y : Feature). Standing (flat (x ∷ rows)) (8 * 0) y) q (first-stands x rows)
 fetched-stands (x ∷ rows) (suc i) f e = later-stands x rows i f (fetched-stands rows i f e)
 
 -- ---- equal numbers are of equal rows
 
-abbrev rowWith : ℕ → ℕ → ℕ → ℕ → ℕ → ℕ → Feature
-rowWith a b c d e f =
+abbrev rowWith : ℕ → ℕ → ℕ → ℕ → ℕ → ℕ → ℕ → ℕ → Feature
+rowWith a b c d e f g h =
     record {
       kind = record { start = a; length = b };
       location = record { start = c; length = d };
       first = e;
       count = f;
+      row = g;
+      rows = h;
     }
 
 feature-equal : (x y : Feature) → x .kind .start ≡ y .kind .start → x .kind .length ≡ y .kind .length → x .location .start ≡ y .location .start →
-    x .location .length ≡ y .location .length → x .first ≡ y .first → x .count ≡ y .count → x ≡ y
-feature-equal x y a b c d e f =
-    ap (λ (n : ℕ). rowWith n (x .kind .length) (x .location .start) (x .location .length) (x .first) (x .count)) a
-    ∙ ap (λ (n : ℕ). rowWith (y .kind .start) n (x .location .start) (x .location .length) (x .first) (x .count)) b
-    ∙ ap (λ (n : ℕ). rowWith (y .kind .start) (y .kind .length) n (x .location .length) (x .first) (x .count)) c
-    ∙ ap (λ (n : ℕ). rowWith (y .kind .start) (y .kind .length) (y .location .start) n (x .first) (x .count)) d
-    ∙ ap (λ (n : ℕ). rowWith (y .kind .start) (y .kind .length) (y .location .start) (y .location .length) n (x .count)) e
-    ∙ ap (λ (n : ℕ). rowWith (y .kind .start) (y .kind .length) (y .location .start) (y .location .length) (y .first) n) f
+    x .location .length ≡ y .location .length → x .first ≡ y .first → x .count ≡ y .count → x .row ≡ y .row → x .rows ≡ y .rows → x ≡ y
+feature-equal x y a b c d e f g h =
+    ap (λ (n : ℕ). rowWith n (x .kind .length) (x .location .start) (x .location .length) (x .first) (x .count) (x .row) (x .rows)) a
+    ∙ ap (λ (n : ℕ). rowWith (y .kind .start) n (x .location .start) (x .location .length) (x .first) (x .count) (x .row) (x .rows)) b
+    ∙ ap (λ (n : ℕ). rowWith (y .kind .start) (y .kind .length) n (x .location .length) (x .first) (x .count) (x .row) (x .rows)) c
+    ∙ ap (λ (n : ℕ). rowWith (y .kind .start) (y .kind .length) (y .location .start) n (x .first) (x .count) (x .row) (x .rows)) d
+    ∙ ap (λ (n : ℕ). rowWith (y .kind .start) (y .kind .length) (y .location .start) (y .location .length) n (x .count) (x .row) (x .rows)) e
+    ∙ ap (λ (n : ℕ). rowWith (y .kind .start) (y .kind .length) (y .location .start) (y .location .length) (y .first) n (x .row) (x .rows)) f
+    ∙ ap (λ (n : ℕ). rowWith (y .kind .start) (y .kind .length) (y .location .start) (y .location .length) (y .first) (y .count) n (x .rows)) g
+    ∙ ap (λ (n : ℕ). rowWith (y .kind .start) (y .kind .length) (y .location .start) (y .location .length) (y .first) (y .count) (y .row) n) h
 
 pub flat-tells : (rows rows′ : List Feature) → flat rows ≡ flat rows′ → rows ≡ rows′
 unfolding flat
 flat-tells [] [] e = refl
 flat-tells [] (y ∷ ys) e =
-    let z : 0 ≡ suc (suc (suc (suc (suc (suc (length (flat ys))))))) = ap length e in absurd (omega arith)
+    let z : 0 ≡ suc (suc (suc (suc (suc (suc (suc (suc (length (flat ys))))))))) = ap length e in absurd (omega arith)
 flat-tells (x ∷ xs) [] e =
-    let z : suc (suc (suc (suc (suc (suc (length (flat xs))))))) ≡ 0 = ap length e in absurd (omega arith)
+    let z : suc (suc (suc (suc (suc (suc (suc (suc (length (flat xs))))))))) ≡ 0 = ap length e in absurd (omega arith)
 flat-tells (x ∷ xs) (y ∷ ys) e =
     let q : x ≡ y = feature-equal x y (ap (λ (l : List ℕ). getD l 0 0) e) (ap (λ (l : List ℕ). getD l 1 0) e) (ap (λ (l : List ℕ). getD l 2 0) e)
-    (ap (λ (l : List ℕ). getD l 3 0) e) (ap (λ (l : List ℕ). getD l 4 0) e) (ap (λ (l : List ℕ). getD l 5 0) e) in
-    let h : xs ≡ ys = flat-tells xs ys (ap (λ (l : List ℕ). drop 6 l) e) in
+    (ap (λ (l : List ℕ). getD l 3 0) e) (ap (λ (l : List ℕ). getD l 4 0) e) (ap (λ (l : List ℕ). getD l 5 0) e) (ap (λ (l : List ℕ). getD l 6 0) e)
+    (ap (λ (l : List ℕ). getD l 7 0) e) in
+    let h : xs ≡ ys = flat-tells xs ys (ap (λ (l : List ℕ). drop 8 l) e) in
     ap (λ (f : Feature). f ∷ xs) q ∙ ap (λ (l : List Feature). y ∷ l) h

@@ -1,4 +1,4 @@
--- Rows of features as structs: what storing and fetching one means, and the flat numbers, six to a row, that they stand for.
+-- Rows of features as structs: what storing and fetching one means, and the flat numbers, eight to a row, that they stand for.
 use Prim.Native.Nat.{ℕ, zero, suc}
 use mathlib.Core.Path.{_≡_}
 use mathlib.Core.Bool.{Bool}
@@ -22,7 +22,7 @@ pub record Stored (old : List Feature) (i : ℕ) (row : Feature) (new : List Fea
 -- ---- the flat numbers of rows, as crates/spec_format has them
 
 abbrev pub numbers : Feature → List ℕ
-numbers f = f .kind .start ∷ f .kind .length ∷ f .location .start ∷ f .location .length ∷ f .first ∷ f .count ∷ []
+numbers f = f .kind .start ∷ f .kind .length ∷ f .location .start ∷ f .location .length ∷ f .first ∷ f .count ∷ f .row ∷ f .rows ∷ []
 
 unfoldable pub flat : List Feature → List ℕ
 flat [] = []

@@ -3,13 +3,15 @@ use spec_format::Span;
 ghost use mathlib.Core.Path.{_≡_};
 ghost use Rattle.base_rows.specs.Rows.{rowAt, Stored};
 
-// A feature: its kind, its location, and which qualifiers are its own. In memory it is as in C, for api/vilggodan.h.
+// A feature: its kind, its location, which qualifiers are its own, and which rows are its location's. In memory it is as in C, for api/vilggodan.h.
 #[repr(C)]
 pub struct Feature {
     pub kind: Span,
     pub location: Span,
     pub first: usize,
     pub count: usize,
+    pub row: usize,
+    pub rows: usize,
 }
 
 pub enum Fetched {

@@ -1,12 +1,12 @@
 -- What a rule asks of features, and what is known of the rooms where they lie.
 use Prim.Native.Nat.{ℕ, _+_, _≤_, _<_}
 use mathlib.Core.Path.{_≡_, refl}
-use mathlib.Core.Bool.{Bool, true, _&&_}
+use mathlib.Core.Bool.{Bool, true, false, _&&_}
 use mathlib.Core.List.{List}
 use lib.ListN.{length}
 use Rattle.spec_format.specs.Bytes.{all}
 use Rattle.spec_format.specs.Table.{Qualifier, Feature}
-use Rattle.spec_format.specs.Features.{locationText}
+use Rattle.spec_format.specs.Location.{locates}
 use Rattle.spec_format.specs.WellFormed.{ifIs, kindFine, keyFine, valueFine, qualifierFine, featureFine}
 use Rattle.spec_format.specs.Keeping.{kindKept, noSlash, valueKept, qualifierKept, featureKept}
 use Rattle.judge_rooms.specs.Parts.{featureRooms}
@@ -24,7 +24,7 @@ kindOf (rule.Fine W) k = kindFine W k
 kindOf (rule.Kept W) k = kindKept k
 
 abbrev pub locationOf : Rule → List ℕ → Bool
-locationOf (rule.Fine W) l = locationText l
+locationOf (rule.Fine W) l = true
 locationOf (rule.Kept W) l = noSlash l
 
 abbrev pub keyOf : Rule → List ℕ → Bool
@@ -41,10 +41,15 @@ qualifierOf r q = keyOf r (q .key) && ifIs (valueOf r (q .key)) (q .value)
 unfoldable pub featureOf : Rule → Feature → Bool
 featureOf r f = kindOf r (f .kind) && (locationOf r (f .location) && all (qualifierOf r) (f .qualifiers))
 
--- the two rules are those of the format
-pub fine-is : (W : ℕ) (fs : List Feature) → all (featureOf (rule.Fine W)) fs ≡ all (featureFine W) fs
+-- the two rules are those of the format, but for the reading of a location
+pub fine-is : (W : ℕ) (f : Feature) → (locates false (f .location) && featureOf (rule.Fine W) f) ≡ featureFine W f
 unfolding featureOf qualifierOf featureFine qualifierFine
-fine-is W fs = refl
+fine-is W f = go (kindFine W (f .kind)) (locates false (f .location)) (all (qualifierOf (rule.Fine W)) (f .qualifiers))
+  where
+    go : (a b c : Bool) → (b && (a && c)) ≡ (a && (b && c))
+    go true b c = refl
+    go false true c = refl
+    go false false c = refl
 
 pub kept-is : (W : ℕ) (fs : List Feature) → all (featureOf (rule.Kept W)) fs ≡ all (featureKept W) fs
 unfolding featureOf qualifierOf featureKept qualifierKept

@@ -6,7 +6,6 @@ use judge_text::comma_fine;
 use judge_text::key_fine;
 use judge_text::kind_fine;
 use judge_text::kind_kept;
-use judge_text::location_fine;
 use judge_text::value_kept;
 use judge_text::without;
 use scan_utf8::utf8_ok;
@@ -60,11 +59,12 @@ fn kind_passes(rule: Rule, kind: &[u8]) -> bool
     }
 }
 
+// What number 11 asks of a location is told where its rows are judged.
 fn location_passes(rule: Rule, location: &[u8]) -> bool
     ensures { λ r. ⌜ r ≡ locationOf rule (now (location .entry)) ⌝ }
 {
     match rule {
-        Rule::Fine(_) => location_fine(location),
+        Rule::Fine(_) => true,
         Rule::Kept(_) => without(location, b'/'),
     }
 }
@@ -142,7 +142,7 @@ fn qualifiers_pass(rule: Rule, texts: &[u8], qualifiers: &[usize], first: usize,
     true
 }
 
-// The feature whose row of six numbers is at a place.
+// The feature whose row of eight numbers is at a place.
 pub fn feature_passes(
     rule: Rule,
     texts: &[u8],

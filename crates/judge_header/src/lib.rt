@@ -165,7 +165,7 @@ pub fn header_passes(
     head: Head,
 ) -> bool
     requires { ⌜ HeaderKnown (now texts) (now references) (now comments) head ⌝ }
-    ensures { λ r. ⌜ r ≡ headerTexts (headerOf rule) (tableOf (roomsIn (now (texts .entry)) (now (references .entry)) (now (comments .entry)) [] [] []) head) ⌝ }
+    ensures { λ r. ⌜ r ≡ headerTexts (headerOf rule) (tableOf (roomsIn (now (texts .entry)) (now (references .entry)) (now (comments .entry)) [] [] [] []) head) ⌝ }
 {
     let definition = head.definition;
     let accession = head.accession;

@@ -1,4 +1,4 @@
--- Tests of parts of a table in rooms are tests of the table without its features.
+-- Tests of parts of a table in rooms are tests of the table without its features and CONTIG.
 use Prim.Native.Nat.{ℕ}
 use mathlib.Core.Path.{_≡_, refl, _∙_}
 use mathlib.Core.Bool.{Bool, true, false, _&&_, not}
@@ -6,11 +6,10 @@ use mathlib.Core.List.{List, [], _∷_}
 use native.Mathlib.Omega.{arith}
 use lib.ListN.{length, take}
 use Rattle.spec_format.specs.Bytes.{May, all, letter}
-use Rattle.spec_format.specs.Features.{locationText}
 use Rattle.spec_format.specs.Utf8.{utf8}
 use Rattle.spec_format.specs.Record.{promised}
 use Rattle.spec_format.specs.Rooms.{mayText, mayLength, rowsFrom, referenceIn, commentIn, tableOf, roomsIn}
-use Rattle.spec_format.specs.WellFormed.{ifIs, headerTexts, lettersFine}
+use Rattle.spec_format.specs.WellFormed.{headerTexts, lettersFine}
 use Rattle.spec_format.specs.Keeping.{present, locusKept, headerKept, pubmedKept, keeps}
 use Rattle.spec_format.specs.declared.Head.{Head}
 use Rattle.spec_format.specs.declared.Text.{Text}
@@ -36,19 +35,19 @@ unfolding lettersFine
 letters-some l [] r h e = absurd (h refl)
 letters-some l (b ∷ s) r h e = e
 
--- ---- 11 and 13 of a table without features are what the code tests, in the order of the definitions
+-- ---- 11 and 13 of a table without features and CONTIG are what the code tests, in the order of the definitions
 
 module _ (t rf cm l : List ℕ) (h : Head) where
   pub formed-is : (named : Bool) (W : ℕ) →
-      ((named && locusPrints (tableOf (referenceRooms t []) h .locus)) && (headerTexts utf8 (tableOf (roomsIn t rf cm [] [] []) h) &&
-      (ifIs locationText (mayText t (h .contig)) && lettersFine (mayLength (h .length)) (take (h .letters) l)))) ≡
+      ((named && locusPrints (tableOf (referenceRooms t []) h .locus)) && (headerTexts utf8 (tableOf (roomsIn t rf cm [] [] [] []) h) &&
+      lettersFine (mayLength (h .length)) (take (h .letters) l))) ≡
       wellFormedIf named W (restTable t rf cm l h)
   unfolding wellFormedIf headerTexts tableOf referenceIn commentIn rowsFrom
   formed-is named W = refl
 
   pub rules-are : (W : ℕ) (truncate escape : Bool) →
       ((not truncate && not escape) && (locusKept (tableOf (referenceRooms t []) h .locus) &&
-      (headerTexts (headerKept W) (tableOf (roomsIn t rf cm [] [] []) h) &&
+      (headerTexts (headerKept W) (tableOf (roomsIn t rf cm [] [] [] []) h) &&
       all pubmedKept (rowsFrom (referenceIn (referenceRooms t rf)) 14 0 (h .references))))) ≡
       keeps W truncate escape (restTable t rf cm l h)
   unfolding keeps headerTexts tableOf referenceIn commentIn rowsFrom
@@ -56,7 +55,7 @@ module _ (t rf cm l : List ℕ) (h : Head) where
       go
       (not truncate && not escape)
       (locusKept (tableOf (referenceRooms t []) h .locus))
-      (headerTexts (headerKept W) (tableOf (roomsIn t rf cm [] [] []) h))
+      (headerTexts (headerKept W) (tableOf (roomsIn t rf cm [] [] [] []) h))
       (all pubmedKept (rowsFrom (referenceIn (referenceRooms t rf)) 14 0 (h .references)))
     where
       go : (a b c d : Bool) → (a && (b && (c && d))) ≡ (a && (b && (c && (d && true))))

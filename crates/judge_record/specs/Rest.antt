@@ -1,4 +1,4 @@
--- A table without its features, and what is known of one that gets as far as number 11.
+-- A table without its features and CONTIG, and what is known of one that gets as far as number 11.
 use Prim.Native.Nat.{ℕ, _≤_}
 use mathlib.Core.Path.{_≡_, sym, _∙_}
 use mathlib.Core.Bool.{Bool, true, false, not}
@@ -12,12 +12,12 @@ use Rattle.spec_format.specs.WellFormed.{widthFine}
 use Rattle.spec_format.specs.declared.Head.{Head}
 use Rattle.judge_header.specs.Rules.{HeaderKnown, header-known}
 use Rattle.judge_rooms.specs.Facts.{HeadIn, RoomsIn}
-use Rattle.judge_rooms.specs.Parts.{noRows}
+use Rattle.judge_rooms.specs.Parts.{restHead}
 use Rattle.judge_rooms.specs.Steps.{and-left, and-right}
 use Rattle.spec_format.specs.Record.{most}
 
 abbrev pub restTable : List ℕ → List ℕ → List ℕ → List ℕ → Head → Table
-restTable t rf cm l h = tableOf (roomsIn t rf cm [] [] l) (noRows h)
+restTable t rf cm l h = tableOf (roomsIn t rf cm [] [] [] l) (restHead h)
 
 pub record RestKnown (t rf cm l : List ℕ) (h : Head) : Type 0 where
   pub head : HeadIn t h

@@ -5,16 +5,14 @@ use mathlib.Core.Bool.{Bool, true, false, _&&_}
 use mathlib.Core.List.{List}
 use Rattle.spec_format.specs.Bytes.{all, some, printing, but}
 use Rattle.spec_format.specs.Table.{Locus, Table}
-use Rattle.spec_format.specs.Features.{locationText}
 use Rattle.spec_format.specs.Utf8.{utf8}
 use Rattle.spec_format.specs.Write.{printedName}
-use Rattle.spec_format.specs.WellFormed.{ifIs, dateFine, headerTexts, featureFine, lettersFine, locusFine, wellFormed}
+use Rattle.spec_format.specs.WellFormed.{ifIs, dateFine, headerTexts, featureFine, contigFine, lettersFine, locusFine, wellFormed}
 use Rattle.spec_format.specs.Keeping.{spaceless, keeps}
 use Rattle.judge_record.specs.declared.Test.{Test}
 use Rattle.judge_record.specs.declared.Test.the-variants as test
 
 abbrev pub testOf : Test → List ℕ → Bool
-testOf test.Location t = locationText t
 testOf test.Printing t = all printing t
 testOf test.Spaceless t = spaceless t
 testOf test.Colonless t = all (but 58) t
@@ -25,7 +23,7 @@ locusPrints l = all printing (l .division) && (ifIs (all printing) (l .molecule)
 -- number 11 but for the printed name, whose test is `named`
 unfoldable pub wellFormedIf : Bool → ℕ → Table → Bool
 wellFormedIf named W t =
-    (named && locusPrints (t .locus)) && (headerTexts utf8 t && (all (featureFine W) (t .features) && (ifIs locationText (t .contig) &&
+    (named && locusPrints (t .locus)) && (headerTexts utf8 t && (all (featureFine W) (t .features) && (ifIs contigFine (t .contig) &&
     lettersFine (t .locus .length) (t .letters))))
 
 -- number 13, under another name than that of the function `keeps`

@@ -1,10 +1,9 @@
-// Number 12; and numbers 11 and 13 of all but the features, of a table in rooms for which number 10 is not due.
+// Number 12; and numbers 11 and 13 of all but the features and CONTIG, of a table in rooms for which number 10 is not due.
 use base_arith::both;
 use judge_header::Rule;
 use judge_header::header_passes;
 use judge_header::pubmeds_kept;
 use judge_text::letters_all;
-use judge_text::location_fine;
 use judge_text::printing_all;
 use judge_text::without;
 use judge_text::without_spaces;
@@ -96,9 +95,8 @@ fn first_letters_fine(bases: Length, letters: &[u8], n: usize) -> bool
     letters_fine(bases, &letters[start..n])
 }
 
-// What is asked of a text of LOCUS or of CONTIG.
+// What is asked of a text of LOCUS.
 pub enum Test {
-    Location,
     Printing,
     Spaceless,
     Colonless,
@@ -108,7 +106,6 @@ fn slice_passes(test: Test, s: &[u8]) -> bool
     ensures { λ r. ⌜ r ≡ testOf test (now (s .entry)) ⌝ }
 {
     match test {
-        Test::Location => location_fine(s),
         Test::Printing => printing_all(s),
         Test::Spaceless => without_spaces(s),
         Test::Colonless => without(s, b':'),
@@ -176,7 +173,7 @@ fn locus_kept(texts: &[u8], head: Head) -> bool
     both(is_text(name), both(is_length(length), dated))
 }
 
-// Number 11 is not due for anything but the features, where `named` says whether the printed name is fine.
+// Number 11 is not due for anything but the features and CONTIG, where `named` says whether the printed name is fine.
 pub fn well_formed(
     width: usize,
     named: bool,
@@ -195,13 +192,9 @@ pub fn well_formed(
     if !header_passes(Rule::Fine(width), texts, references, comments, head) {
         return false;
     }
-    let contig = head.contig;
     let length = head.length;
     let n = head.letters;
-    both(
-        text_passes(Test::Location, texts, contig),
-        first_letters_fine(length, letters, n),
-    )
+    first_letters_fine(length, letters, n)
 }
 
 // Number 13 is not due for anything but the features.

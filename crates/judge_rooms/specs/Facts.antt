@@ -10,15 +10,17 @@ use lib.ListN.{length, getD}
 use lib.Dec.{eqb}
 use borrow.Author.Tests.{leb-true, eqb-true, ne-eqb}
 use Rattle.spec_format.specs.Record.{most}
-use Rattle.spec_format.specs.Rooms.{Rooms, spanFine, textFine, sourceFine, rowTextFine, rowPerhapsFine, rowsFine, referenceRowFine, commentRowFine, qualifierRowFine, qualifiersFine, featuresFine, lengthsFine, headFine, countsFine, roomsFine}
+use Rattle.spec_format.specs.Rooms.{Rooms, spanFine, textFine, sourceFine, contigTextFine, rowTextFine, rowPerhapsFine, rowsFine, referenceRowFine, commentRowFine, qualifierRowFine, qualifiersFine, featuresFine, lengthsFine, headFine, countsFine, roomsFine}
 use Rattle.spec_format.specs.declared.Span.{Span}
 use Rattle.spec_format.specs.declared.Text.{Text}
 use Rattle.spec_format.specs.declared.Text.the-variants as text
 use Rattle.spec_format.specs.declared.SourceText.{SourceText}
 use Rattle.spec_format.specs.declared.SourceText.the-variants as source
+use Rattle.spec_format.specs.declared.ContigText.{ContigText}
+use Rattle.spec_format.specs.declared.ContigText.the-variants as contig
 use Rattle.spec_format.specs.declared.Head.{Head}
 use Rattle.judge_rooms.specs.Parts.{featureNext}
-use Rattle.judge_rooms.specs.Steps.{and-left, and-right, span-within, rows-each, features-step, afterNext}
+use Rattle.judge_rooms.specs.Steps.{and-left, and-right, span-within, rows-each, featureLocated, features-step, afterNext}
 use Rattle.judge_rooms.specs.declared.Next.{Next}
 use Rattle.judge_rooms.specs.declared.Next.the-variants as next
 use Rattle.spec_format.specs.Impossible.{impossible}
@@ -36,6 +38,10 @@ abbrev pub SourceIn : List ℕ → SourceText → Type 0
 SourceIn store source.Absent = Unit
 SourceIn store (source.At s o) = SpanIn store s × TextIn store o
 
+abbrev pub ContigIn : List ℕ → ContigText → Type 0
+ContigIn store contig.Absent = Unit
+ContigIn store (contig.At s row rows) = SpanIn store s
+
 -- the text whose start and length stand at a place of a room of rows
 abbrev pub RowText : List ℕ → List ℕ → ℕ → Type 0
 RowText store room at = getD room at 0 + getD room (at + 1) 0 ≤ length store
@@ -48,8 +54,9 @@ pub record LengthsIn (r : Rooms) : Type 0 where
   pub texts : length (r .texts) ≤ most
   pub references : length (r .references) / 14 ≤ most
   pub comments : length (r .comments) / 2 ≤ most
-  pub features : length (r .features) / 6 ≤ most
+  pub features : length (r .features) / 8 ≤ most
   pub qualifiers : length (r .qualifiers) / 4 ≤ most
+  pub locations : length (r .locations) / 7 ≤ most
   pub letters : length (r .letters) ≤ most
 
 pub record HeadIn (store : List ℕ) (h : Head) : Type 0 where
@@ -62,12 +69,11 @@ pub record HeadIn (store : List ℕ) (h : Head) : Type 0 where
   pub dblink : TextIn store (h .dblink)
   pub keywords : TextIn store (h .keywords)
   pub source : SourceIn store (h .source)
-  pub contig : TextIn store (h .contig)
 
 pub record CountsIn (r : Rooms) (h : Head) : Type 0 where
   pub references : 14 * h .references ≤ length (r .references)
   pub comments : 2 * h .comments ≤ length (r .comments)
-  pub features : 6 * h .features ≤ length (r .features)
+  pub features : 8 * h .features ≤ length (r .features)
   pub letters : h .letters ≤ length (r .letters)
 
 pub record ReferenceIn (store rows : List ℕ) (at : ℕ) : Type 0 where
@@ -101,7 +107,7 @@ pub record RoomsIn (r : Rooms) (h : Head) : Type 0 where
   pub counts : CountsIn r h
   pub reference : (i : ℕ) → i < h .references → ReferenceIn (r .texts) (r .references) (14 * i)
   pub comment : (i : ℕ) → i < h .comments → RowText (r .texts) (r .comments) (2 * i)
-  pub feature : (i : ℕ) → i < h .features → FeatureIn r (6 * i)
+  pub feature : (i : ℕ) → i < h .features → FeatureIn r (8 * i)
 
 -- ---- from the tests
 
@@ -115,6 +121,10 @@ source-in store (source.At s o) h = (
   span-within _ _ _ (and-left (spanFine (length store) (s .start) (s .length)) (textFine (length store) o) h),
   text-in store o (and-right (spanFine (length store) (s .start) (s .length)) (textFine (length store) o) h),
 )
+
+pub contig-in : (r : Rooms) (c : ContigText) → contigTextFine r c ≡ true → ContigIn (r .texts) c
+contig-in r contig.Absent h = tt
+contig-in r (contig.At s row rows) h = span-within _ _ _ (and-left (spanFine (length (r .texts)) (s .start) (s .length)) _ h)
 
 perhaps-in : (r : Rooms) (rows : List ℕ) (at : ℕ) → rowPerhapsFine r rows at ≡ true → RowPerhaps (r .texts) rows at
 perhaps-in r rows at h l = span-within _ _ _ (rw (ne-eqb (getD rows (at + 1) 0) 0 (λ e. omega arith)) at h)
@@ -130,6 +140,7 @@ lengths-in r h =
       comments = leb-true _ _ (search parts depth 12);
       features = leb-true _ _ (search parts depth 12);
       qualifiers = leb-true _ _ (search parts depth 12);
+      locations = leb-true _ _ (search parts depth 12);
       letters = leb-true _ _ (search parts depth 12);
     }
 
@@ -146,7 +157,6 @@ head-in r h e =
       dblink = text-in (r .texts) (h .dblink) (search parts depth 12);
       keywords = text-in (r .texts) (h .keywords) (search parts depth 12);
       source = source-in (r .texts) (h .source) (search parts depth 12);
-      contig = text-in (r .texts) (h .contig) (search parts depth 12);
     }
 
 pub counts-in : (r : Rooms) (h : Head) → countsFine r h ≡ true → CountsIn r h
@@ -154,7 +164,7 @@ unfolding countsFine
 counts-in r h e =
     let a : h .references ≤ length (r .references) / 14 = leb-true _ _ (search parts depth 12) in
     let b : h .comments ≤ length (r .comments) / 2 = leb-true _ _ (search parts depth 12) in
-    let c : h .features ≤ length (r .features) / 6 = leb-true _ _ (search parts depth 12) in
+    let c : h .features ≤ length (r .features) / 8 = leb-true _ _ (search parts depth 12) in
     record { references = omega arith; comments = omega arith; features = omega arith; letters = leb-true _ _ (search parts depth 12) }
 
 pub reference-in : (r : Rooms) (at : ℕ) → referenceRowFine r at ≡ true → ReferenceIn (r .texts) (r .references) at
@@ -208,17 +218,17 @@ feature-in r at from f h = go _ refl _ refl _ refl
         }
     go true p false q false s = let e : next.Wrong ≡ next.From f = rw (p, q, s) at h in impossible cc
 
-pub features-each : (r : Rooms) (i from n j : ℕ) → featuresFine r i from n ≡ true → i ≤ j → j < i + n → FeatureIn r (6 * j)
+pub features-each : (r : Rooms) (i from n j : ℕ) → featuresFine r i from n ≡ true → i ≤ j → j < i + n → FeatureIn r (8 * j)
 features-each r i from zero j h p q = absurd (omega arith)
-features-each r i from (suc n) j h p q = go (featureNext r (6 * i) from) refl (rw features-step at h) (λ f. features-each r (i + 1) f n j)
+features-each r i from (suc n) j h p q = go (featureNext r (8 * i) from) refl (rw features-step at h) (λ f. features-each r (i + 1) f n j)
   where
-    go : (o : Next) → featureNext r (6 * i) from ≡ o → afterNext r i n (featureNext r (6 * i) from) ≡ true
-        → ((f : ℕ) → featuresFine r (i + 1) f n ≡ true → i + 1 ≤ j → j < i + 1 + n → FeatureIn r (6 * j)) → FeatureIn r (6 * j)
+    go : (o : Next) → featureNext r (8 * i) from ≡ o → afterNext r i n (featureNext r (8 * i) from) ≡ true
+        → ((f : ℕ) → featuresFine r (i + 1) f n ≡ true → i + 1 ≤ j → j < i + 1 + n → FeatureIn r (8 * j)) → FeatureIn r (8 * j)
     go next.Wrong e g ih = absurd (false≢true (rw e at g))
     go (next.From f) e g ih =
         elim (decLe (i + 1) j) [
-          | yes m ↦ ih f (rw e at g) m (omega arith)
-          | no m ↦ (let k : j ≡ i = omega (arith, lt-of-not-le m) in rw k (feature-in r (6 * i) from f e))
+          | yes m ↦ ih f (and-right (featureLocated r (8 * i)) _ (rw e at g)) m (omega arith)
+          | no m ↦ (let k : j ≡ i = omega (arith, lt-of-not-le m) in rw k (feature-in r (8 * i) from f e))
         ]
 
 -- what the writers require

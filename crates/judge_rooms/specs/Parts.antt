@@ -7,26 +7,27 @@ use lib.ListN.{length, getD}
 use lib.Dec.{eqb}
 use Rattle.spec_format.specs.Bytes.{pick}
 use Rattle.spec_format.specs.Rooms.{Rooms, rowTextFine, qualifiersFine, roomsIn}
+use Rattle.spec_format.specs.declared.ContigText.the-variants as contig
 use Rattle.spec_format.specs.declared.Head.{Head}
 use Rattle.judge_rooms.specs.declared.Next.{Next}
 use Rattle.judge_rooms.specs.declared.Next.the-variants as next
 
 -- rooms of which only those named matter
 abbrev pub referenceRooms : List ℕ → List ℕ → Rooms
-referenceRooms t r = roomsIn t r [] [] [] []
+referenceRooms t r = roomsIn t r [] [] [] [] []
 
 abbrev pub commentRooms : List ℕ → List ℕ → Rooms
-commentRooms t c = roomsIn t [] c [] [] []
+commentRooms t c = roomsIn t [] c [] [] [] []
 
 abbrev pub qualifierRooms : List ℕ → List ℕ → Rooms
-qualifierRooms t q = roomsIn t [] [] [] q []
+qualifierRooms t q = roomsIn t [] [] [] q [] []
 
 abbrev pub featureRooms : List ℕ → List ℕ → List ℕ → Rooms
-featureRooms t f q = roomsIn t [] [] f q []
+featureRooms t f q = roomsIn t [] [] f q [] []
 
--- the head of a table without its features
-abbrev pub noRows : Head → Head
-noRows h =
+-- the head of a table without what has locations: its features and CONTIG
+abbrev pub restHead : Head → Head
+restHead h =
     record {
       name = h .name;
       length = h .length;
@@ -43,7 +44,7 @@ noRows h =
       references = h .references;
       comments = h .comments;
       features = 0;
-      contig = h .contig;
+      contig = contig.Absent;
       letters = h .letters;
     }
 
@@ -52,7 +53,7 @@ pub record Within (r : Rooms) (from first count : ℕ) (ok : Bool) : Type 0 wher
   pub is : ok ≡ qualifiersFine r from first count
   pub end : ok ≡ true → first + count ≤ length (r .qualifiers) / 4
 
--- the feature whose row is at a place: where the next one's qualifiers may start
+-- the feature whose row is at a place, but for its location rows: where the next one's qualifiers may start
 unfoldable pub featureNext : Rooms → ℕ → ℕ → Next
 featureNext r at from =
     pick (rowTextFine r (r .features) at && rowTextFine r (r .features) (at + 2))

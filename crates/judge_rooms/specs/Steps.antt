@@ -8,7 +8,7 @@ use native.Mathlib.Nat.{lt-of-not-le}
 use lib.ListN.{getD}
 use lib.Dec.{eqb, leb}
 use borrow.Author.Tests.{not-true, not-false, leb-true}
-use Rattle.spec_format.specs.Rooms.{Rooms, rowsFine, spanFine, rowTextFine, qualifierRowFine, qualifiersFine, featuresFine}
+use Rattle.spec_format.specs.Rooms.{Rooms, textIn, rowsFine, spanFine, rowTextFine, locationFine, qualifierRowFine, qualifiersFine, featureRowFine, featuresFine}
 use Rattle.judge_rooms.specs.Parts.{featureNext, featureRooms}
 use Rattle.judge_rooms.specs.declared.Next.{Next}
 use Rattle.judge_rooms.specs.declared.Next.the-variants as next
@@ -75,38 +75,46 @@ rows-each f w i (suc n) j h p q = go (f (w * i)) refl (rows-each f w (i + 1) n j
 
 -- ---- features
 
+-- number 10 of the location rows of the feature at a place
+abbrev pub featureLocated : Rooms → ℕ → Bool
+featureLocated r at = locationFine false r (textIn (r .texts) (r .features) (at + 2)) (getD (r .features) (at + 6) 0) (getD (r .features) (at + 7) 0)
+
 abbrev pub afterNext : Rooms → ℕ → ℕ → Next → Bool
-afterNext r i k (next.From f) = featuresFine r (i + 1) f k
+afterNext r i k (next.From f) = featureLocated r (8 * i) && featuresFine r (i + 1) f k
 afterNext r i k next.Wrong = false
 
-pub features-step : (r : Rooms) (i from k : ℕ) → featuresFine r i from (suc k) ≡ afterNext r i k (featureNext r (6 * i) from)
-unfolding featuresFine featureNext
+pub features-step : (r : Rooms) (i from k : ℕ) → featuresFine r i from (suc k) ≡ afterNext r i k (featureNext r (8 * i) from)
+unfolding featuresFine featureNext featureRowFine
 features-step r i from k =
-    go _ refl _ refl _ refl
+    go _ refl _ refl _ refl _ refl _ refl
   where
-    go : (x : Bool) → (rowTextFine r (r .features) (6 * i) && rowTextFine r (r .features) (6 * i + 2)) ≡ x → (y : Bool)
-        → eqb (getD (r .features) (6 * i + 5) 0) 0 ≡ y → (z : Bool)
-        → qualifiersFine r from (getD (r .features) (6 * i + 4) 0) (getD (r .features) (6 * i + 5) 0) ≡ z
-        → featuresFine r i from (suc k) ≡ afterNext r i k (featureNext r (6 * i) from)
-    go false p y q z s = rw (featuresFine, p)
-    go true p true q z s = rw (featuresFine, p, q)
-    go true p false q false s = rw (featuresFine, p, q, s)
-    go true p false q true s = rw (featuresFine, p, q, s)
+    go : (a : Bool) → rowTextFine r (r .features) (8 * i) ≡ a → (b : Bool) → rowTextFine r (r .features) (8 * i + 2) ≡ b → (l : Bool)
+        → featureLocated r (8 * i) ≡ l → (y : Bool) → eqb (getD (r .features) (8 * i + 5) 0) 0 ≡ y → (z : Bool)
+        → qualifiersFine r from (getD (r .features) (8 * i + 4) 0) (getD (r .features) (8 * i + 5) 0) ≡ z
+        → featuresFine r i from (suc k) ≡ afterNext r i k (featureNext r (8 * i) from)
+    go false p b q l s y t z u = rw (featuresFine, p)
+    go true p false q l s y t z u = rw (featuresFine, p, q)
+    go true p true q false s true t z u = rw (featuresFine, p, q, s, t, s)
+    go true p true q false s false t true u = rw (featuresFine, p, q, s, t, u, s)
+    go true p true q false s false t false u = rw (featuresFine, p, q, s, t, u)
+    go true p true q true s true t z u = rw (featuresFine, p, q, s, t, s)
+    go true p true q true s false t false u = rw (featuresFine, p, q, s, t, u)
+    go true p true q true s false t true u = rw (featuresFine, p, q, s, t, u, s)
+
+module _ (r : Rooms) (i n from : ℕ) (whole : Bool) (o : Next) (g : whole ≡ featuresFine r i from (n - i)) (l : i < n) (h : o ≡ featureNext r (8 * i) from) where
+  by-next : whole ≡ afterNext r i (n - (i + 1)) o
+  by-next = let e : n - i ≡ suc (n - (i + 1)) = omega arith in g ∙ rw (e, features-step, ← h)
+
+  pub features-go : (f : ℕ) → o ≡ next.From f → featureLocated r (8 * i) ≡ true → whole ≡ featuresFine r (i + 1) f (n - (i + 1))
+  features-go f p t = by-next ∙ rw (p, t)
+
+  pub features-no : o ≡ next.Wrong → false ≡ whole
+  features-no p = sym (by-next ∙ rw p)
+
+  pub features-unlocated : (f : ℕ) → o ≡ next.From f → featureLocated r (8 * i) ≡ false → false ≡ whole
+  features-unlocated f p t = sym (by-next ∙ rw (p, t))
 
 module _ (r : Rooms) (i n from : ℕ) where
-  pub features-go : (whole : Bool) (o : Next) (f : ℕ) → whole ≡ featuresFine r i from (n - i) → i < n → o ≡ featureNext r (6 * i) from → o ≡ next.From f
-      → whole ≡ featuresFine r (i + 1) f (n - (i + 1))
-  features-go whole o f g l h p =
-      let e : n - i ≡ suc (n - (i + 1)) = omega arith in
-      let x : featureNext r (6 * i) from ≡ next.From f = sym h ∙ p in
-      g ∙ rw (e, features-step, x)
-
-  pub features-no : (whole : Bool) (o : Next) → whole ≡ featuresFine r i from (n - i) → i < n → o ≡ featureNext r (6 * i) from → o ≡ next.Wrong → false ≡ whole
-  features-no whole o g l h p =
-      let e : n - i ≡ suc (n - (i + 1)) = omega arith in
-      let x : featureNext r (6 * i) from ≡ next.Wrong = sym h ∙ p in
-      sym (g ∙ rw (e, features-step, x))
-
   pub features-end : (whole : Bool) → whole ≡ featuresFine r i from (n - i) → n ≤ i → true ≡ whole
   unfolding featuresFine
   features-end whole g l = let e : n - i ≡ 0 = omega arith in sym (g ∙ rw e)

@@ -11,7 +11,7 @@ ghost use mathlib.Core.List.{[]};
 ghost use Prim.Native.Nat.{_+_, _-_, _*_, _/_, _≤_, _<_};
 ghost use lib.ListN.{length};
 ghost use Rattle.spec_format.specs.Rooms.{spanFine, textFine, sourceFine, rowTextFine, rowPerhapsFine, rowsFine, referenceRowFine, commentRowFine, qualifierRowFine, lengthsFine, headFine, countsFine, roomsFine, roomsIn};
-ghost use Rattle.judge_rooms.specs.Parts.{referenceRooms, commentRooms, qualifierRooms, featureRooms, featureNext, noRows, Within};
+ghost use Rattle.judge_rooms.specs.Parts.{referenceRooms, commentRooms, qualifierRooms, featureRooms, featureNext, restHead, Within};
 
 // No sum is made, so none can wrap.
 pub fn span_fine(room: usize, start: usize, n: usize) -> bool
@@ -151,7 +151,7 @@ fn qualifiers_fine(
     qualifier_rows_fine(texts, qualifiers, first, first + count)
 }
 
-// Where the qualifiers of the next feature may start, or that this one is not in order.
+// Where the qualifiers of the next feature may start, or that this one is not in order. Its location rows are not looked at.
 pub enum Next {
     From(usize),
     Wrong,
@@ -190,14 +190,16 @@ fn lengths_fine(
     references: &[usize],
     comments: &[usize],
     qualifiers: &[usize],
+    locations: &[usize],
     letters: &[u8],
 ) -> bool
-    ensures { λ r. ⌜ r ≡ lengthsFine (roomsIn (now (texts .entry)) (now (references .entry)) (now (comments .entry)) [] (now (qualifiers .entry)) (now (letters .entry))) ⌝ }
+    ensures { λ r. ⌜ r ≡ lengthsFine (roomsIn (now (texts .entry)) (now (references .entry)) (now (comments .entry)) [] (now (qualifiers .entry)) (now (locations .entry)) (now (letters .entry))) ⌝ }
 {
-    let one = both(qualifiers.len() / 4 <= MOST, letters.len() <= MOST);
-    let two = both(comments.len() / 2 <= MOST, one);
-    let three = both(references.len() / 14 <= MOST, two);
-    both(texts.len() <= MOST, three)
+    let one = both(locations.len() / 7 <= MOST, letters.len() <= MOST);
+    let two = both(qualifiers.len() / 4 <= MOST, one);
+    let three = both(comments.len() / 2 <= MOST, two);
+    let four = both(references.len() / 14 <= MOST, three);
+    both(texts.len() <= MOST, four)
 }
 
 // The texts of LOCUS, and what else there is to test.
@@ -228,7 +230,7 @@ fn header_texts_fine(
 }
 
 fn head_fine(texts: &[u8], head: Head) -> bool
-    ensures { λ r. ⌜ r ≡ headFine (referenceRooms (now (texts .entry)) []) head ⌝ }
+    ensures { λ r. ⌜ r ≡ headFine (referenceRooms (now (texts .entry)) []) (restHead head) ⌝ }
 {
     let name = head.name;
     let molecule = head.molecule;
@@ -239,9 +241,8 @@ fn head_fine(texts: &[u8], head: Head) -> bool
     let dblink = head.dblink;
     let keywords = head.keywords;
     let source = head.source;
-    let contig = head.contig;
     let room = texts.len();
-    let from_source = both(source_fine(room, source), text_fine(room, contig));
+    let from_source = source_fine(room, source);
     let header = header_texts_fine(
         room,
         definition,
@@ -255,7 +256,7 @@ fn head_fine(texts: &[u8], head: Head) -> bool
 }
 
 fn counts_fine(references: &[usize], comments: &[usize], letters: &[u8], head: Head) -> bool
-    ensures { λ r. ⌜ r ≡ countsFine (roomsIn [] (now (references .entry)) (now (comments .entry)) [] [] (now (letters .entry))) (noRows head) ⌝ }
+    ensures { λ r. ⌜ r ≡ countsFine (roomsIn [] (now (references .entry)) (now (comments .entry)) [] [] [] (now (letters .entry))) (restHead head) ⌝ }
 {
     let one = both(
         head.comments <= comments.len() / 2,
@@ -264,18 +265,19 @@ fn counts_fine(references: &[usize], comments: &[usize], letters: &[u8], head: H
     both(head.references <= references.len() / 14, one)
 }
 
-// Number 10 is not due for anything but the features: of each of those `feature_next` says it.
+// Number 10 is not due for anything but the features, of each of which `feature_next` says it, and CONTIG.
 pub fn rest_fine(
     texts: &[u8],
     references: &[usize],
     comments: &[usize],
     qualifiers: &[usize],
+    locations: &[usize],
     letters: &[u8],
     head: Head,
 ) -> bool
-    ensures { λ r. ⌜ r ≡ roomsFine (roomsIn (now (texts .entry)) (now (references .entry)) (now (comments .entry)) [] (now (qualifiers .entry)) (now (letters .entry))) (noRows head) ⌝ }
+    ensures { λ r. ⌜ r ≡ roomsFine (roomsIn (now (texts .entry)) (now (references .entry)) (now (comments .entry)) [] (now (qualifiers .entry)) (now (locations .entry)) (now (letters .entry))) (restHead head) ⌝ }
 {
-    if !lengths_fine(texts, references, comments, qualifiers, letters) {
+    if !lengths_fine(texts, references, comments, qualifiers, locations, letters) {
         return false;
     }
     if !head_fine(texts, head) {

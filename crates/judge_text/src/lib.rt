@@ -11,7 +11,7 @@ ghost use mathlib.Core.Bool.{_&&_};
 ghost use Prim.Native.Nat.{_+_, _≤_, _<_};
 ghost use lib.ListN.{length, drop};
 ghost use Rattle.spec_format.specs.Bytes.{all, some, visible, printing, letter, but, starts};
-ghost use Rattle.spec_format.specs.Features.{locationText, kindText};
+ghost use Rattle.spec_format.specs.Features.{kindText};
 ghost use Rattle.spec_format.specs.WellFormed.{commaText, kindFine, keyFine};
 ghost use Rattle.spec_format.specs.Keeping.{spaceless, linesKept, headerKept, kindKept, translationKept, bareKept, valueKept};
 ghost use Rattle.judge_text.specs.Words.{sameByte, Passed, Small, columnAfter};
@@ -177,13 +177,6 @@ fn visible_some(s: &[u8]) -> bool
         return false;
     }
     visible_all(s)
-}
-
-// A location, or CONTIG.
-pub fn location_fine(s: &[u8]) -> bool
-    ensures { λ r. ⌜ r ≡ locationText (now (s .entry)) ⌝ }
-{
-    visible_some(s)
 }
 
 // A value that is broken at commas.

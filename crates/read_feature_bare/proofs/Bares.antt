@@ -1,17 +1,16 @@
 -- A whole bare text: its first line and the further ones, its tests, and its way into a room. Assumes nothing.
 use Prim.Native.Nat.{ℕ, _+_, _-_, _≤_}
-use mathlib.Core.Path.{_≡_, refl, sym, subst, _∙_}
-use mathlib.Core.Bool.{Bool, true, false, _&&_}
-use mathlib.Core.List.{List, [], _∷_, _++_}
+use mathlib.Core.Path.{_≡_, refl, sym, _∙_}
+use mathlib.Core.Bool.{Bool, true, false}
+use mathlib.Core.List.{List, _++_}
 use native.Mathlib.Omega.{arith}
-use lib.ListN.{length, drop, length-append, length-drop}
-use lib.Dec.{eqb, leb}
-use borrow.Author.Tests.{lt-ltb, leb-true}
-use Rattle.spec_format.specs.Bytes.{all, visible, concat}
+use lib.ListN.{length, drop, length-append}
+use lib.Dec.{eqb}
+use Rattle.spec_format.specs.Bytes.{concat}
 use Rattle.spec_format.specs.Utf8.{utf8}
 use Rattle.spec_format.specs.Readers.{Ans, Got, No, Cut, bind, mapped, passing, utf8Of, line, loop, end}
-use Rattle.spec_format.specs.Features.{bareMore, bare, locationText}
-use Rattle.spec_loops.specs.Shrinks.{bareMore-small, bare-takes, leaves-length}
+use Rattle.spec_format.specs.Features.{bareMore, bare}
+use Rattle.spec_loops.specs.Shrinks.{bareMore-small}
 use Rattle.scan_bytes.specs.Places.{part}
 use Rattle.scan_bytes.specs.Parts.{length-part}
 use Rattle.scan_bytes.specs.Views.{Lined}
@@ -23,37 +22,13 @@ use Rattle.read_feature_joined.specs.Views.{Valued, passing-got, passing-no}
 use Rattle.read_feature_joined.specs.declared.Value.the-variants as value
 use Rattle.base_pen.specs.Pen.{Writes, Left, left-start, writes-append, writes-nil}
 use Rattle.scan_utf8.specs.declared.State.{State}
-use Rattle.scan_utf8.specs.States.{start, ascii, Ran, ran-append, ran-utf8}
-use Rattle.scan_utf8.proofs.Chars.{ascii-ran}
+use Rattle.scan_utf8.specs.States.{start, Ran, ran-append, ran-utf8}
 use Rattle.read_feature_bare.specs.declared.Further.{Further}
 use Rattle.read_feature_bare.specs.declared.Further.the-variants as further
 use Rattle.read_feature_bare.specs.declared.Bare.{Bare}
 use Rattle.read_feature_bare.specs.declared.Bare.the-variants as bare′
-use Rattle.read_feature_bare.specs.Bared.{bareText, Furthered, BareSpan, PastBare, Bared}
-use Rattle.read_feature_bare.proofs.Lines.{further-places, further-is, and-all}
-
--- ---- visible bytes are ASCII
-
-visible-byte : (b : ℕ) → visible b ≡ true → ascii b ≡ true
-visible-byte b h = lt-ltb b 128 (omega (arith, leb-true b 126 (second (leb 33 b) (leb b 126) h)))
-  where
-    second : (x y : Bool) → x && y ≡ true → y ≡ true
-    second true y e = e
-    second false y e = cc
-
-visible-ascii : (t : List ℕ) → all visible t ≡ true → all ascii t ≡ true
-visible-ascii [] h = refl
-visible-ascii (b ∷ t) h = go (visible-ascii t) (visible b) refl
-  where
-    go : (all visible t ≡ true → all ascii t ≡ true) → (x : Bool) → visible b ≡ x → all ascii (b ∷ t) ≡ true
-    go ih true e = rw (visible-byte b e) (ih (rw e at h))
-    go ih false e = let z = rw e at h in cc
-
-pub visible-ran : (t : List ℕ) (seen : Bool) (u : State) → seen ≡ true && all visible t → seen ≡ true → u ≡ start → Ran start t u
-visible-ran t seen u e f g = ascii-ran start t true u refl (sym (visible-ascii t (sym e ∙ f))) refl g
-
-pub started-ran : (t : List ℕ) (u v : State) → u ≡ start → Ran u t v → Ran start t v
-started-ran t u v e h = rw e at h
+use Rattle.read_feature_bare.specs.Bared.{bareText, Furthered, Bared, bared-is, bared-span, bared-places}
+use Rattle.read_feature_bare.proofs.Lines.{further-places, further-is}
 
 -- ---- places of a line
 
@@ -83,27 +58,27 @@ module _ (s : List ℕ) (at indent : ℕ) (l : Line) where
   unfolding bareText
   text-line e = rw e
 
-  pub first-no : Lined s at (line (drop at s)) l → l ≡ line′.No → Bared s at 0 true start (bareText indent (drop at s)) (bare indent (drop at s)) bare′.No
+  pub first-no : Lined s at (line (drop at s)) l → l ≡ line′.No → Bared s at 0 start (bareText indent (drop at s)) (bare indent (drop at s)) bare′.No
   unfolding bare
   first-no h q = record { is = rw (← h .is, q); place = tt }
 
-  pub first-cut : Lined s at (line (drop at s)) l → l ≡ line′.Cut → Bared s at 0 true start (bareText indent (drop at s)) (bare indent (drop at s)) bare′.Cut
+  pub first-cut : Lined s at (line (drop at s)) l → l ≡ line′.Cut → Bared s at 0 start (bareText indent (drop at s)) (bare indent (drop at s)) bare′.Cut
   unfolding bare
   first-cut h q = record { is = rw (← h .is, q); place = tt }
 
-  pub first-got : (e n : ℕ) (seen : Bool) (u v : State) (r : Bare)
-      → Lined s at (line (drop at s)) l → l ≡ line′.Got e n → seen ≡ true && all visible (part at e s) → u ≡ start → Ran u (part at e s) v
-      → Bared s n (e - at) seen v (taken (bareMore indent) (drop n s)) (gathered (bareMore indent) (drop n s)) r
-      → Bared s at 0 true start (bareText indent (drop at s)) (bare indent (drop at s)) r
-  first-got e n seen u v r h q k g a b =
+  pub first-got : (e n : ℕ) (u v : State) (r : Bare)
+      → Lined s at (line (drop at s)) l → l ≡ line′.Got e n → u ≡ start → Ran u (part at e s) v
+      → Bared s n (e - at) v (taken (bareMore indent) (drop n s)) (gathered (bareMore indent) (drop n s)) r
+      → Bared s at 0 start (bareText indent (drop at s)) (bare indent (drop at s)) r
+  first-got e n u v r h q g a b =
       rw (text-line (line-is h q), bare-line (line-is h q)) (go r b)
     where
       t : List ℕ
       t = taken (bareMore indent) (drop n s)
 
-      go : (r : Bare) → Bared s n (e - at) seen v t (gathered (bareMore indent) (drop n s)) r
-          → Bared s at 0 true start (part at e s ++ t) (mapped (λ x. part at e s ++ x) (gathered (bareMore indent) (drop n s))) r
-      go (bare′.Got c m vis w) b =
+      go : (r : Bare) → Bared s n (e - at) v t (gathered (bareMore indent) (drop n s)) r
+          → Bared s at 0 start (part at e s ++ t) (mapped (λ x. part at e s ++ x) (gathered (bareMore indent) (drop n s))) r
+      go (bare′.Got c m w) b =
           let p = line-places h q in
           let z : e ≤ length s = omega arith in
           let x : length (part at e s) ≡ e - at = length-part s at e (p .0) z in
@@ -116,7 +91,6 @@ module _ (s : List ℕ) (at indent : ℕ) (l : Line) where
                   within = b .place .within;
                   long = omega (arith, length-append (part at e s) t);
                   short = omega arith;
-                  shown = b .place .shown ∙ sym (and-all true seen (part at e s) t _ refl k);
                   ran = ran-append start v w (part at e s) t (rw g at a) (b .place .ran);
                 };
           }
@@ -127,77 +101,33 @@ pub ruleset firsts = (line-long, line-ended, line-short, first-no, first-cut, fi
 
 -- ---- the tests
 
-module _ (s : List ℕ) (at indent : ℕ) (r : Bare) (h : Bared s at 0 true start (bareText indent (drop at s)) (bare indent (drop at s)) r) where
+module _ (s : List ℕ) (at indent : ℕ) (r : Bare) (h : Bared s at 0 start (bareText indent (drop at s)) (bare indent (drop at s)) r) where
   bared-no : (p : List ℕ → Bool) → r ≡ bare′.No → Valued s at (bareText indent (drop at s)) (passing p (bare indent (drop at s))) value.No
   bared-no p q = record { is = rw (← h .is, q); place = tt }
 
   bared-cut : (p : List ℕ → Bool) → r ≡ bare′.Cut → Valued s at (bareText indent (drop at s)) (passing p (bare indent (drop at s))) value.Cut
   bared-cut p q = record { is = rw (← h .is, q); place = tt }
 
-  module _ (n next : ℕ) (vis : Bool) (state : State) (q : r ≡ bare′.Got n next vis state) where
-    bared-is : bare indent (drop at s) ≡ Got (bareText indent (drop at s)) (drop next s)
-    bared-is = rw (← h .is, q)
-
-    bared-span : BareSpan s at 0 true start (bareText indent (drop at s)) n next vis state
-    bared-span = subst (λ (x : Bare). PastBare s at 0 true start (bareText indent (drop at s)) x) q (h .place)
-
+  module _ (n next : ℕ) (state : State) (q : r ≡ bare′.Got n next state) where
     passed : (p : List ℕ → Bool) → p (bareText indent (drop at s)) ≡ true
         → Valued s at (bareText indent (drop at s)) (passing p (bare indent (drop at s))) (value.Got n next)
-    passed p e =
-        let k = leaves-length (bare-takes indent (drop at s)) _ _ bared-is in
-        let b = bared-span in let w = b .within in let f = b .from in let y = b .short in let d = b .long in
-        let i : length (drop next s) ≡ length s - next = length-drop next s in
-        let j : length (drop at s) ≡ length s - at = length-drop at s in
-        record { is = passing-got p bared-is e; place = record { from = omega arith; within = w; long = omega arith; short = omega arith } }
+    passed p e = record { is = passing-got p (bared-is h q) e; place = bared-places s at indent r n next state h q }
 
     failed : (p : List ℕ → Bool) → p (bareText indent (drop at s)) ≡ false
         → Valued s at (bareText indent (drop at s)) (passing p (bare indent (drop at s))) value.No
-    failed p e = record { is = passing-no p bared-is e; place = tt }
-
-    all-seen : vis ≡ all visible (bareText indent (drop at s))
-    all-seen = bared-span .shown
-
-    pub location-empty : n ≡ 0 → Valued s at (bareText indent (drop at s)) (passing locationText (bare indent (drop at s))) value.No
-    location-empty z = failed locationText (go (bareText indent (drop at s)) (let d = bared-span .long in omega arith))
-      where
-        go : (t : List ℕ) → length t ≡ 0 → locationText t ≡ false
-        go [] e = refl
-        go (b ∷ t) e = absurd (omega arith)
-
-    pub location-got : (n ≡ 0 → ⊥) → vis ≡ true → Valued s at (bareText indent (drop at s)) (passing locationText (bare indent (drop at s))) (value.Got n next)
-    location-got z v =
-        passed locationText (go (bareText indent (drop at s)) (λ e. z (let d = bared-span .long in omega arith)) (sym all-seen ∙ v))
-      where
-        go : (t : List ℕ) → (length t ≡ 0 → ⊥) → all visible t ≡ true → locationText t ≡ true
-        go [] f e = absurd (f refl)
-        go (b ∷ t) f e = e
-
-    pub location-other : vis ≡ false → Valued s at (bareText indent (drop at s)) (passing locationText (bare indent (drop at s))) value.No
-    location-other v = failed locationText (go (bareText indent (drop at s)) (sym all-seen ∙ v))
-      where
-        go : (t : List ℕ) → all visible t ≡ false → locationText t ≡ false
-        go [] e = refl
-        go (b ∷ t) e = e
+    failed p e = record { is = passing-no p (bared-is h q) e; place = tt }
 
     pub text-valid : (ok : Bool) → ok ≡ eqb (state .more) 0 → ok ≡ true → Valued s at (bareText indent (drop at s)) (utf8Of (bare indent (drop at s))) (value.Got n next)
-    text-valid ok e v = passed utf8 (ran-utf8 _ state (bared-span .ran) ∙ sym e ∙ v)
+    text-valid ok e v = passed utf8 (ran-utf8 _ state (bared-span h q .ran) ∙ sym e ∙ v)
 
     pub text-invalid : (ok : Bool) → ok ≡ eqb (state .more) 0 → ok ≡ false → Valued s at (bareText indent (drop at s)) (utf8Of (bare indent (drop at s))) value.No
-    text-invalid ok e v = failed utf8 (ran-utf8 _ state (bared-span .ran) ∙ sym e ∙ v)
-
-  pub location-no : r ≡ bare′.No → Valued s at (bareText indent (drop at s)) (passing locationText (bare indent (drop at s))) value.No
-  location-no q = bared-no locationText q
-
-  pub location-cut : r ≡ bare′.Cut → Valued s at (bareText indent (drop at s)) (passing locationText (bare indent (drop at s))) value.Cut
-  location-cut q = bared-cut locationText q
+    text-invalid ok e v = failed utf8 (ran-utf8 _ state (bared-span h q .ran) ∙ sym e ∙ v)
 
   pub text-no : r ≡ bare′.No → Valued s at (bareText indent (drop at s)) (utf8Of (bare indent (drop at s))) value.No
   text-no q = bared-no utf8 q
 
   pub text-cut : r ≡ bare′.Cut → Valued s at (bareText indent (drop at s)) (utf8Of (bare indent (drop at s))) value.Cut
   text-cut q = bared-cut utf8 q
-
-pub ruleset locations = (location-empty, location-got, location-other, location-no, location-cut)
 
 pub ruleset texts = (text-valid, text-invalid, text-no, text-cut)
 

@@ -1,14 +1,14 @@
 -- One further line of a bare text, and the loops over them. Assumes nothing.
 use Prim.Native.Nat.{ℕ, zero, suc, _+_, _-_, _≤_, _<_}
 use mathlib.Core.Path.{_≡_, refl, sym, subst, _∙_}
-use mathlib.Core.Bool.{Bool, true, false, _&&_}
-use mathlib.Core.List.{List, [], _∷_, _++_}
+use mathlib.Core.Bool.{Bool, true, false}
+use mathlib.Core.List.{List}
 use native.Mathlib.Omega.{arith}
 use lib.ListN.{length, getD, drop, drop-of-length-le}
 use lib.Seq.{drop-cons}
 use borrow.Author.Tests.{eq-eqb, ne-eqb}
 use lib.Dec.{eqb}
-use Rattle.spec_format.specs.Bytes.{all, visible, spaces}
+use Rattle.spec_format.specs.Bytes.{spaces}
 use Rattle.spec_format.specs.Readers.{Ans, Got, No, bind, tag, line, Turn, end}
 use Rattle.spec_format.specs.Features.{notSlash, bareTurn, bareMore}
 use Rattle.spec_loops.specs.Loops.{end-on, end-stops, end-noes, end-cuts}
@@ -106,24 +106,8 @@ pub ruleset places = (further-long, further-ended, further-less)
 pub further-is : {s : List ℕ} {at : ℕ} {o : Ans (Turn (List ℕ))} {r x : Further} → Furthered s at o r → r ≡ x → o ≡ furtherOf s at x
 further-is h e = rw (← h .is, e)
 
-pub and-all : (x y : Bool) (a b t : List ℕ) → t ≡ a ++ b → y ≡ x && all visible a → x && all visible t ≡ y && all visible b
-and-all x y a b t e f = rw (e, f) (go x a)
-  where
-    go : (x : Bool) (a : List ℕ) → x && all visible (a ++ b) ≡ (x && all visible a) && all visible b
-    go false a = refl
-    go true [] = refl
-    go true (c ∷ a) = step (visible c) (go true a)
-      where
-        step : (y : Bool) → all visible (a ++ b) ≡ all visible a && all visible b → y && all visible (a ++ b) ≡ (y && all visible a) && all visible b
-        step true ih = ih
-        step false ih = refl
-
-and-none : (x : Bool) (t : List ℕ) → t ≡ [] → x && all visible t ≡ x
-and-none true t e = rw e
-and-none false t e = refl
-
 -- the scan of further lines has come from `at` to i
-pub record Going (s : List ℕ) (at indent first : ℕ) (seen : Bool) (before : State) (i n : ℕ) (vis : Bool) (state : State) : Type 0 where
+pub record Going (s : List ℕ) (at indent first : ℕ) (before : State) (i n : ℕ) (state : State) : Type 0 where
   pub from : at ≤ i
   pub below : first ≤ at
   pub within : i ≤ length s
@@ -131,20 +115,19 @@ pub record Going (s : List ℕ) (at indent first : ℕ) (seen : Bool) (before : 
   pub short : n + at ≤ i + first
   pub ends : end (bareMore indent) (drop at s) ≡ end (bareMore indent) (drop i s)
   pub so : SoFar (taken (bareMore indent) (drop at s)) (n - first) before state (taken (bareMore indent) (drop i s))
-  pub shown : seen && all visible (taken (bareMore indent) (drop at s)) ≡ vis && all visible (taken (bareMore indent) (drop i s))
 
-module _ (s : List ℕ) (at indent first : ℕ) (seen : Bool) (before : State) where
-  pub going-none : at ≤ length s → first ≤ at → Going s at indent first seen before at first seen before
+module _ (s : List ℕ) (at indent first : ℕ) (before : State) where
+  pub going-none : at ≤ length s → first ≤ at → Going s at indent first before at first before
   going-none h k =
       let z : first - first ≡ 0 = omega arith in
-      record { from = omega arith; below = k; counts = omega arith; within = h; short = omega arith; ends = refl; so = rw z (so-none _ before); shown = refl }
+      record { from = omega arith; below = k; counts = omega arith; within = h; short = omega arith; ends = refl; so = rw z (so-none _ before) }
 
-  module _ (i n : ℕ) (vis : Bool) (state : State) (r : Further) where
-    pub going-on : (from end next : ℕ) (vis′ : Bool) (state′ : State)
-        → Going s at indent first seen before i n vis state → Furthered s i (bareMore indent (drop i s)) r → r ≡ further.Line from end next
-        → vis′ ≡ vis && all visible (part from end s) → Ran state (part from end s) state′
-        → Going s at indent first seen before next (n + (end - from)) vis′ state′
-    going-on from end next vis′ state′ g h e v u =
+  module _ (i n : ℕ) (state : State) (r : Further) where
+    pub going-on : (from end next : ℕ) (state′ : State)
+        → Going s at indent first before i n state → Furthered s i (bareMore indent (drop i s)) r → r ≡ further.Line from end next
+        → Ran state (part from end s) state′
+        → Going s at indent first before next (n + (end - from)) state′
+    going-on from end next state′ g h e u =
         let p = further-places h e in
         let l = p .after in let m = p .long in let k = p .ended in let w = p .within in
         let a = g .from in let b = g .short in let q = g .counts in
@@ -160,11 +143,10 @@ module _ (s : List ℕ) (at indent first : ℕ) (seen : Bool) (before : State) w
           short = omega arith;
           ends = end-on (bareMore indent) (drop i s) _ (bareMore-small indent) (part from end s) (drop next s) (g .ends) (further-is h e);
           so = rw (x, z) at (so-more (part from end s) (taken (bareMore indent) (drop next s)) (g .so) y u);
-          shown = g .shown ∙ and-all vis vis′ (part from end s) (taken (bareMore indent) (drop next s)) (taken (bareMore indent) (drop i s)) y v;
         }
 
-    pub going-stop : Going s at indent first seen before i n vis state → Furthered s i (bareMore indent (drop i s)) r → r ≡ further.Stop
-        → Bared s at first seen before (taken (bareMore indent) (drop at s)) (gathered (bareMore indent) (drop at s)) (bare′.Got n i vis state)
+    pub going-stop : Going s at indent first before i n state → Furthered s i (bareMore indent (drop i s)) r → r ≡ further.Stop
+        → Bared s at first before (taken (bareMore indent) (drop at s)) (gathered (bareMore indent) (drop at s)) (bare′.Got n i state)
     going-stop g h e =
         let q = g .counts in
         let k = so-size (g .so) (taken-stop (bareMore indent) (drop i s) (drop i s) (further-is h e)) in
@@ -177,18 +159,17 @@ module _ (s : List ℕ) (at indent first : ℕ) (seen : Bool) (before : State) w
                 within = g .within;
                 long = omega arith;
                 short = g .short;
-                shown = sym (g .shown ∙ and-none vis _ y);
                 ran = so-ran (g .so) y;
               };
         }
 
-    pub going-no : Going s at indent first seen before i n vis state → Furthered s i (bareMore indent (drop i s)) r → r ≡ further.No
-        → Bared s at first seen before (taken (bareMore indent) (drop at s)) (gathered (bareMore indent) (drop at s)) bare′.No
+    pub going-no : Going s at indent first before i n state → Furthered s i (bareMore indent (drop i s)) r → r ≡ further.No
+        → Bared s at first before (taken (bareMore indent) (drop at s)) (gathered (bareMore indent) (drop at s)) bare′.No
     going-no g h e =
         record { is = sym (gathered-no (bareMore indent) (drop at s) (end-noes (bareMore indent) (drop i s) _ (g .ends) (further-is h e))); place = tt }
 
-    pub going-cut : Going s at indent first seen before i n vis state → Furthered s i (bareMore indent (drop i s)) r → r ≡ further.Cut
-        → Bared s at first seen before (taken (bareMore indent) (drop at s)) (gathered (bareMore indent) (drop at s)) bare′.Cut
+    pub going-cut : Going s at indent first before i n state → Furthered s i (bareMore indent (drop i s)) r → r ≡ further.Cut
+        → Bared s at first before (taken (bareMore indent) (drop at s)) (gathered (bareMore indent) (drop at s)) bare′.Cut
     going-cut g h e =
         record { is = sym (gathered-cut (bareMore indent) (drop at s) (end-cuts (bareMore indent) (drop i s) _ (g .ends) (further-is h e))); place = tt }
 

@@ -1,21 +1,18 @@
-// Bare texts of feature_table.rs, which are locations and unquoted values: a line and the further lines with the indent and no slash, joined by nothing.
+// Bare texts of feature_table.rs, which are the texts of locations and unquoted values: a line and the further lines with the indent and no slash, joined by nothing.
 use read_feature_joined::Value;
 use scan_bytes::Line;
 use scan_bytes::Step;
 use scan_utf8::State;
-ghost use mathlib.Core.Path.{_≡_};
 ghost use Prim.Native.Nat.{_≤_};
-ghost use mathlib.Core.Bool.{true, _&&_};
 ghost use lib.ListN.{length, drop};
-ghost use Rattle.spec_format.specs.Bytes.{spaces, all, visible};
-ghost use Rattle.spec_format.specs.Readers.{bind, passing, tag, utf8Of};
-ghost use Rattle.spec_format.specs.Features.{notSlash, bareMore, bare, locationText};
-ghost use Rattle.scan_bytes.specs.Places.{part};
+ghost use Rattle.spec_format.specs.Bytes.{spaces};
+ghost use Rattle.spec_format.specs.Readers.{bind, tag, utf8Of};
+ghost use Rattle.spec_format.specs.Features.{notSlash, bareMore, bare};
 ghost use Rattle.scan_bytes.specs.Views.{Stepped};
 ghost use Rattle.read_feature_joined.specs.Taken.{taken, gathered};
 ghost use Rattle.read_feature_joined.specs.Views.{Valued};
 ghost use Rattle.base_pen.specs.Pen.{Writes};
-ghost use Rattle.scan_utf8.specs.States.{start, Ran};
+ghost use Rattle.scan_utf8.specs.States.{start};
 ghost use Rattle.read_feature_bare.specs.Bared.{bareText, Furthered, Bared};
 
 // A further line's text, and the line after it; or that none stands here.
@@ -30,12 +27,11 @@ enum Further {
     Cut,
 }
 
-// A bare text's length, the place after it, whether all its bytes are visible, and the state in which it leaves the test of UTF-8.
-enum Bare {
+// A bare text's length, the place after it, and the state in which it leaves the test of UTF-8.
+pub enum Bare {
     Got {
         length: usize,
         next: usize,
-        visible: bool,
         state: State,
     },
     No,
@@ -82,27 +78,18 @@ fn further_at(s: &[u8], at: usize, indent: usize) -> Further
     }
 }
 
-// The further lines, with the count and the tests going on from those of the first line.
-fn further_lines(
-    s: &[u8],
-    at: usize,
-    indent: usize,
-    first: usize,
-    seen: bool,
-    before: State,
-) -> Bare
+// The further lines, with the count and the test going on from those of the first line.
+fn further_lines(s: &[u8], at: usize, indent: usize, first: usize, before: State) -> Bare
     requires { ⌜ (at ≤ length (now s)) × (first ≤ at) ⌝ }
-    ensures { λ r. ⌜ Bared (now (s .entry)) at first seen before (taken (bareMore indent) (drop at (now (s .entry)))) (gathered (bareMore indent) (drop at (now (s .entry)))) r ⌝ }
+    ensures { λ r. ⌜ Bared (now (s .entry)) at first before (taken (bareMore indent) (drop at (now (s .entry)))) (gathered (bareMore indent) (drop at (now (s .entry)))) r ⌝ }
 {
     let mut i = at;
     let mut length = first;
-    let mut visible = seen;
     let mut state = before;
     loop {
         match further_at(s, i, indent) {
             Further::Line { from, end, next } => {
                 length += end - from;
-                visible = read_feature_joined::visible_on(visible, s, from, end);
                 state = scan_utf8::utf8_on(state, s, from, end);
                 i = next;
             }
@@ -110,7 +97,6 @@ fn further_lines(
                 return Bare::Got {
                     length,
                     next: i,
-                    visible,
                     state,
                 };
             }
@@ -120,55 +106,18 @@ fn further_lines(
     }
 }
 
-// The state after a first line; `seen` says whether all its bytes are visible, and such bytes are ASCII.
-fn line_state(seen: bool, s: &[u8], from: usize, to: usize) -> State
-    requires { ⌜ (from ≤ to) × (to ≤ length (now s)) × (seen ≡ true && all visible (part from to (now s))) ⌝ }
-    ensures { λ r. ⌜ Ran start (part from to (now (s .entry))) r ⌝ }
-{
-    if seen {
-        return scan_utf8::started();
-    }
-    scan_utf8::utf8_on(scan_utf8::started(), s, from, to)
-}
-
 // The text that `bareText` says; locations and values test it further.
-fn bare_at(s: &[u8], at: usize, indent: usize) -> Bare
+pub fn bare_at(s: &[u8], at: usize, indent: usize) -> Bare
     requires { ⌜ at ≤ length (now s) ⌝ }
-    ensures { λ r. ⌜ Bared (now (s .entry)) at 0 true start (bareText indent (drop at (now (s .entry)))) (bare indent (drop at (now (s .entry)))) r ⌝ }
+    ensures { λ r. ⌜ Bared (now (s .entry)) at 0 start (bareText indent (drop at (now (s .entry)))) (bare indent (drop at (now (s .entry)))) r ⌝ }
 {
     match scan_bytes::line_at(s, at) {
         Line::Got { end, next } => {
-            let seen = read_feature_joined::visible_on(true, s, at, end);
-            let state = line_state(seen, s, at, end);
-            further_lines(s, next, indent, end - at, seen, state)
+            let state = scan_utf8::utf8_on(scan_utf8::started(), s, at, end);
+            further_lines(s, next, indent, end - at, state)
         }
         Line::No => Bare::No,
         Line::Cut => Bare::Cut,
-    }
-}
-
-// A location: visible bytes, and one at least.
-pub fn location_at(s: &[u8], at: usize, indent: usize) -> Value
-    requires { ⌜ at ≤ length (now s) ⌝ }
-    ensures { λ r. ⌜ Valued (now (s .entry)) at (bareText indent (drop at (now (s .entry)))) (passing locationText (bare indent (drop at (now (s .entry))))) r ⌝ }
-{
-    match bare_at(s, at, indent) {
-        Bare::Got {
-            length,
-            next,
-            visible,
-            state: _,
-        } => {
-            if length == 0 {
-                return Value::No;
-            }
-            if visible {
-                return Value::Got { length, next };
-            }
-            Value::No
-        }
-        Bare::No => Value::No,
-        Bare::Cut => Value::Cut,
     }
 }
 
@@ -181,7 +130,6 @@ pub fn bare_value_at(s: &[u8], at: usize, indent: usize) -> Value
         Bare::Got {
             length,
             next,
-            visible: _,
             state,
         } => {
             if scan_utf8::utf8_ends(state) {

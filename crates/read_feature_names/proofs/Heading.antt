@@ -10,13 +10,13 @@ use lib.ListN.{length, drop, getD, drop-of-length-le}
 use lib.Seq.{drop-cons}
 use Rattle.spec_format.specs.Bytes.{all, visible}
 use Rattle.spec_format.specs.Readers.{Ans, Got, No, Cut, passing, tag}
-use Rattle.spec_format.specs.Features.{kindText, featureFrom}
+use Rattle.spec_format.specs.Features.{kindText}
 use Rattle.scan_bytes.specs.Places.{part}
 use Rattle.scan_bytes.specs.Views.{Texted, Emptied, PastOne}
 use Rattle.scan_bytes.specs.declared.Step.{Step}
 use Rattle.scan_bytes.specs.declared.Step.the-variants as step
 use Rattle.scan_bytes.specs.Parts.{length-part, part-none, part-cons}
-use Rattle.read_feature_names.specs.Headed.{keySlash, keyText}
+use Rattle.read_feature_names.specs.Headed.{Head, keySlash, keyText}
 
 -- all bytes of a part pass a test, one at a time; r is what the test returned
 module _ (p : ℕ → Bool) (s : List ℕ) (i to : ℕ) (o : Bool) where
@@ -56,12 +56,13 @@ module _ (p : List ℕ → Bool) {s : List ℕ} {at : ℕ} {o : Ans (List ℕ)} 
 
 -- all before the location is the indent
 pub gap-indent : (s : List ℕ) (at first end next : ℕ) → at < first → first < end → end ≤ next → next ≤ length s →
-    featureFrom (next - at) (part first end s) (drop next s) ≡ featureFrom (first - at + length (part first end s) + length (part end next s)) (part first end s) (drop next s)
+    _≡_ {A = Ans Head} (Got (record { indent = next - at; kind = part first end s }) (drop next s))
+    (Got (record { indent = first - at + length (part first end s) + length (part end next s); kind = part first end s }) (drop next s))
 gap-indent s at first end next a b c d =
     let k : length (part first end s) ≡ end - first = length-part s first end (omega arith) (omega arith) in
     let m : length (part end next s) ≡ next - end = length-part s end next (omega arith) (omega arith) in
     let e : next - at ≡ first - at + length (part first end s) + length (part end next s) = omega (arith, k, m) in
-    ap (λ (n : ℕ). featureFrom n (part first end s) (drop next s)) e
+    ap (λ (n : ℕ). Got (record { indent = n; kind = part first end s }) (drop next s)) e
 
 -- the byte before a key
 module _ (s : List ℕ) (i : ℕ) where

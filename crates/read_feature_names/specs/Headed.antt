@@ -1,12 +1,14 @@
--- Heads of features and qualifiers in a slice, and what their readers promise: the feature from its location on, the qualifier from its value on.
+-- Heads of features and qualifiers in a slice, and what their readers promise: of a feature what stands before its location, of a qualifier its key.
 use Prim.Native.Nat.{ℕ, _+_, _-_, _≤_, _<_}
-use mathlib.Core.Path.{_≡_, refl}
+use mathlib.Core.Path.{_≡_, refl, ap}
+use mathlib.Core.Bool.{false}
 use mathlib.Core.List.{List}
 use lib.ListN.{length, drop}
 use Rattle.spec_format.specs.Bytes.{bytes, spaces, space, notBlank}
 use Rattle.spec_format.specs.Table.{Qualifier, Feature}
 use Rattle.spec_format.specs.Readers.{Ans, Got, No, Cut, bind, passing, tag, until1, spaces1, lineEnd, utf8Of}
-use Rattle.spec_format.specs.Features.{keyEnd, kindText, valueOf, qualifier, featureFrom}
+use Rattle.spec_format.specs.Features.{keyEnd, kindText, valueOf, qualifier, featureFrom, feature}
+use Rattle.spec_format.specs.Deep.{asked, deepFrom, deepFeature}
 use Rattle.scan_bytes.specs.Places.{part}
 use Rattle.read_feature_names.specs.declared.Kind.{Kind}
 use Rattle.read_feature_names.specs.declared.Kind.the-variants as kind
@@ -20,27 +22,68 @@ headerWords s = bind (tag (bytes "Location/Qualifiers") s) λ _ s. lineEnd s
 abbrev pub headerGap : List ℕ → Ans (List ℕ)
 headerGap s = bind (until1 notBlank s) λ _ s. headerWords s
 
--- `feature` from the spaces after the kind on, and from the kind on; n bytes stand before the kind
-abbrev pub kindGap : ℕ → List ℕ → List ℕ → Ans Feature
-kindGap n k s = bind (spaces1 s) λ after s. featureFrom (n + length k + length after) k s
+-- what stands before a feature's location: its kind, and all of it as the feature's indent
+pub record Head : Type 0 where
+  pub indent : ℕ
+  pub kind : List ℕ
 
-abbrev pub kindFrom : ℕ → List ℕ → Ans Feature
+-- from the spaces after the kind on, from the kind on, where n bytes stand before it, and whole
+abbrev pub kindGap : ℕ → List ℕ → List ℕ → Ans Head
+kindGap n k s = bind (spaces1 s) λ after s. Got (record { indent = n + length k + length after; kind = k }) s
+
+abbrev pub kindFrom : ℕ → List ℕ → Ans Head
 kindFrom n s = bind (passing kindText (until1 space s)) λ k s. kindGap n k s
 
--- the feature whose line starts at `at`, once its kind is read
-abbrev pub featureAt : List ℕ → ℕ → Kind → Ans Feature
-featureAt s at (kind.Got first end next) = featureFrom (next - at) (part first end s) (drop next s)
-featureAt s at kind.No = No
-featureAt s at kind.Cut = Cut
+abbrev pub featureHead : List ℕ → Ans Head
+featureHead s = bind (spaces1 s) λ before s. kindFrom (length before) s
+
+-- the head of the feature whose line starts at `at`
+abbrev pub headAt : List ℕ → ℕ → Kind → Ans Head
+headAt s at (kind.Got first end next) = Got (record { indent = next - at; kind = part first end s }) (drop next s)
+headAt s at kind.No = No
+headAt s at kind.Cut = Cut
 
 abbrev pub PastKind : List ℕ → ℕ → Kind → Type 0
 PastKind s at (kind.Got first end next) = (at < first) × (first < end) × (end < next) × (next ≤ length s)
 PastKind s at kind.No = Unit
 PastKind s at kind.Cut = Unit
 
-pub record KindRead (s : List ℕ) (at : ℕ) (o : Ans Feature) (r : Kind) : Type 0 where
-  pub is : featureAt s at r ≡ o
+pub record KindRead (s : List ℕ) (at : ℕ) (o : Ans Head) (r : Kind) : Type 0 where
+  pub is : headAt s at r ≡ o
   pub place : PastKind s at r
+
+-- whatever is made of head and rest is made of the reader's three steps
+head-then : {A : Type 0} (f : Head → List ℕ → Ans A) (s : List ℕ) →
+    (bind (spaces1 s) λ before s. bind (passing kindText (until1 space s)) λ k s. bind (spaces1 s) λ after s.
+    f (record { indent = length before + length k + length after; kind = k }) s) ≡ bind (featureHead s) f
+head-then {A} f s = go (spaces1 s)
+  where
+    gap : (n : ℕ) (k : List ℕ) (o : Ans (List ℕ)) → (bind o λ after s. f (record { indent = n + length k + length after; kind = k }) s) ≡
+        bind (bind o λ after s. Got (record { indent = n + length k + length after; kind = k }) s) f
+    gap n k (Got a r) = refl
+    gap n k No = refl
+    gap n k Cut = refl
+
+    from : (n : ℕ) (o : Ans (List ℕ)) → (bind o λ k s. bind (spaces1 s) λ after s. f (record { indent = n + length k + length after; kind = k }) s) ≡
+        bind (bind o λ k s. kindGap n k s) f
+    from n (Got k r) = gap n k (spaces1 r)
+    from n No = refl
+    from n Cut = refl
+
+    go : (o : Ans (List ℕ)) → (bind o λ before s. bind (passing kindText (until1 space s)) λ k s. bind (spaces1 s) λ after s.
+        f (record { indent = length before + length k + length after; kind = k }) s) ≡ bind (bind o λ before s. kindFrom (length before) s) f
+    go (Got b r) = from (length b) (passing kindText (until1 space r))
+    go No = refl
+    go Cut = refl
+
+-- a feature is its head and what follows, and so is the test of number 14
+pub feature-is : (s : List ℕ) → feature s ≡ bind (featureHead s) λ h z. featureFrom (h .indent) (h .kind) z
+unfolding feature
+feature-is s = head-then (λ h z. featureFrom (h .indent) (h .kind) z) s
+
+pub deep-is : (s : List ℕ) → deepFeature s ≡ asked (bind (featureHead s) λ h z. deepFrom false (h .indent) z)
+unfolding deepFeature
+deep-is s = ap asked (head-then (λ h z. deepFrom false (h .indent) z) s)
 
 -- a qualifier's key, behind its indent and `/`
 abbrev pub keyText : List ℕ → Ans (List ℕ)

@@ -4,10 +4,10 @@ ghost use mathlib.Core.Path.{_≡_};
 ghost use Prim.Native.Nat.{_-_, _≤_, _<_};
 ghost use lib.ListN.{length, drop};
 ghost use Rattle.spec_format.specs.Bytes.{all, visible};
-ghost use Rattle.spec_format.specs.Features.{featuresHeader, kindText, feature};
+ghost use Rattle.spec_format.specs.Features.{featuresHeader, kindText};
 ghost use Rattle.scan_bytes.specs.Places.{part};
 ghost use Rattle.scan_bytes.specs.Views.{Emptied};
-ghost use Rattle.read_feature_names.specs.Headed.{headerWords, headerGap, kindGap, kindFrom, KindRead, keyText, keySlash, keyHead, KeyRead};
+ghost use Rattle.read_feature_names.specs.Headed.{headerWords, headerGap, kindGap, kindFrom, featureHead, KindRead, keyText, keySlash, keyHead, KeyRead};
 
 // A feature's kind is first..end, and its location starts at `next`.
 pub enum Kind {
@@ -88,7 +88,7 @@ fn kind_from(s: &[u8], at: usize, first: usize) -> Kind
 // The head of a feature: spaces, kind, spaces. All before the location is the feature's indent.
 pub fn kind_at(s: &[u8], at: usize) -> Kind
     requires { ⌜ at ≤ length (now s) ⌝ }
-    ensures { λ r. ⌜ KindRead (now (s .entry)) at (feature (drop at (now (s .entry)))) r ⌝ }
+    ensures { λ r. ⌜ KindRead (now (s .entry)) at (featureHead (drop at (now (s .entry)))) r ⌝ }
 {
     match scan_bytes::spaces1(s, at) {
         Step::No => Kind::No,

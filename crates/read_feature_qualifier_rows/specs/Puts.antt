@@ -9,7 +9,8 @@ use Rattle.spec_format.specs.Bytes.{each}
 use Rattle.spec_format.specs.Table.{Feature}
 use Rattle.spec_format.specs.Readers.{Got, fitTurn, end}
 use Rattle.spec_format.specs.Features.{qualifier}
-use Rattle.spec_format.specs.Rooms.{qualifierPieces, textsOf, rowsOf, featureText, featureRows, qualifierRows}
+use Rattle.spec_format.specs.Record.{most}
+use Rattle.spec_format.specs.Rooms.{qualifierPieces, textsOf, rowsOf, featureText, featureRows, qualifierRows, featureLocations}
 use Rattle.base_pen.specs.Pen.{Wrote}
 use Rattle.read_feature_qualifiers.specs.Reads.{ValueStands}
 use Rattle.read_feature_qualifiers.specs.Turns.{qualifiersIn}
@@ -42,14 +43,17 @@ pub record QualifiersPut (s : List ℕ) (at indent : ℕ) (t₀ : List ℕ) (pla
 
 -- ---- all features of a record, which others put one by one
 
--- the n features fs stand from `at` on, and the places after their texts and their qualifiers' rows are ones that a usize can hold
+-- the n features fs stand from `at` on, in a slice that may be read if there is one, and the places after their texts and their qualifiers' rows are ones that a usize can
+-- hold
 pub record Fits (s : List ℕ) (at n place : ℕ) (fs : List Feature) : Type 0 where
   pub within : at ≤ length s
+  pub short : 0 < n → length s ≤ most
   pub counted : n ≡ length fs
   pub texts : place + length (each featureText fs) < 2 ^ 64
   pub qualifiers : length (qualifierRows place fs) < 2 ^ 64
 
-pub record FeaturesPut (place : ℕ) (fs : List Feature) (t₀ t₁ f₀ f₁ q₀ q₁ : List ℕ) (r : ℕ) : Type 0 where
+pub record FeaturesPut (place : ℕ) (fs : List Feature) (t₀ t₁ f₀ f₁ q₀ q₁ l₀ l₁ : List ℕ) (r : ℕ) : Type 0 where
   pub texts : Wrote t₀ place (each featureText fs) t₁ r
-  pub features : f₁ ≡ sets f₀ 0 (featureRows place 0 fs)
+  pub features : f₁ ≡ sets f₀ 0 (featureRows place 0 0 fs)
   pub qualifiers : q₁ ≡ sets q₀ 0 (qualifierRows place fs)
+  pub locations : l₁ ≡ sets l₀ 0 (each featureLocations fs)

@@ -1,6 +1,6 @@
-// One feature of feature_table.rs put into lent rooms, but for its row, which is made as a struct, by value: whoever stores it needs no flat numbers.
+// One feature of feature_table.rs put into lent rooms, its location's rows among them, but for its own row, which is made as a struct, by value: whoever stores it needs no flat numbers.
 use base_rows::Feature;
-use read_feature_joined::Value;
+use read_feature_location::Located;
 use read_feature_names::Kind;
 use spec_format::Span;
 ghost use mathlib.Core.Path.{_≡_};
@@ -8,16 +8,17 @@ ghost use Prim.Native.Nat.{_+_, _-_, _≤_, _<_, _^_};
 ghost use lib.ListN.{length, drop};
 ghost use Rattle.spec_format.specs.Features.{featureFrom, feature};
 ghost use Rattle.scan_bytes.specs.Places.{part};
-ghost use Rattle.read_feature_table.specs.Reads.{Located, featureRest};
-ghost use Rattle.read_feature_row.specs.Makes.{noRow, Ahead, RowMade};
+ghost use Rattle.read_feature_table.specs.Reads.{Placed, featureRest};
+ghost use Rattle.read_feature_row.specs.Makes.{noRow, Ahead, RowMade, FeaturePut};
 
-// Where reading goes on; where the next text goes; which row is the next; where the next qualifier's row goes; and how many qualifiers were put.
+// Where reading goes on; where the next text goes; which row is the next; where the next qualifier's row goes; and how many qualifiers and location rows were put.
 pub struct Reached {
     pub at: usize,
     pub text: usize,
     pub row: usize,
     pub qualifier: usize,
     pub count: usize,
+    pub location: usize,
 }
 
 pub struct Made {
@@ -39,6 +40,8 @@ fn no_row(reached: Reached) -> Made
         location: none,
         first: 0,
         count: 0,
+        row: 0,
+        rows: 0,
     };
     let next = Reached {
         at: reached.at,
@@ -46,6 +49,7 @@ fn no_row(reached: Reached) -> Made
         row: reached.row + 1,
         qualifier: reached.qualifier,
         count: reached.count,
+        location: reached.location,
     };
     Made {
         row: row,
@@ -53,19 +57,20 @@ fn no_row(reached: Reached) -> Made
     }
 }
 
-// A feature whose kind and location are scanned.
+// A feature whose kind is scanned and whose location is too, with its rows put.
 fn make_located(
     s: &[u8],
     first: usize,
     end: usize,
     location: usize,
     long: usize,
+    rows: usize,
     rest: usize,
     texts: &mut [u8],
     qualifiers: &mut [usize],
     reached: Reached,
 ) -> Made
-    requires { ⌜ Ahead (now s) reached × Located (now s) (reached .at) first end location long rest ⌝ }
+    requires { ⌜ Ahead (now s) reached × Placed (now s) (reached .at) first end location long rows rest ⌝ }
     ensures { λ r. ⌜ RowMade (now (s .entry)) reached (featureRest (now (s .entry)) (reached .at) first end location rest) (now (texts .entry)) (now (texts .exit)) (now (qualifiers .entry)) (now (qualifiers .exit)) r ⌝ }
 {
     let indent = location - reached.at;
@@ -93,6 +98,8 @@ fn make_located(
         },
         first: reached.count,
         count: count,
+        row: reached.location,
+        rows: rows,
     };
     let next = Reached {
         at: run.next,
@@ -100,6 +107,7 @@ fn make_located(
         row: reached.row + 1,
         qualifier: run.row,
         count: reached.count + count,
+        location: reached.location + rows,
     };
     Made {
         row: row,
@@ -115,36 +123,46 @@ fn make_kinded(
     location: usize,
     texts: &mut [u8],
     qualifiers: &mut [usize],
+    locations: &mut [usize],
     reached: Reached,
 ) -> Made
     requires { ⌜ Ahead (now s) reached × (reached .at < first) × (first < end) × (end < location) × (location ≤ length (now s)) ⌝ }
-    ensures { λ r. ⌜ RowMade (now (s .entry)) reached (featureFrom (location - reached .at) (part first end (now (s .entry))) (drop location (now (s .entry)))) (now (texts .entry)) (now (texts .exit)) (now (qualifiers .entry)) (now (qualifiers .exit)) r ⌝ }
+    ensures { λ r. ⌜ FeaturePut (now (s .entry)) reached (featureFrom (location - reached .at) (part first end (now (s .entry))) (drop location (now (s .entry)))) (now (texts .entry)) (now (texts .exit)) (now (qualifiers .entry)) (now (qualifiers .exit)) (now (locations .entry)) (now (locations .exit)) r ⌝ }
 {
-    match read_feature_bare::location_at(s, location, location - reached.at) {
-        Value::Got { length, next } => make_located(
+    let indent = location - reached.at;
+    match read_feature_location::put_location(s, location, indent, locations, reached.location) {
+        Located::Got { length, next, rows } => make_located(
             s,
             first,
             end,
             location,
             length,
+            rows,
             next,
             texts,
             qualifiers,
             reached,
         ),
-        Value::No => no_row(reached),
-        Value::Cut => no_row(reached),
+        Located::No => no_row(reached),
+        Located::Cut => no_row(reached),
     }
 }
 
-// The feature that starts where reading goes on: its texts and its qualifiers' rows are put, and its own row is made. No word of the rooms where none starts there.
-pub fn make_row(s: &[u8], texts: &mut [u8], qualifiers: &mut [usize], reached: Reached) -> Made
+// The feature that starts where reading goes on: its texts, its qualifiers' and its location's rows are put, and its own row is made. No word of the rooms where none starts
+// there.
+pub fn make_row(
+    s: &[u8],
+    texts: &mut [u8],
+    qualifiers: &mut [usize],
+    locations: &mut [usize],
+    reached: Reached,
+) -> Made
     requires { ⌜ Ahead (now s) reached ⌝ }
-    ensures { λ r. ⌜ RowMade (now (s .entry)) reached (feature (drop (reached .at) (now (s .entry)))) (now (texts .entry)) (now (texts .exit)) (now (qualifiers .entry)) (now (qualifiers .exit)) r ⌝ }
+    ensures { λ r. ⌜ FeaturePut (now (s .entry)) reached (feature (drop (reached .at) (now (s .entry)))) (now (texts .entry)) (now (texts .exit)) (now (qualifiers .entry)) (now (qualifiers .exit)) (now (locations .entry)) (now (locations .exit)) r ⌝ }
 {
     match read_feature_names::kind_at(s, reached.at) {
         Kind::Got { first, end, next } => {
-            make_kinded(s, first, end, next, texts, qualifiers, reached)
+            make_kinded(s, first, end, next, texts, qualifiers, locations, reached)
         }
         Kind::No => no_row(reached),
         Kind::Cut => no_row(reached),

@@ -15,9 +15,10 @@ pub fn store_rows(
     place: usize,
     rows: &mut [Feature],
     qualifiers: &mut [usize],
+    locations: &mut [usize],
 ) -> usize
     requires { ⌜ Fits (now s) at n place (featuresIn (drop at (now s))) ⌝ }
-    ensures { λ r. ⌜ FeaturesPut place (featuresIn (drop at (now (s .entry)))) (now (texts .entry)) (now (texts .exit)) (flat (now (rows .entry))) (flat (now (rows .exit))) (now (qualifiers .entry)) (now (qualifiers .exit)) r ⌝ }
+    ensures { λ r. ⌜ FeaturesPut place (featuresIn (drop at (now (s .entry)))) (now (texts .entry)) (now (texts .exit)) (flat (now (rows .entry))) (flat (now (rows .exit))) (now (qualifiers .entry)) (now (qualifiers .exit)) (now (locations .entry)) (now (locations .exit)) r ⌝ }
 {
     let mut reached = Reached {
         at: at,
@@ -25,9 +26,10 @@ pub fn store_rows(
         row: 0,
         qualifier: 0,
         count: 0,
+        location: 0,
     };
     while reached.row < n {
-        let made = read_feature_row::make_row(s, texts, qualifiers, reached);
+        let made = read_feature_row::make_row(s, texts, qualifiers, locations, reached);
         base_rows::store_row(rows, reached.row, made.row);
         reached = made.reached;
     }

@@ -1,23 +1,25 @@
 -- A feature by what was read of it first: its kind, then its location.
 use Prim.Native.Nat.{ℕ, _-_, _≤_, _<_}
 use mathlib.Core.Path.{_≡_, subst}
+use mathlib.Core.Bool.{false}
 use mathlib.Core.List.{List}
 use lib.ListN.{length, drop}
 use Rattle.spec_format.specs.Readers.{No, Cut, passing}
-use Rattle.spec_format.specs.Features.{bare, locationText, featureFrom, feature}
+use Rattle.spec_format.specs.Features.{bare, featureFrom, feature}
+use Rattle.spec_format.specs.Location.{locates}
 use Rattle.scan_bytes.specs.Places.{part}
-use Rattle.read_feature_joined.specs.Views.{Span, Valued, value-places, value-is}
-use Rattle.read_feature_joined.specs.declared.Value.{Value}
-use Rattle.read_feature_joined.specs.declared.Value.the-variants as value
+use Rattle.read_feature_location.specs.Places.{LocationSpan, LocationFound, location-places, found-is}
+use Rattle.read_feature_location.specs.declared.Located.{Located}
+use Rattle.read_feature_location.specs.declared.Located.the-variants as located
 use Rattle.read_feature_bare.specs.Bared.{bareText}
-use Rattle.read_feature_names.specs.Headed.{PastKind, KindRead}
+use Rattle.read_feature_names.specs.Headed.{PastKind, featureHead, KindRead, feature-is}
 use Rattle.read_feature_names.specs.declared.Kind.{Kind}
 use Rattle.read_feature_names.specs.declared.Kind.the-variants as kind
-use Rattle.read_feature_table.specs.Reads.{Located, featureRest}
+use Rattle.read_feature_table.specs.Reads.{Placed, featureRest}
 
 -- ---- the kind
 
-module _ (s : List ℕ) (at : ℕ) (r : Kind) (h : KindRead s at (feature (drop at s)) r) where
+module _ (s : List ℕ) (at : ℕ) (r : Kind) (h : KindRead s at (featureHead (drop at s)) r) where
   kind-places : (first end next : ℕ) → r ≡ kind.Got first end next → (at < first) × (first < end) × (end < next) × (next ≤ length s)
   kind-places first end next e = subst (λ (x : Kind). PastKind s at x) e (h .place)
 
@@ -34,35 +36,45 @@ module _ (s : List ℕ) (at : ℕ) (r : Kind) (h : KindRead s at (feature (drop 
   kind-within first end next e = kind-places first end next e .3
 
   pub kind-is : (first end next : ℕ) → r ≡ kind.Got first end next → feature (drop at s) ≡ featureFrom (next - at) (part first end s) (drop next s)
-  kind-is first end next e = rw (← h .is, e)
+  kind-is first end next e = rw (feature-is (drop at s), ← h .is, e)
 
   pub kind-bad : r ≡ kind.No → feature (drop at s) ≡ No
-  kind-bad e = rw (← h .is, e)
+  kind-bad e = rw (feature-is (drop at s), ← h .is, e)
 
   pub kind-short : r ≡ kind.Cut → feature (drop at s) ≡ Cut
-  kind-short e = rw (← h .is, e)
+  kind-short e = rw (feature-is (drop at s), ← h .is, e)
 
 -- the places of a kind
 pub ruleset kinded = (kind-before, kind-some, kind-gap, kind-within)
 
 -- ---- the location
 
-module _ (s : List ℕ) (at first end location : ℕ) (r : Value)
-    (h : Valued s location (bareText (location - at) (drop location s)) (passing locationText (bare (location - at) (drop location s))) r) where
-  pub located : (long rest : ℕ) → at < first → first < end → end < location → r ≡ value.Got long rest → Located s at first end location long rest
-  located long rest a b c e =
-      let k : Span s location (bareText (location - at) (drop location s)) long rest = value-places h e in
-      record { before = a; kind = b; gap = c; sized = k .long; small = k .short; ahead = k .from; within = k .within }
+module _ (s : List ℕ) (at first end location : ℕ) (r : Located)
+    (h : LocationFound s location (bareText (location - at) (drop location s)) (passing (locates false) (bare (location - at) (drop location s))) r) where
+  pub placed : (long rest rows : ℕ) → at < first → first < end → end < location → r ≡ located.Got long rest rows → Placed s at first end location long rows rest
+  placed long rest rows a b c e =
+      let k : LocationSpan s location (bareText (location - at) (drop location s)) long rest rows = location-places h e in
+      record {
+        before = a;
+        kind = b;
+        gap = c;
+        sized = k .span .long;
+        rowed = k .counted;
+        few = k .few;
+        small = k .span .short;
+        ahead = k .span .from;
+        within = k .span .within;
+      }
 
-  pub location-is : (long rest : ℕ) → r ≡ value.Got long rest
+  pub location-is : (long rest rows : ℕ) → r ≡ located.Got long rest rows
       → featureFrom (location - at) (part first end s) (drop location s) ≡ featureRest s at first end location rest
   unfolding featureFrom
-  location-is long rest e = rw (value-is h e)
+  location-is long rest rows e = rw (found-is h e)
 
-  pub location-bad : r ≡ value.No → featureFrom (location - at) (part first end s) (drop location s) ≡ No
+  pub location-bad : r ≡ located.No → featureFrom (location - at) (part first end s) (drop location s) ≡ No
   unfolding featureFrom
   location-bad e = rw (← h .is, e)
 
-  pub location-short : r ≡ value.Cut → featureFrom (location - at) (part first end s) (drop location s) ≡ Cut
+  pub location-short : r ≡ located.Cut → featureFrom (location - at) (part first end s) (drop location s) ≡ Cut
   unfolding featureFrom
   location-short e = rw (← h .is, e)

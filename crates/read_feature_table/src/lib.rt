@@ -1,17 +1,18 @@
-// The features of feature_table.rs, scanned: how many there are, how many qualifiers they have, and how long their texts are. Nothing is written.
-use read_feature_joined::Value;
+// The features of feature_table.rs, scanned: how many there are, how many qualifiers and location rows they have, and how long their texts are. Nothing is written.
+use read_feature_location::Located;
 use read_feature_names::Kind;
 use read_feature_qualifiers::QualifiersAt;
 ghost use Prim.Native.Nat.{_-_, _≤_, _<_};
 ghost use lib.ListN.{length, drop};
 ghost use Rattle.spec_format.specs.Features.{featureFrom, feature};
 ghost use Rattle.scan_bytes.specs.Places.{part};
-ghost use Rattle.read_feature_table.specs.Reads.{Located, featureRest, FeatureRead, featuresIn, FeaturesRead};
+ghost use Rattle.read_feature_table.specs.Reads.{Placed, featureRest, FeatureRead, featuresIn, FeaturesRead};
 
-// How many qualifiers a feature has, the lengths of all its texts, and the place after it.
+// How many qualifiers and location rows a feature has, the lengths of all its texts, and the place after it.
 enum FeatureAt {
     Got {
         qualifiers: usize,
+        rows: usize,
         bytes: usize,
         next: usize,
     },
@@ -19,15 +20,16 @@ enum FeatureAt {
     Cut,
 }
 
-// How many features there are and how many qualifiers they have together, the lengths of all their texts, and the place after them.
+// How many features there are, how many qualifiers and location rows they have together, the lengths of all their texts, and the place after them.
 pub struct Features {
     pub count: usize,
     pub qualifiers: usize,
+    pub rows: usize,
     pub bytes: usize,
     pub next: usize,
 }
 
-// The feature that starts at `at`, once its kind, first..end, and its location, `long` bytes from `location` on, are read; its qualifiers start at `rest`.
+// The feature that starts at `at`, once its kind, first..end, and its location, `long` bytes from `location` on with `rows` rows, are read; its qualifiers start at `rest`.
 fn feature_rest(
     s: &[u8],
     at: usize,
@@ -35,14 +37,16 @@ fn feature_rest(
     end: usize,
     location: usize,
     long: usize,
+    rows: usize,
     rest: usize,
 ) -> FeatureAt
-    requires { ⌜ Located (now s) at first end location long rest ⌝ }
+    requires { ⌜ Placed (now s) at first end location long rows rest ⌝ }
     ensures { λ r. ⌜ FeatureRead (now (s .entry)) at (featureRest (now (s .entry)) at first end location rest) r ⌝ }
 {
     match read_feature_qualifiers::qualifiers_at(s, rest, location - at) {
         QualifiersAt::Got { count, bytes, next } => FeatureAt::Got {
             qualifiers: count,
+            rows,
             bytes: end - first + long + bytes,
             next,
         },
@@ -52,18 +56,20 @@ fn feature_rest(
 
 // The same, once its kind is read.
 fn feature_from(s: &[u8], at: usize, first: usize, end: usize, location: usize) -> FeatureAt
-    requires { ⌜ (at < first) × (first < end) × (end < location) × (location ≤ length (now s)) ⌝ }
+    requires { ⌜ (at < first) × (first < end) × (end < location) × (location ≤ length (now s)) × (length (now s) ≤ 16777216) ⌝ }
     ensures { λ r. ⌜ FeatureRead (now (s .entry)) at (featureFrom (location - at) (part first end (now (s .entry))) (drop location (now (s .entry)))) r ⌝ }
 {
-    match read_feature_bare::location_at(s, location, location - at) {
-        Value::Got { length, next } => feature_rest(s, at, first, end, location, length, next),
-        Value::No => FeatureAt::No,
-        Value::Cut => FeatureAt::Cut,
+    match read_feature_location::location_at(s, location, location - at) {
+        Located::Got { length, next, rows } => {
+            feature_rest(s, at, first, end, location, length, rows, next)
+        }
+        Located::No => FeatureAt::No,
+        Located::Cut => FeatureAt::Cut,
     }
 }
 
 fn feature_at(s: &[u8], at: usize) -> FeatureAt
-    requires { ⌜ at ≤ length (now s) ⌝ }
+    requires { ⌜ (at ≤ length (now s)) × (length (now s) ≤ 16777216) ⌝ }
     ensures { λ r. ⌜ FeatureRead (now (s .entry)) at (feature (drop at (now (s .entry)))) r ⌝ }
 {
     match read_feature_names::kind_at(s, at) {
@@ -75,22 +81,25 @@ fn feature_at(s: &[u8], at: usize) -> FeatureAt
 
 // The features from `at` on, as far as they fit.
 pub fn features_at(s: &[u8], at: usize) -> Features
-    requires { ⌜ at ≤ length (now s) ⌝ }
+    requires { ⌜ (at ≤ length (now s)) × (length (now s) ≤ 16777216) ⌝ }
     ensures { λ r. ⌜ FeaturesRead (now (s .entry)) at (featuresIn (drop at (now (s .entry)))) r ⌝ }
 {
     let mut i = at;
     let mut count = 0;
     let mut all = 0;
+    let mut parts = 0;
     let mut total = 0;
     loop {
         match feature_at(s, i) {
             FeatureAt::Got {
                 qualifiers,
+                rows,
                 bytes,
                 next,
             } => {
                 count += 1;
                 all += qualifiers;
+                parts += rows;
                 total += bytes;
                 i = next;
             }
@@ -98,6 +107,7 @@ pub fn features_at(s: &[u8], at: usize) -> Features
                 return Features {
                     count: count,
                     qualifiers: all,
+                    rows: parts,
                     bytes: total,
                     next: i,
                 };
@@ -106,6 +116,7 @@ pub fn features_at(s: &[u8], at: usize) -> Features
                 return Features {
                     count: count,
                     qualifiers: all,
+                    rows: parts,
                     bytes: total,
                     next: i,
                 };

@@ -2,15 +2,13 @@
 use Prim.Native.Nat.{ℕ, _-_, _≤_, _<_}
 use mathlib.Core.Path.{_≡_, refl, sym, _∙_, subst}
 use mathlib.Core.Bool.{Bool, true, false}
-use mathlib.Core.List.{List, [], _∷_}
+use mathlib.Core.List.{List}
 use native.Mathlib.Omega.{arith}
 use lib.Dec.{eqb}
 use lib.ListN.{length, drop, length-drop}
-use Rattle.spec_format.specs.Bytes.{all, visible}
 use Rattle.spec_format.specs.Utf8.{utf8}
 use Rattle.spec_format.specs.Readers.{Ans, Got, No, Cut, bind, passing}
 use Rattle.spec_format.specs.Header.{fieldText}
-use Rattle.spec_format.specs.Features.{locationText}
 use Rattle.spec_loops.specs.Shrinks.{leaves-length, text-takes}
 use Rattle.scan_bytes.specs.declared.Step.{Step}
 use Rattle.scan_bytes.specs.declared.Step.the-variants as step
@@ -18,16 +16,16 @@ use Rattle.scan_bytes.specs.Places.{part}
 use Rattle.scan_bytes.specs.Parts.{length-part}
 use Rattle.scan_bytes.specs.Views.{Stepped, Texted}
 use Rattle.scan_bytes.specs.Sequence.{step-places, text-places}
-use Rattle.read_field_entry.specs.declared.Judge.{Judge}
+use Rattle.scan_utf8.specs.declared.State.{State}
+use Rattle.scan_utf8.specs.States.{start, ran-utf8}
 use Rattle.read_field_entry.specs.declared.Joined.{Joined}
 use Rattle.read_field_entry.specs.declared.Joined.the-variants as joined
 use Rattle.read_field_entry.specs.declared.Entry.{Entry}
 use Rattle.read_field_entry.specs.declared.Found.{Found}
 use Rattle.read_field_entry.specs.declared.Found.the-variants as found
 use Rattle.read_field_entry.specs.declared.EntryAt.the-variants as entry
-use Rattle.read_field_entry.specs.Judges.{fresh, judged-utf8}
 use Rattle.read_field_entry.specs.Texts.{Read, ReadAs, Joins}
-use Rattle.read_field_entry.specs.Entries.{Known, Judging, FoundAs, Finds, Enters}
+use Rattle.read_field_entry.specs.Entries.{Known, Run, FoundAs, Finds, Enters}
 
 -- ---- the text
 
@@ -35,17 +33,17 @@ further-on : (s : List ℕ) (at next n : ℕ) (keep : Bool) (t : List ℕ) → f
 further-on s at next n keep t e h k =
     omega (arith, leaves-length (text-takes n keep (drop at s)) t (drop next s) e, length-drop at s, length-drop next s)
 
-module _ (s : List ℕ) (at n : ℕ) (keep : Bool) (r : Joined) (h : Joins s at (fieldText n keep (drop at s)) fresh 0 r) where
+module _ (s : List ℕ) (at n : ℕ) (keep : Bool) (r : Joined) (h : Joins s at (fieldText n keep (drop at s)) start 0 r) where
   pub find-no : r ≡ joined.No → Finds s at keep (fieldText n keep (drop at s)) found.No
-  find-no e = record { is = subst (λ (x : Joined). ReadAs s at (fieldText n keep (drop at s)) fresh 0 x) e (h .is) }
+  find-no e = record { is = subst (λ (x : Joined). ReadAs s at (fieldText n keep (drop at s)) start 0 x) e (h .is) }
 
   pub find-cut : r ≡ joined.Cut → Finds s at keep (fieldText n keep (drop at s)) found.Cut
-  find-cut e = record { is = subst (λ (x : Joined). ReadAs s at (fieldText n keep (drop at s)) fresh 0 x) e (h .is) }
+  find-cut e = record { is = subst (λ (x : Joined). ReadAs s at (fieldText n keep (drop at s)) start 0 x) e (h .is) }
 
-  pub find-got : (size next : ℕ) (j : Judge) → at ≤ length s → r ≡ joined.Got size next j
+  pub find-got : (size next : ℕ) (j : State) → at ≤ length s → r ≡ joined.Got size next j
       → Finds s at keep (fieldText n keep (drop at s)) (found.Got (record { text = at; columns = n; length = size; next = next }) j)
   find-got size next j l e =
-      let w : Read s at (fieldText n keep (drop at s)) fresh 0 size next j = subst (λ (x : Joined). ReadAs s at (fieldText n keep (drop at s)) fresh 0 x) e (h .is) in
+      let w : Read s at (fieldText n keep (drop at s)) start 0 size next j = subst (λ (x : Joined). ReadAs s at (fieldText n keep (drop at s)) start 0 x) e (h .is) in
       record {
         is = record {
           known = record {
@@ -58,7 +56,7 @@ module _ (s : List ℕ) (at n : ℕ) (keep : Bool) (r : Joined) (h : Joins s at 
             within = w .within;
             small = omega (arith, w .small);
           };
-          judged = w .judged;
+          ran = w .ran;
         };
       }
 
@@ -84,7 +82,7 @@ unfolding known-from
 finds-from s at n keep o p r q h w = record { is = go r (w .is) }
   where
     go : (r : Found) → FoundAs s n keep p r → FoundAs s at keep o r
-    go (found.Got e j) k = record { known = known-from s at n keep o p e q h (k .known); judged = k .judged }
+    go (found.Got e j) k = record { known = known-from s at n keep o p e q h (k .known); ran = k .ran }
     go found.No k = q ∙ k
     go found.Cut k = q ∙ k
 
@@ -122,8 +120,14 @@ module _ (s : List ℕ) (at : ℕ) (keep : Bool) (o : Ans (List ℕ)) (r : Found
   pub enter-cut : (p : List ℕ → Bool) → r ≡ found.Cut → Enters s at keep (passing p o) entry.Cut
   enter-cut p e = let w : o ≡ Cut = subst (λ (x : Found). FoundAs s at keep o x) e (h .is) in record { is = rw w }
 
-  module _ (e : Entry) (j : Judge) (q : r ≡ found.Got e j) where
-    found-as : Judging s at keep o e j
+  pub enter-none : r ≡ found.No → Enters s at keep o entry.No
+  enter-none e = record { is = subst (λ (x : Found). FoundAs s at keep o x) e (h .is) }
+
+  pub enter-short : r ≡ found.Cut → Enters s at keep o entry.Cut
+  enter-short e = record { is = subst (λ (x : Found). FoundAs s at keep o x) e (h .is) }
+
+  module _ (e : Entry) (j : State) (q : r ≡ found.Got e j) where
+    found-as : Run s at keep o e j
     found-as = subst (λ (x : Found). FoundAs s at keep o x) q (h .is)
 
     passed : (p : List ℕ → Bool) → p (found-as .known .the) ≡ true → Enters s at keep (passing p o) (entry.Got e)
@@ -132,25 +136,11 @@ module _ (s : List ℕ) (at : ℕ) (keep : Bool) (o : Ans (List ℕ)) (r : Found
     failed : (p : List ℕ → Bool) → p (found-as .known .the) ≡ false → Enters s at keep (passing p o) entry.No
     failed p t = record { is = rw (found-as .known .is, t) }
 
-    pub enter-utf8 : (b : Bool) → b ≡ eqb (j .utf8 .more) 0 → b ≡ true → Enters s at keep (passing utf8 o) (entry.Got e)
-    enter-utf8 b k t = passed utf8 (judged-utf8 (found-as .known .the) j (found-as .judged) ∙ sym k ∙ t)
+    pub enter-any : Enters s at keep o (entry.Got e)
+    enter-any = record { is = found-as .known }
 
-    pub enter-other : (b : Bool) → b ≡ eqb (j .utf8 .more) 0 → b ≡ false → Enters s at keep (passing utf8 o) entry.No
-    enter-other b k t = failed utf8 (judged-utf8 (found-as .known .the) j (found-as .judged) ∙ sym k ∙ t)
+    pub enter-utf8 : (b : Bool) → b ≡ eqb (j .more) 0 → b ≡ true → Enters s at keep (passing utf8 o) (entry.Got e)
+    enter-utf8 b k t = passed utf8 (ran-utf8 (found-as .known .the) j (found-as .ran) ∙ sym k ∙ t)
 
-    none : (t : List ℕ) → e .length ≡ length t → e .length ≡ 0 → locationText t ≡ false
-    none [] k z = refl
-    none (b ∷ t) k z = absurd (omega arith)
-
-    seen : (t : List ℕ) → e .length ≡ length t → (e .length ≡ 0 → ⊥) → (b : Bool) → b ≡ all visible t → locationText t ≡ b
-    seen [] k z b v = absurd (z k)
-    seen (a ∷ t) k z b v = sym v
-
-    pub enter-empty : e .length ≡ 0 → Enters s at keep (passing locationText o) entry.No
-    enter-empty z = failed locationText (none (found-as .known .the) (found-as .known .sized) z)
-
-    pub enter-location : (e .length ≡ 0 → ⊥) → j .visible ≡ true → Enters s at keep (passing locationText o) (entry.Got e)
-    enter-location z v = passed locationText (seen (found-as .known .the) (found-as .known .sized) z (j .visible) (found-as .judged .seen) ∙ v)
-
-    pub enter-unseen : (e .length ≡ 0 → ⊥) → j .visible ≡ false → Enters s at keep (passing locationText o) entry.No
-    enter-unseen z v = failed locationText (seen (found-as .known .the) (found-as .known .sized) z (j .visible) (found-as .judged .seen) ∙ v)
+    pub enter-other : (b : Bool) → b ≡ eqb (j .more) 0 → b ≡ false → Enters s at keep (passing utf8 o) entry.No
+    enter-other b k t = failed utf8 (ran-utf8 (found-as .known .the) j (found-as .ran) ∙ sym k ∙ t)

@@ -6,13 +6,13 @@ use mathlib.Core.List.{List}
 use lib.ListN.{length, drop}
 use Rattle.spec_format.specs.Readers.{Ans, Got, No, Cut, bind, tag, spaces1}
 use Rattle.spec_format.specs.Header.{fieldText}
-use Rattle.read_field_entry.specs.declared.Judge.{Judge}
+use Rattle.scan_utf8.specs.declared.State.{State}
+use Rattle.scan_utf8.specs.States.{start, Ran}
 use Rattle.read_field_entry.specs.declared.Entry.{Entry}
 use Rattle.read_field_entry.specs.declared.Found.{Found}
 use Rattle.read_field_entry.specs.declared.Found.the-variants as found
 use Rattle.read_field_entry.specs.declared.EntryAt.{EntryAt}
 use Rattle.read_field_entry.specs.declared.EntryAt.the-variants as entry
-use Rattle.read_field_entry.specs.Judges.{Judged, fresh}
 
 -- after the word, and after the indent
 unfoldable pub gapped : ℕ → ℕ → Bool → List ℕ → Ans (List ℕ)
@@ -32,13 +32,13 @@ pub record Known (s : List ℕ) (at : ℕ) (keep : Bool) (o : Ans (List ℕ)) (e
   pub within : e .next ≤ length s
   pub small : e .length + e .text ≤ e .next
 
--- the same, with what is known of the text
-pub record Judging (s : List ℕ) (at : ℕ) (keep : Bool) (o : Ans (List ℕ)) (e : Entry) (judge : Judge) : Type 0 where
+-- the same, and the text leaves the test of UTF-8 in `state`
+pub record Run (s : List ℕ) (at : ℕ) (keep : Bool) (o : Ans (List ℕ)) (e : Entry) (state : State) : Type 0 where
   pub known : Known s at keep o e
-  pub judged : Judged fresh (known .the) judge
+  pub ran : Ran start (known .the) state
 
 abbrev pub FoundAs : List ℕ → ℕ → Bool → Ans (List ℕ) → Found → Type 0
-FoundAs s at keep o (found.Got e judge) = Judging s at keep o e judge
+FoundAs s at keep o (found.Got e state) = Run s at keep o e state
 FoundAs s at keep o found.No = o ≡ No
 FoundAs s at keep o found.Cut = o ≡ Cut
 

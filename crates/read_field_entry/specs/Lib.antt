@@ -1,4 +1,3 @@
-pub mod Judges
 pub mod Texts
 pub mod Lines
 pub mod Entries

@@ -8,12 +8,12 @@ use Rattle.spec_format.specs.Bytes.{pick, each}
 use Rattle.spec_format.specs.Readers.{Ans, Got, No, Cut, mapped, many0}
 use Rattle.spec_format.specs.Header.{lineAfter, furtherLine}
 use Rattle.scan_bytes.specs.Places.{part}
-use Rattle.read_field_entry.specs.declared.Judge.{Judge}
+use Rattle.scan_utf8.specs.declared.State.{State}
+use Rattle.scan_utf8.specs.States.{Ran}
 use Rattle.read_field_entry.specs.declared.Piece.{Piece}
 use Rattle.read_field_entry.specs.declared.Piece.the-variants as piece
 use Rattle.read_field_entry.specs.declared.Joined.{Joined}
 use Rattle.read_field_entry.specs.declared.Joined.the-variants as joined
-use Rattle.read_field_entry.specs.Judges.{Judged}
 
 -- what further lines at column n add to a text
 abbrev pub further : ℕ → Bool → List ℕ → Ans (List ℕ)
@@ -38,20 +38,20 @@ pub record Pieced (s : List ℕ) (at : ℕ) (o : Ans (List ℕ)) (r : Piece) : T
 abbrev pub grownBy : Bool → ℕ → ℕ → ℕ
 grownBy keep before n = pick keep (before + n + 1) (before + n)
 
--- a text that was read up to `next`; with `before` bytes in front it is `length` long, and `judge` is known of both where u was of those
-pub record Read (s : List ℕ) (at : ℕ) (o : Ans (List ℕ)) (u : Judge) (before size next : ℕ) (judge : Judge) : Type 0 where
+-- a text that was read up to `next`; with `before` bytes in front it is `length` long, and both leave the test of UTF-8 in `state` where those left it in u
+pub record Read (s : List ℕ) (at : ℕ) (o : Ans (List ℕ)) (u : State) (before size next : ℕ) (state : State) : Type 0 where
   pub the : List ℕ
   pub is : o ≡ Got the (drop next s)
   pub sized : size ≡ before + length the
-  pub judged : Judged u the judge
+  pub ran : Ran u the state
   pub from : at ≤ next
   pub within : next ≤ length s
   pub small : size + at ≤ before + next
 
-abbrev pub ReadAs : List ℕ → ℕ → Ans (List ℕ) → Judge → ℕ → Joined → Type 0
-ReadAs s at o u before (joined.Got size next judge) = Read s at o u before size next judge
+abbrev pub ReadAs : List ℕ → ℕ → Ans (List ℕ) → State → ℕ → Joined → Type 0
+ReadAs s at o u before (joined.Got size next state) = Read s at o u before size next state
 ReadAs s at o u before joined.No = o ≡ No
 ReadAs s at o u before joined.Cut = o ≡ Cut
 
-pub record Joins (s : List ℕ) (at : ℕ) (o : Ans (List ℕ)) (u : Judge) (before : ℕ) (r : Joined) : Type 0 where
+pub record Joins (s : List ℕ) (at : ℕ) (o : Ans (List ℕ)) (u : State) (before : ℕ) (r : Joined) : Type 0 where
   pub is : ReadAs s at o u before r

@@ -1,27 +1,15 @@
 // Header entries (field.rs): a word, spaces, a text, and further lines at the text's column. What is found is where the text stands; it is put later.
-use base_arith::both;
 use scan_bytes::Line;
 use scan_bytes::Step;
 use scan_utf8::State;
 ghost use mathlib.Core.Path.{_≡_};
 ghost use Prim.Native.Nat.{_+_, _-_, _≤_, _<_};
-ghost use mathlib.Core.Bool.{_&&_};
-ghost use mathlib.Core.List.{_∷_, []};
 ghost use lib.ListN.{length, drop};
-ghost use Rattle.spec_format.specs.Bytes.{all, visible};
-ghost use Rattle.spec_format.specs.Readers.{passing};
 ghost use Rattle.spec_format.specs.Header.{lineAfter, furtherLine, fieldText, fieldBytes, field};
-ghost use Rattle.spec_format.specs.Features.{locationText};
 ghost use Rattle.scan_bytes.specs.Places.{part};
-ghost use Rattle.read_field_entry.specs.Judges.{fresh, Judged};
+ghost use Rattle.scan_utf8.specs.States.{start, Ran};
 ghost use Rattle.read_field_entry.specs.Texts.{further, grownBy, Pieced, Joins};
 ghost use Rattle.read_field_entry.specs.Entries.{gapped, worded, Finds, Enters};
-
-// What is known of a text so far.
-struct Judge {
-    utf8: State,
-    visible: bool,
-}
 
 // A further line: its text from `from` up to `end`.
 pub enum Piece {
@@ -34,12 +22,12 @@ pub enum Piece {
     Cut,
 }
 
-// A text of several lines, joined.
+// A text of several lines, joined, and the state in which it leaves the test of UTF-8.
 enum Joined {
     Got {
         length: usize,
         next: usize,
-        judge: Judge,
+        state: State,
     },
     No,
     Cut,
@@ -54,7 +42,7 @@ pub struct Entry {
 }
 
 enum Found {
-    Got(Entry, Judge),
+    Got(Entry, State),
     No,
     Cut,
 }
@@ -65,66 +53,18 @@ pub enum EntryAt {
     Cut,
 }
 
-// ---- what is known of a text
+// ---- texts
 
-fn unjudged() -> Judge
-    ensures { λ r. ⌜ r ≡ fresh ⌝ }
-{
-    let state = scan_utf8::started();
-    Judge {
-        utf8: state,
-        visible: true,
-    }
-}
-
-fn visible_in(s: &[u8], from: usize, to: usize) -> bool
+// The state after a further line, with its LF or without.
+fn line_state(u: State, keep: bool, s: &[u8], from: usize, to: usize) -> State
     requires { ⌜ (from ≤ to) × (to ≤ length (now s)) ⌝ }
-    ensures { λ r. ⌜ r ≡ all visible (part from to (now (s .entry))) ⌝ }
-{
-    let mut ok = true;
-    let mut i = from;
-    while i < to {
-        ok = both(ok, scan_bytes::is_visible(s[i]));
-        i += 1;
-    }
-    ok
-}
-
-fn judge_part(u: Judge, s: &[u8], from: usize, to: usize) -> Judge
-    requires { ⌜ (from ≤ to) × (to ≤ length (now s)) ⌝ }
-    ensures { λ r. ⌜ Judged u (part from to (now (s .entry))) r ⌝ }
-{
-    let old = u.utf8;
-    let state = scan_utf8::utf8_on(old, s, from, to);
-    let visible = both(u.visible, visible_in(s, from, to));
-    Judge {
-        utf8: state,
-        visible,
-    }
-}
-
-fn judge_feed(u: Judge) -> Judge
-    ensures { λ r. ⌜ Judged u (10 ∷ []) r ⌝ }
-{
-    let old = u.utf8;
-    let state = scan_utf8::utf8_feed(old);
-    Judge {
-        utf8: state,
-        visible: false,
-    }
-}
-
-fn judge_line(u: Judge, keep: bool, s: &[u8], from: usize, to: usize) -> Judge
-    requires { ⌜ (from ≤ to) × (to ≤ length (now s)) ⌝ }
-    ensures { λ r. ⌜ Judged u (lineAfter keep (part from to (now (s .entry)))) r ⌝ }
+    ensures { λ r. ⌜ Ran u (lineAfter keep (part from to (now (s .entry)))) r ⌝ }
 {
     if keep {
-        return judge_part(judge_feed(u), s, from, to);
+        return scan_utf8::utf8_on(scan_utf8::utf8_feed(u), s, from, to);
     }
-    judge_part(u, s, from, to)
+    scan_utf8::utf8_on(u, s, from, to)
 }
-
-// ---- texts
 
 fn grown(keep: bool, front: usize, n: usize) -> usize
     requires { ⌜ front + n + 1 < 18446744073709551616 ⌝ }
@@ -148,24 +88,24 @@ pub fn further_line(s: &[u8], at: usize, columns: usize) -> Piece
     }
 }
 
-// The further lines from `at` on, after `front` bytes of which `u` is known.
-fn further_lines(s: &[u8], at: usize, columns: usize, keep: bool, u: Judge, front: usize) -> Joined
+// The further lines from `at` on, after `front` bytes that left the test of UTF-8 in the state `u`.
+fn further_lines(s: &[u8], at: usize, columns: usize, keep: bool, u: State, front: usize) -> Joined
     requires { ⌜ (at ≤ length (now s)) × (front ≤ at) ⌝ }
     ensures { λ r. ⌜ Joins (now (s .entry)) at (further columns keep (drop at (now (s .entry)))) u front r ⌝ }
 {
     let mut i = at;
     let mut size = front;
-    let mut judge = u;
+    let mut state = u;
     loop {
         match further_line(s, i, columns) {
             Piece::No => return Joined::Got {
                 length: size,
                 next: i,
-                judge,
+                state,
             },
             Piece::Cut => return Joined::Cut,
             Piece::Got { from, end, next } => {
-                judge = judge_line(judge, keep, s, from, end);
+                state = line_state(state, keep, s, from, end);
                 size = grown(keep, size, end - from);
                 i = next;
             }
@@ -175,7 +115,7 @@ fn further_lines(s: &[u8], at: usize, columns: usize, keep: bool, u: Judge, fron
 
 fn text_at(s: &[u8], at: usize, columns: usize, keep: bool) -> Joined
     requires { ⌜ at ≤ length (now s) ⌝ }
-    ensures { λ r. ⌜ Joins (now (s .entry)) at (fieldText columns keep (drop at (now (s .entry)))) fresh 0 r ⌝ }
+    ensures { λ r. ⌜ Joins (now (s .entry)) at (fieldText columns keep (drop at (now (s .entry)))) start 0 r ⌝ }
 {
     match scan_bytes::line_at(s, at) {
         Line::No => Joined::No,
@@ -185,7 +125,7 @@ fn text_at(s: &[u8], at: usize, columns: usize, keep: bool) -> Joined
             next,
             columns,
             keep,
-            judge_part(unjudged(), s, at, end),
+            scan_utf8::utf8_on(scan_utf8::started(), s, at, end),
             end - at,
         ),
     }
@@ -203,7 +143,7 @@ fn found_text(s: &[u8], at: usize, columns: usize, keep: bool) -> Found
         Joined::Got {
             length,
             next,
-            judge,
+            state,
         } => Found::Got(
             Entry {
                 text: at,
@@ -211,7 +151,7 @@ fn found_text(s: &[u8], at: usize, columns: usize, keep: bool) -> Found
                 length,
                 next,
             },
-            judge,
+            state,
         ),
     }
 }
@@ -257,8 +197,7 @@ pub fn field_at(s: &[u8], at: usize, indent: usize, word: &[u8], keep: bool) -> 
     match found_at(s, at, indent, word, keep) {
         Found::No => EntryAt::No,
         Found::Cut => EntryAt::Cut,
-        Found::Got(entry, judge) => {
-            let state = judge.utf8;
+        Found::Got(entry, state) => {
             if scan_utf8::utf8_ends(state) {
                 EntryAt::Got(entry)
             } else {
@@ -268,22 +207,14 @@ pub fn field_at(s: &[u8], at: usize, indent: usize, word: &[u8], keep: bool) -> 
     }
 }
 
-// An entry whose text is a location: visible bytes, one at least.
-pub fn entry_location_at(s: &[u8], at: usize, indent: usize, word: &[u8], keep: bool) -> EntryAt
+// An entry, whatever its text's bytes.
+pub fn bytes_at(s: &[u8], at: usize, indent: usize, word: &[u8], keep: bool) -> EntryAt
     requires { ⌜ (at ≤ length (now s)) × (indent < 4096) × (length (now word) < 4096) ⌝ }
-    ensures { λ r. ⌜ Enters (now (s .entry)) at keep (passing locationText (fieldBytes indent (now (word .entry)) keep (drop at (now (s .entry))))) r ⌝ }
+    ensures { λ r. ⌜ Enters (now (s .entry)) at keep (fieldBytes indent (now (word .entry)) keep (drop at (now (s .entry)))) r ⌝ }
 {
     match found_at(s, at, indent, word, keep) {
         Found::No => EntryAt::No,
         Found::Cut => EntryAt::Cut,
-        Found::Got(entry, judge) => {
-            if entry.length == 0 {
-                return EntryAt::No;
-            }
-            if judge.visible {
-                return EntryAt::Got(entry);
-            }
-            EntryAt::No
-        }
+        Found::Got(entry, _) => EntryAt::Got(entry),
     }
 }

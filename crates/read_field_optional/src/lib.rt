@@ -7,9 +7,8 @@ ghost use mathlib.Core.Path.{_≡_};
 ghost use Prim.Native.Nat.{_≤_, _<_};
 ghost use lib.ListN.{length, drop};
 ghost use Rattle.spec_format.specs.Bytes.{bytes};
-ghost use Rattle.spec_format.specs.Readers.{passing, orElse, optional, tag, line, utf8Of};
-ghost use Rattle.spec_format.specs.Header.{fieldBytes, maybeField, source, ignoredLine};
-ghost use Rattle.spec_format.specs.Features.{locationText};
+ghost use Rattle.spec_format.specs.Readers.{orElse, tag, line, utf8Of};
+ghost use Rattle.spec_format.specs.Header.{maybeField, source, ignoredLine};
 ghost use Rattle.scan_bytes.specs.Views.{Stepped, Lined};
 ghost use Rattle.read_field_optional.specs.Fields.{sectionWord, mayLength, MayEnter, Sources};
 
@@ -102,24 +101,6 @@ pub fn may_field_at(s: &[u8], at: usize, indent: usize, word: &[u8], keep: bool)
     ensures { λ r. ⌜ MayEnter (now (s .entry)) at keep (maybeField indent (now (word .entry)) keep (drop at (now (s .entry)))) r ⌝ }
 {
     match read_field_entry::field_at(s, at, indent, word, keep) {
-        EntryAt::Cut => MayEntryAt::Cut,
-        EntryAt::No => MayEntryAt::Got {
-            entry: MayEntry::Absent,
-            next: at,
-        },
-        EntryAt::Got(entry) => MayEntryAt::Got {
-            entry: MayEntry::Is(entry),
-            next: entry.next,
-        },
-    }
-}
-
-// An entry that may be missing and whose text is a location.
-pub fn may_location_at(s: &[u8], at: usize, indent: usize, word: &[u8], keep: bool) -> MayEntryAt
-    requires { ⌜ (at ≤ length (now s)) × (indent < 4096) × (length (now word) < 4096) ⌝ }
-    ensures { λ r. ⌜ MayEnter (now (s .entry)) at keep (optional (drop at (now (s .entry))) (passing locationText (fieldBytes indent (now (word .entry)) keep (drop at (now (s .entry)))))) r ⌝ }
-{
-    match read_field_entry::entry_location_at(s, at, indent, word, keep) {
         EntryAt::Cut => MayEntryAt::Cut,
         EntryAt::No => MayEntryAt::Got {
             entry: MayEntry::Absent,

@@ -13,9 +13,10 @@ pub fn read(
     comments: &mut [usize],
     rows: &mut [Feature],
     qualifiers: &mut [usize],
+    locations: &mut [usize],
     letters: &mut [u8],
 ) -> ReadAnswer
-    ensures { λ r. ⌜ Answered (now (s .entry)) at (lent texts references comments rows qualifiers letters) (left texts references comments rows qualifiers letters) r ⌝ }
+    ensures { λ r. ⌜ Answered (now (s .entry)) at (lent texts references comments rows qualifiers locations letters) (left texts references comments rows qualifiers locations letters) r ⌝ }
 {
     let p = read_record_prepared::prepare(
         s,
@@ -25,8 +26,18 @@ pub fn read(
         comments,
         rows.len(),
         qualifiers.len(),
+        locations,
         letters,
     );
-    read_feature_rows::store_rows(s, p.at, p.count, texts, p.place, rows, qualifiers);
+    read_feature_rows::store_rows(
+        s,
+        p.at,
+        p.count,
+        texts,
+        p.place,
+        rows,
+        qualifiers,
+        locations,
+    );
     p.answer
 }

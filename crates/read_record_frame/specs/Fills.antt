@@ -1,20 +1,20 @@
 -- What the rooms hold once all of a record but its features is put.
-use Prim.Native.Nat.{ℕ, _+_}
+use Prim.Native.Nat.{ℕ, _+_, _*_}
 use native.Mathlib.Omega.{arith}
 use mathlib.Core.Path.{_≡_}
-use mathlib.Core.Bool.{false}
 use mathlib.Core.List.{List, _++_}
 use lib.ListN.{length, length-append}
 use lib.Seq.{sets}
 use Rattle.spec_format.specs.Table.{Table}
-use Rattle.spec_format.specs.Rooms.{perhaps, pieceText, piecesText, headPieces, referencePieces, commentPieces, textsOf, rowsOf, referencesAt, commentsAt, featuresAt, contigAt}
+use Rattle.spec_format.specs.Rooms.{perhaps, pieceText, contigText, contigRows, locationNumbers, locationCount, piecesText, headPieces, referencePieces, commentPieces, textsOf, rowsOf, referencesAt, commentsAt, featuresAt, contigAt}
 use Rattle.base_pen.specs.Pen.{Wrote}
 use Rattle.read_field_optional.specs.declared.MayEntry.{MayEntry}
-use Rattle.read_field_optional.specs.Fields.{MayStand}
-use Rattle.read_record_middle.specs.Middles.{contigIn}
+use Rattle.read_contig.specs.Contigs.{ContigStands}
 
-pub record ContigStands (s : List ℕ) (contig : MayEntry) : Type 0 where
-  pub stands : MayStand s 0 false (contigIn s contig) contig
+-- CONTIG's text stands where its entry says, with so many rows
+pub record ContigReady (s : List ℕ) (contig : MayEntry) : Type 0 where
+  pub rows : ℕ
+  pub stands : ContigStands s contig rows
 
 -- ---- what was put
 
@@ -34,10 +34,11 @@ pub record HeaderFilled (t : Table) (t₀ t₁ r₀ r₁ c₀ c₁ : List ℕ) (
   pub references : r₁ ≡ sets r₀ 0 (rowsOf referencePieces (referencesAt t) (t .references))
   pub comments : c₁ ≡ sets c₀ 0 (rowsOf commentPieces (commentsAt t) (t .comments))
 
--- all but the features: between the header's texts and CONTIG's there is a gap for theirs, which starts at `place`
-pub record AroundFilled (t : Table) (t₀ t₁ r₀ r₁ c₀ c₁ l₀ l₁ : List ℕ) (place : ℕ) : Type 0 where
+-- all but the features: between the header's texts and CONTIG's there is a gap for theirs, which starts at `place`; their location rows go before CONTIG's
+pub record AroundFilled (t : Table) (t₀ t₁ r₀ r₁ c₀ c₁ n₀ n₁ l₀ l₁ : List ℕ) (place : ℕ) : Type 0 where
   pub gap : place ≡ featuresAt t
-  pub texts : t₁ ≡ sets (sets t₀ 0 (headerText t)) (contigAt t) (pieceText (perhaps (t .contig)))
+  pub texts : t₁ ≡ sets (sets t₀ 0 (headerText t)) (contigAt t) (pieceText (perhaps (contigText (t .contig))))
   pub references : r₁ ≡ sets r₀ 0 (rowsOf referencePieces (referencesAt t) (t .references))
   pub comments : c₁ ≡ sets c₀ 0 (rowsOf commentPieces (commentsAt t) (t .comments))
+  pub locations : n₁ ≡ sets n₀ (7 * locationCount (t .features)) (locationNumbers (contigRows (t .contig)))
   pub letters : l₁ ≡ sets l₀ 0 (t .letters)

@@ -5,6 +5,7 @@ use mathlib.Core.List.{List}
 use native.Mathlib.Omega.{arith}
 use lib.ListN.{length, take, drop}
 use Rattle.spec_format.specs.Bytes.{bytes}
+use Rattle.spec_format.specs.declared.ContigText.{ContigText}
 use Rattle.spec_format.specs.declared.Span.{Span}
 use Rattle.spec_format.specs.declared.Text.{Text}
 use Rattle.spec_format.specs.declared.Text.the-variants as text
@@ -108,7 +109,7 @@ module _ (x : LocusPlan) (h : Header) (a : LocusHead) (e : a ≡ locusHead x) wh
     sum-is n k = omega (arith, after)
 
     pub head-is :
-        (features place : ℕ) (contig : MayEntry) (letters : ℕ) (y : SourceText) (z : Text) → y ≡ sourceAt (t .next) (h .source) → z ≡ entryAt place contig →
+        (features : ℕ) (contig : ContigText) (letters : ℕ) (y : SourceText) → y ≡ sourceAt (t .next) (h .source) →
         record {
           name = a .name;
           length = a .length;
@@ -125,11 +126,11 @@ module _ (x : LocusPlan) (h : Header) (a : LocusHead) (e : a ≡ locusHead x) wh
           references = h .references;
           comments = h .comments;
           features = features;
-          contig = z;
+          contig = contig;
           letters = letters;
         }
-        ≡ headIn x h features place contig letters
+        ≡ headIn x h features contig letters
     unfolding headIn
-    head-is features place contig letters y z p q = rw (q, p, f, e)
+    head-is features contig letters y p = rw (p, f, e)
 
 pub ruleset heading = (header-small, source-after, sum-small, sum-is, head-is)

@@ -1,6 +1,7 @@
 -- How many bytes the texts of a head take, and where each lies once they are put one after the other.
 use Prim.Native.Nat.{ℕ, _+_}
 use mathlib.Core.Bool.{Bool, false}
+use Rattle.spec_format.specs.declared.ContigText.{ContigText}
 use Rattle.spec_format.specs.declared.Span.{Span}
 use Rattle.spec_format.specs.declared.Text.{Text}
 use Rattle.spec_format.specs.declared.Text.the-variants as text
@@ -89,9 +90,9 @@ abbrev pub sourceAt : ℕ → MaySource → SourceText
 sourceAt place found.Absent = source.Absent
 sourceAt place (found.Is text organism) = source.At (record { start = place; length = text .length }) (entryAt (place + text .length) organism)
 
--- the head, with the counts; CONTIG is put at `place`
-unfoldable pub headIn : LocusPlan → Header → ℕ → ℕ → MayEntry → ℕ → Head
-headIn locus h features place contig letters =
+-- the head, with CONTIG, which is put later, and the counts
+unfoldable pub headIn : LocusPlan → Header → ℕ → ContigText → ℕ → Head
+headIn locus h features contig letters =
     record {
       name = locusHead locus .name;
       length = locusHead locus .length;
@@ -108,6 +109,6 @@ headIn locus h features place contig letters =
       references = h .references;
       comments = h .comments;
       features = features;
-      contig = entryAt place contig;
+      contig = contig;
       letters = letters;
     }

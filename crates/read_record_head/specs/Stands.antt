@@ -9,7 +9,8 @@ use lib.ListN.{length, length-append, length-take, length-drop}
 use Rattle.spec_format.specs.Bytes.{May, absent, is, bytes}
 use Rattle.spec_format.specs.Header.{Field, latest, textIn, sourceIn}
 use Rattle.spec_format.specs.Table.{Locus, Source, Table}
-use Rattle.spec_format.specs.Rooms.{pieceText, perhaps, piecesText, headPieces, sourceOf, organismOf, startOf, spanOf, textAt, sourceAt, lengthOf, contigAt, headOf}
+use Rattle.spec_format.specs.Rooms.{pieceText, perhaps, piecesText, headPieces, sourceOf, organismOf, startOf, spanOf, textAt, sourceAt, lengthOf, contigAt, contigTextAt, locationCount, headOf}
+use Rattle.spec_format.specs.declared.ContigText.{ContigText}
 use Rattle.spec_format.specs.declared.Span.{Span}
 use Rattle.spec_format.specs.declared.Text.{Text}
 use Rattle.spec_format.specs.declared.Text.the-variants as text
@@ -164,7 +165,7 @@ locus-placed s (plan.Known name n molecule circular division date) h =
 -- ---- the head
 
 -- a head from where its texts lie, and the counts
-abbrev headFrom : LocusHead → HeaderTexts → SourceText → ℕ → ℕ → ℕ → Text → ℕ → Head
+abbrev headFrom : LocusHead → HeaderTexts → SourceText → ℕ → ℕ → ℕ → ContigText → ℕ → Head
 headFrom l x source references comments features contig letters =
     record {
       name = l .name;
@@ -246,7 +247,8 @@ head-parts :
     headOf t ≡
     headFrom (locusOf (t .locus)) (headerOf (locusOf (t .locus) .next) t)
     (sourceAt (headerOf (locusOf (t .locus) .next) t .next) (headerOf (locusOf (t .locus) .next) t .next + size (sourceOf (t .source))) (t .source))
-    (length (t .references)) (length (t .comments)) (length (t .features)) (textAt (contigAt t) (t .contig)) (length (t .letters))
+    (length (t .references)) (length (t .comments)) (length (t .features)) (contigTextAt (contigAt t) (locationCount (t .features)) (t .contig))
+    (length (t .letters))
 unfolding headOf
 head-parts t = rw (start-0 t, start-1 t, start-2 t, start-3 t, start-4 t, start-5 t, start-6 t, start-7 t, start-8 t, start-9 t)
 
@@ -349,11 +351,11 @@ module _ (s : List ℕ) (at : ℕ) (locus : LocusPlan) (h : Header) (t : Table) 
 
   -- what `head_of` makes
   pub head-made :
-      (features place : ℕ) (contig : MayEntry) (letters from : ℕ) (keep : Bool) → h .references ≡ length (t .references) → h .comments ≡ length (t .comments) →
-      features ≡ length (t .features) → place ≡ contigAt t → MayStand s from keep (t .contig) contig → letters ≡ length (t .letters) →
-      headIn locus h features place contig letters ≡ headOf t
+      (features : ℕ) (contig : ContigText) (letters : ℕ) → h .references ≡ length (t .references) → h .comments ≡ length (t .comments) →
+      features ≡ length (t .features) → contig ≡ contigTextAt (contigAt t) (locationCount (t .features)) (t .contig) → letters ≡ length (t .letters) →
+      headIn locus h features contig letters ≡ headOf t
   unfolding headIn
-  head-made features place contig letters from keep r c f p m l =
+  head-made features contig letters r c f m l =
       let a = line-placed in
       let b = header-placed (locusHead locus .next) in
       let d = source-placed s at (headerTexts (locusHead locus .next) h .next) (t .source) (h .source) (k .source) in
@@ -362,8 +364,8 @@ module _ (s : List ℕ) (at : ℕ) (locus : LocusPlan) (h : Header) (t : Table) 
       go :
           (x : LocusHead) → x ≡ locusOf (t .locus) → (y : HeaderTexts) → y ≡ headerOf (x .next) t → (z : SourceText) →
           z ≡ sourceAt (y .next) (y .next + size (sourceOf (t .source))) (t .source) →
-          headFrom x y z (h .references) (h .comments) features (entryAt place contig) letters ≡ headOf t
-      go x a y b z d = rw (d, b, a, r, c, f, p, may-at s from keep (contigAt t) (t .contig) contig m, l) (sym (head-parts t))
+          headFrom x y z (h .references) (h .comments) features contig letters ≡ headOf t
+      go x a y b z d = rw (d, b, a, r, c, f, m, l) (sym (head-parts t))
 
 -- a table made of a header's fields stands so
 pub head-gathered :

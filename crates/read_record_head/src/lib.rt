@@ -4,6 +4,7 @@ use read_field_all::MaySource;
 use read_field_entry::Entry;
 use read_field_optional::MayEntry;
 use read_locus::LocusPlan;
+use spec_format::ContigText;
 use spec_format::Date;
 use spec_format::Dated;
 use spec_format::Head;
@@ -305,23 +306,21 @@ pub fn head_bytes(locus: LocusPlan, header: Header) -> usize
     t.next + source_length(source)
 }
 
-// The head: where the texts that `put_head` puts lie, and the counts. CONTIG is put later, at `place`.
+// The head: where the texts that `put_head` puts lie, and the counts. CONTIG is put later.
 pub fn head_of(
     locus: LocusPlan,
     header: Header,
     features: usize,
-    place: usize,
-    contig: MayEntry,
+    contig: ContigText,
     letters: usize,
 ) -> Head
     requires { ⌜ headBytes locus header < 2 ^ 64 ⌝ }
-    ensures { λ r. ⌜ r ≡ headIn locus header features place contig letters ⌝ }
+    ensures { λ r. ⌜ r ≡ headIn locus header features contig letters ⌝ }
 {
     let x = header.source;
     let l = locus_head(locus);
     let t = header_texts(header, l.next);
     let source = source_at(t.next, x);
-    let last = entry_at(place, contig);
     let name = l.name;
     let length = l.length;
     let molecule = l.molecule;
@@ -348,7 +347,7 @@ pub fn head_of(
         references: header.references,
         comments: header.comments,
         features,
-        contig: last,
+        contig,
         letters,
     }
 }

@@ -7,11 +7,11 @@ use lib.ListN.{length, drop}
 use lib.Dec.{ltb, leb}
 use borrow.Author.Tests.{ltb-true, ltb-false, le-leb, lt-leb}
 use Rattle.spec_format.specs.Bytes.{bytes}
-use Rattle.spec_format.specs.Readers.{Got, Cut}
+use Rattle.spec_format.specs.Readers.{Got}
 use Rattle.spec_format.specs.Table.{Locus}
 use Rattle.spec_format.specs.Locus.{preamble, locus}
 use Rattle.spec_format.specs.Header.{Field, every, textIn}
-use Rattle.spec_format.specs.Record.{Middle, middle, tableFrom, afterHeader, afterLocus, readRecord}
+use Rattle.spec_format.specs.Record.{Middle, middle, deepIn, tableFrom, afterHeader, afterLocus, readRecord}
 use Rattle.spec_format.specs.Rooms.{mayLength}
 use Rattle.spec_format.specs.declared.Length.{Length}
 use Rattle.spec_format.specs.declared.Unread.{Unread}
@@ -50,23 +50,28 @@ table-before : (given : Length) (l : Locus) (fs : List Field) (m : Middle) → l
 unfolding tableFrom
 table-before given l fs m e = record { none = refl; length = e }
 
-module _ (s : List ℕ) (at : ℕ) (given : Length) (r : MiddleAt) (h : Middles s (middle (drop at s)) r) where
+module _ (s : List ℕ) (at : ℕ) (given : Length) (r : MiddleAt) (h : Middles s (deepIn (drop at s)) (middle (drop at s)) r) where
+  as-told : (x : MiddleAt) → r ≡ x → MiddleAs s (deepIn (drop at s)) (middle (drop at s)) x
+  as-told x e = subst (λ (x : MiddleAt). MiddleAs s (deepIn (drop at s)) (middle (drop at s)) x) e (h .is)
+
   pub rest-cut : r ≡ mid.Cut → Rests s given (restThen (drop at s)) (rest.Refused unread.Unended)
   unfolding restThen
-  rest-cut e =
-      let k : middle (drop at s) ≡ Cut = subst (λ (x : MiddleAt). MiddleAs s (middle (drop at s)) x) e (h .is) in
-      record { is = λ l fs _. ap (afterHeader l fs) k }
+  rest-cut e = let k = as-told mid.Cut e in record { is = λ l fs _. rw (k .0, k .1) }
 
-  module _ (first : ℕ) (counts : Features) (entry : MayEntry) (next : ℕ) (e : r ≡ mid.Got first counts entry next) where
-    known : MiddleKnown s (middle (drop at s)) first counts entry next
-    known = subst (λ (x : MiddleAt). MiddleAs s (middle (drop at s)) x) e (h .is)
+  pub rest-deep : r ≡ mid.Deep → Rests s given (restThen (drop at s)) (rest.Refused unread.TooDeep)
+  unfolding restThen
+  rest-deep e = let k : deepIn (drop at s) ≡ true = as-told mid.Deep e in record { is = λ l fs _. rw k }
+
+  module _ (first : ℕ) (counts : Features) (entry : MayEntry) (rows next : ℕ) (e : r ≡ mid.Got first counts entry rows next) where
+    known : MiddleKnown s (deepIn (drop at s)) (middle (drop at s)) first counts entry rows next
+    known = as-told (mid.Got first counts entry rows next) e
 
     pub middle-within : next ≤ length s
     middle-within = known .within
 
     then-origin : (l : Locus) (fs : List Field) → restThen (drop at s) l fs ≡ originThen (drop next s) (tableFrom l fs (middleIn s first entry))
     unfolding restThen originThen
-    then-origin l fs = ap (afterHeader l fs) (known .is)
+    then-origin l fs = rw (known .shallow, known .is)
 
     module _ (q : EndAt) (w : Ends s given (originThen (drop next s)) q) where
       pub rest-refused : (why : Unread) → q ≡ ended.Refused why → Rests s given (restThen (drop at s)) (rest.Refused why)
@@ -76,7 +81,7 @@ module _ (s : List ℕ) (at : ℕ) (given : Length) (r : MiddleAt) (h : Middles 
 
       pub rest-got : (lettersAt n place : ℕ) → q ≡ ended.Got lettersAt n place →
           Rests s given (restThen (drop at s))
-          (rest.Got (record { «features_at» = first; features = counts; contig = entry; «letters_at» = lettersAt; letters = n; place = place }))
+          (rest.Got (record { «features_at» = first; features = counts; contig = entry; «contig_rows» = rows; «letters_at» = lettersAt; letters = n; place = place }))
       unfolding tableWith
       rest-got lettersAt n place f =
           let k : EndKnown s given (originThen (drop next s)) lettersAt n place = subst (λ (x : EndAt). EndAs s given (originThen (drop next s)) x) f (w .is) in
@@ -87,7 +92,7 @@ module _ (s : List ℕ) (at : ℕ) (given : Length) (r : MiddleAt) (h : Middles 
             };
           }
 
-pub ruleset resting = (rest-cut, middle-within, rest-refused, rest-got)
+pub ruleset resting = (rest-cut, rest-deep, middle-within, rest-refused, rest-got)
 
 -- ---- the header
 

@@ -11,7 +11,7 @@ use Rattle.spec_format.specs.Table.{Locus, Source, Table}
 use Rattle.spec_format.specs.Header.{Field, latest, every, textIn, sourceIn, referenceIn}
 use Rattle.spec_format.specs.Origin.{skipped}
 use Rattle.spec_format.specs.Record.{tableFrom}
-use Rattle.spec_format.specs.Rooms.{perhaps, pieceText, piecesText, sourceOf, organismOf, headPieces, referencePieces, commentPieces, textsOf, featureText, qualifierCount}
+use Rattle.spec_format.specs.Rooms.{perhaps, pieceText, piecesText, sourceOf, organismOf, headPieces, referencePieces, commentPieces, textsOf, featureText, qualifierCount, locationCount, contigText, contigRows}
 use Rattle.spec_format.specs.declared.Span.{Span}
 use Rattle.spec_format.specs.declared.Text.{Text}
 use Rattle.spec_format.specs.declared.Text.the-variants as text
@@ -22,12 +22,12 @@ use Rattle.read_locus.specs.Plans.{planned}
 use Rattle.read_locus_tokens.specs.Parts.{spanned}
 use Rattle.read_field_optional.specs.declared.MayEntry.{MayEntry}
 use Rattle.read_field_optional.specs.declared.MayEntry.the-variants as may
-use Rattle.read_field_optional.specs.Fields.{MayStand}
+use Rattle.read_field_optional.specs.Fields.{MayStand, mayLength}
 use Rattle.read_field_all.specs.declared.MaySource.{MaySource}
 use Rattle.read_field_all.specs.declared.MaySource.the-variants as source
 use Rattle.read_field_all.specs.Gathered.{fieldsAt, SourceStands}
 use Rattle.read_feature_table.specs.Reads.{featuresIn}
-use Rattle.read_record_middle.specs.Middles.{contigIn}
+use Rattle.read_contig.specs.Contigs.{contigIn, contigAs}
 use Rattle.read_record_plan.specs.declared.Plan.{Plan}
 use Rattle.read_record_plan.specs.Plans.{tableWith, planTable, PlanStands}
 
@@ -44,7 +44,7 @@ pub record TableParts (s : List ℕ) (p : Plan) : Type 0 where
   pub references : planTable s p .references ≡ every referenceIn (fieldsAt (drop (p .«header_at») s))
   pub comments : planTable s p .comments ≡ every (textIn (bytes "COMMENT")) (fieldsAt (drop (p .«header_at») s))
   pub features : planTable s p .features ≡ featuresIn (drop (p .rest .«features_at») s)
-  pub contig : planTable s p .contig ≡ contigIn s (p .rest .contig)
+  pub contig : planTable s p .contig ≡ contigAs (contigIn s (p .rest .contig))
   pub letters : planTable s p .letters ≡ sifted (drop (p .rest .«letters_at») s)
 
 pub table-parts : (s : List ℕ) (p : Plan) → TableParts s p
@@ -75,6 +75,16 @@ may-small : (s : List ℕ) (at : ℕ) (keep : Bool) (t : May (List ℕ)) (e : Ma
 may-small s at keep absent e h = omega arith
 may-small s at keep (is t) may.Absent h = absurd h
 may-small s at keep (is t) (may.Is e) h = omega (arith, h .sized, h .small, h .within)
+
+entry-small : (s : List ℕ) (at : ℕ) (keep : Bool) (t : May (List ℕ)) (e : MayEntry) → MayStand s at keep t e → mayLength e ≤ length s
+entry-small s at keep t may.Absent h = omega arith
+entry-small s at keep absent (may.Is e) h = absurd h
+entry-small s at keep (is t) (may.Is e) h = omega (arith, h .sized, h .small, h .within)
+
+-- a text with its rows is that text
+pub as-text : (m : May (List ℕ)) → contigText (contigAs m) ≡ m
+as-text absent = refl
+as-text (is t) = refl
 
 source-small : (s : List ℕ) (at : ℕ) (t : May Source) (e : MaySource) → SourceStands s at t e → (mayLong (sourceOf t) ≤ length s) × (mayLong (organismOf t) ≤ length s)
 source-small s at absent e h = (omega arith, omega arith)
@@ -113,11 +123,13 @@ pub record SmallParts (n : ℕ) (t : Table) : Type 0 where
   pub reference-texts : length (textsOf referencePieces (t .references)) ≤ n
   pub comment-texts : length (textsOf commentPieces (t .comments)) ≤ n
   pub feature-texts : length (each featureText (t .features)) ≤ n
-  pub contig : length (pieceText (perhaps (t .contig))) ≤ n
+  pub contig : length (pieceText (perhaps (contigText (t .contig)))) ≤ n
   pub references : length (t .references) ≤ n
   pub comments : length (t .comments) ≤ n
   pub features : length (t .features) ≤ n
   pub qualifiers : qualifierCount (t .features) ≤ n
+  pub locations : locationCount (t .features) ≤ n
+  pub contig-rows : length (contigRows (t .contig)) ≤ n
   pub letters : length (t .letters) ≤ n
 
 head-long : (t : Table) →
@@ -148,10 +160,13 @@ small-parts s p h =
       reference-texts = rw (q .references) (omega (arith, g .reference-bytes, g .small, g .within));
       comment-texts = rw (q .comments) (omega (arith, g .comment-bytes, g .small, g .within));
       feature-texts = rw (q .features) (omega (arith, m .read .bytes, m .read .small, m .read .within));
-      contig = rw (q .contig) (may-small s 0 false (contigIn s (p .rest .contig)) (p .rest .contig) (m .contig));
+      contig = rw (q .contig, as-text (contigIn s (p .rest .contig))) (may-small s 0 false (contigIn s (p .rest .contig)) (p .rest .contig) (m .contig .text));
       references = rw (q .references) (omega (arith, g .references, g .few, g .within));
       comments = rw (q .comments) (omega (arith, g .comments, g .few, g .within));
       features = rw (q .features) (omega (arith, m .read .count, m .read .few, m .read .within));
       qualifiers = rw (q .features) (omega (arith, m .read .qualifiers, m .read .few, m .read .within));
+      locations = rw (q .features) (omega (arith, m .read .rows, m .read .short, m .read .within));
+      contig-rows =
+          rw (q .contig) (omega (arith, m .contig .counted, m .contig .few, entry-small s 0 false (contigIn s (p .rest .contig)) (p .rest .contig) (m .contig .text)));
       letters = rw (q .letters) (omega (arith, letters-small (drop (p .rest .«letters_at») s), length-drop (p .rest .«letters_at») s));
     }

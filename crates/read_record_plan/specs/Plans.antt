@@ -3,11 +3,13 @@ use Prim.Native.Nat.{ℕ, _≤_}
 use mathlib.Core.Path.{_≡_}
 use mathlib.Core.List.{List}
 use lib.ListN.{length, drop}
+use Rattle.spec_format.specs.Bytes.{pick}
 use Rattle.spec_format.specs.Readers.{whileFits}
 use Rattle.spec_format.specs.Table.{Locus, Table}
 use Rattle.spec_format.specs.Header.{Field, headerField}
-use Rattle.spec_format.specs.Record.{Outcome, Read, Not, most, withLetters, middle, tableFrom, afterHeader, header}
+use Rattle.spec_format.specs.Record.{Outcome, Read, Not, most, withLetters, middle, deepIn, tableFrom, afterHeader, header}
 use Rattle.spec_format.specs.Rooms.{mayLength}
+use Rattle.spec_format.specs.declared.Unread.the-variants as unread
 use Rattle.spec_format.specs.declared.Length.{Length}
 use Rattle.spec_format.specs.declared.Length.the-variants as bases
 use Rattle.read_letters.specs.Runs.{sifted}
@@ -30,7 +32,7 @@ lengthIn (locus.Known name n molecule circular division date) = bases.Bases n
 -- ---- after the header, whatever LOCUS and header were read
 
 unfoldable pub restThen : List ℕ → Locus → List Field → Outcome
-restThen s l fs = afterHeader l fs (middle s)
+restThen s l fs = pick (deepIn s) (Not unread.TooDeep) (afterHeader l fs (middle s))
 
 -- the table of what was read before and of what a plan says of the rest
 unfoldable pub tableWith : List ℕ → Locus → List Field → Rest → Table
@@ -38,7 +40,7 @@ tableWith s l fs r = withLetters (tableFrom l fs (middleIn s (r .«features_at»
 
 -- places and counts of the rest
 pub record RestStands (s : List ℕ) (r : Rest) : Type 0 where
-  pub middle : MiddleStands s (r .«features_at») (r .features) (r .contig)
+  pub middle : MiddleStands s (r .«features_at») (r .features) (r .contig) (r .«contig_rows»)
   pub counted : r .letters ≡ length (sifted (drop (r .«letters_at») s))
   pub lettered : r .«letters_at» ≤ length s
   pub within : r .place ≤ length s

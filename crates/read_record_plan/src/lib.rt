@@ -13,7 +13,7 @@ ghost use mathlib.Core.Path.{_≡_};
 ghost use Prim.Native.Nat.{_≤_};
 ghost use lib.ListN.{length, drop};
 ghost use Rattle.spec_format.specs.Locus.{locus};
-ghost use Rattle.spec_format.specs.Record.{afterLocus, readRecord};
+ghost use Rattle.spec_format.specs.Record.{most, afterLocus, readRecord};
 ghost use Rattle.read_locus.specs.Plans.{planned, PlanEnds};
 ghost use Rattle.read_record_plan.specs.Plans.{lengthIn, restThen, Rests, headerThen, Plans};
 
@@ -22,6 +22,7 @@ pub struct Rest {
     pub features_at: usize,
     pub features: Features,
     pub contig: MayEntry,
+    pub contig_rows: usize,
     pub letters_at: usize,
     pub letters: usize,
     pub place: usize,
@@ -64,15 +65,17 @@ fn locus_length(plan: LocusPlan) -> Length
 
 // All that follows the header.
 fn rest_at(s: &[u8], at: usize, given: Length) -> RestAt
-    requires { ⌜ at ≤ length (now s) ⌝ }
+    requires { ⌜ (at ≤ length (now s)) × (length (now s) ≤ most) ⌝ }
     ensures { λ r. ⌜ Rests (now (s .entry)) given (restThen (drop at (now (s .entry)))) r ⌝ }
 {
     match read_record_middle::middle_at(s, at) {
         MiddleAt::Cut => RestAt::Refused(Unread::Unended),
+        MiddleAt::Deep => RestAt::Refused(Unread::TooDeep),
         MiddleAt::Got {
             features_at,
             features: counts,
             contig,
+            contig_rows,
             next,
         } => match read_origin::end_at(s, next, given) {
             EndAt::Refused(why) => RestAt::Refused(why),
@@ -84,6 +87,7 @@ fn rest_at(s: &[u8], at: usize, given: Length) -> RestAt
                 features_at,
                 features: counts,
                 contig,
+                contig_rows,
                 letters_at,
                 letters,
                 place,
@@ -94,7 +98,7 @@ fn rest_at(s: &[u8], at: usize, given: Length) -> RestAt
 
 // All that follows LOCUS.
 fn plan_header(s: &[u8], at: usize, plan: LocusPlan) -> PlanAt
-    requires { ⌜ (at ≤ length (now s)) × PlanEnds (length (now s)) plan ⌝ }
+    requires { ⌜ (at ≤ length (now s)) × (length (now s) ≤ most) × PlanEnds (length (now s)) plan ⌝ }
     ensures { λ r. ⌜ Plans (now (s .entry)) (headerThen (planned (now (s .entry)) plan) (drop at (now (s .entry)))) r ⌝ }
 {
     let header = read_field_all::header_at(s, at);
@@ -114,7 +118,7 @@ fn plan_header(s: &[u8], at: usize, plan: LocusPlan) -> PlanAt
 
 // From LOCUS on.
 fn plan_locus(s: &[u8], at: usize) -> PlanAt
-    requires { ⌜ at ≤ length (now s) ⌝ }
+    requires { ⌜ (at ≤ length (now s)) × (length (now s) ≤ most) ⌝ }
     ensures { λ r. ⌜ Plans (now (s .entry)) (afterLocus (locus (drop at (now (s .entry))))) r ⌝ }
 {
     match read_locus_at::locus_at(s, at) {
@@ -125,7 +129,7 @@ fn plan_locus(s: &[u8], at: usize) -> PlanAt
 }
 
 pub fn plan_at(s: &[u8], at: usize) -> PlanAt
-    requires { ⌜ at ≤ length (now s) ⌝ }
+    requires { ⌜ (at ≤ length (now s)) × (length (now s) ≤ most) ⌝ }
     ensures { λ r. ⌜ Plans (now (s .entry)) (readRecord (drop at (now (s .entry)))) r ⌝ }
 {
     match read_preamble::preamble_at(s, at) {

@@ -42,7 +42,7 @@ module _ (s : List ℕ) (at : ℕ) where
 module _ (s : List ℕ) (at : ℕ) (old : Rooms) (why : Unread) where
   pub refused : readAt s at ≡ Not why → Answered s at old old (answer.Refused why)
   unfolding readAnswer answerOf roomsAfter roomsOf
-  refused e = record { is = rw e; texts = rw e; references = rw e; comments = rw e; features = rw e; qualifiers = rw e; letters = rw e }
+  refused e = record { is = rw e; texts = rw e; references = rw e; comments = rw e; features = rw e; qualifiers = rw e; locations = rw e; letters = rw e }
 
 module _ (s : List ℕ) (at : ℕ) (old : Rooms) where
   pub refused-long : most < length s → Answered s at old old (answer.Refused unread.BadPlace)
@@ -81,5 +81,6 @@ module _ (s : List ℕ) (at : ℕ) (q : PlanAt) (h : Plans s (readRecord (drop a
           comments = ap (λ (x : Rooms). x .comments) m;
           features = ap (λ (x : Rooms). x .features) m;
           qualifiers = ap (λ (x : Rooms). x .qualifiers) m;
+          locations = ap (λ (x : Rooms). x .locations) m;
           letters = ap (λ (x : Rooms). x .letters) m;
         }

@@ -52,80 +52,83 @@ none-fits s =
     rw (none-left s)
     (record {
       within = omega arith;
+      short = λ h. absurd (omega arith);
       counted = refl;
       texts = omega arith;
       qualifiers = omega arith;
     })
 
 -- nothing is put
-unchanged : (s t₁ t₂ f₀ f₁ q₀ q₁ : List ℕ) (z : ℕ) → FeaturesPut 0 (featuresIn (drop (length s) s)) t₁ t₂ f₀ f₁ q₀ q₁ z → (t₂ ≡ t₁) × ((f₁ ≡ f₀) × (q₁ ≡ q₀))
+unchanged : (s t₁ t₂ f₀ f₁ q₀ q₁ n₀ n₁ : List ℕ) (z : ℕ) → FeaturesPut 0 (featuresIn (drop (length s) s)) t₁ t₂ f₀ f₁ q₀ q₁ n₀ n₁ z →
+    (t₂ ≡ t₁) × ((f₁ ≡ f₀) × ((q₁ ≡ q₀) × (n₁ ≡ n₀)))
 unfolding featureRows qualifierRows
-unchanged s t₁ t₂ f₀ f₁ q₀ q₁ z h =
-    let k : FeaturesPut 0 [] t₁ t₂ f₀ f₁ q₀ q₁ z = subst (λ (fs : List Feature). FeaturesPut 0 fs t₁ t₂ f₀ f₁ q₀ q₁ z) (none-left s) h in
-    (k .texts .is, (k .features, k .qualifiers))
+unchanged s t₁ t₂ f₀ f₁ q₀ q₁ n₀ n₁ z h =
+    let k : FeaturesPut 0 [] t₁ t₂ f₀ f₁ q₀ q₁ n₀ n₁ z = subst (λ (fs : List Feature). FeaturesPut 0 fs t₁ t₂ f₀ f₁ q₀ q₁ n₀ n₁ z) (none-left s) h in
+    (k .texts .is, (k .features, (k .qualifiers, k .locations)))
 
-module _ (s : List ℕ) (at : ℕ) (t r c : List ℕ) (rows qualifiers : ℕ) (l : List ℕ) (x : Prepared) where
+module _ (s : List ℕ) (at : ℕ) (t r c : List ℕ) (rows qualifiers : ℕ) (n l : List ℕ) (x : Prepared) where
   -- an answer that leaves all rooms as they were
-  unprepared : (a : ReadAnswer) → ((old : Rooms) → Answered s at old old a) → x ≡ noRows (length s) a → Prepares s at t t r r c c rows qualifiers l l x
+  unprepared : (a : ReadAnswer) → ((old : Rooms) → Answered s at old old a) → x ≡ noRows (length s) a → Prepares s at t t r r c c rows qualifiers n n l l x
   unprepared a h e =
-      subst (λ (y : Prepared). Prepares s at t t r r c c rows qualifiers l l y) (sym e)
+      subst (λ (y : Prepared). Prepares s at t t r r c c rows qualifiers n n l l y) (sym e)
       (record {
-        answers = λ t₂ f₀ f₁ q₀ q₁ z n m k.
-            let u = unchanged s t t₂ f₀ f₁ q₀ q₁ z k in
-            rw (u .0, u .1 .0, u .1 .1) (h (roomsIn t r c f₀ q₀ l));
+        answers = λ t₂ f₀ f₁ q₀ q₁ n₂ z i j k.
+            let u = unchanged s t t₂ f₀ f₁ q₀ q₁ n n₂ z k in
+            rw (u .0, u .1 .0, u .1 .1 .0, u .1 .1 .1) (h (roomsIn t r c f₀ q₀ n l));
         fits = none-fits s;
       })
 
-  pub unread-long : most < length s → x ≡ noRows (length s) (answer.Refused unread.BadPlace) → Prepares s at t t r r c c rows qualifiers l l x
+  pub unread-long : most < length s → x ≡ noRows (length s) (answer.Refused unread.BadPlace) → Prepares s at t t r r c c rows qualifiers n n l l x
   unread-long h e = unprepared (answer.Refused unread.BadPlace) (λ old. refused-long s at old h) e
 
-  pub unread-beyond : length s ≤ most → length s < at → x ≡ noRows (length s) (answer.Refused unread.BadPlace) → Prepares s at t t r r c c rows qualifiers l l x
+  pub unread-beyond : length s ≤ most → length s < at → x ≡ noRows (length s) (answer.Refused unread.BadPlace) → Prepares s at t t r r c c rows qualifiers n n l l x
   unread-beyond m h e = unprepared (answer.Refused unread.BadPlace) (λ old. refused-beyond s at old m h) e
 
-  pub unread-end : length s ≤ most → length s ≤ at → at ≤ length s → x ≡ noRows (length s) (answer.Refused unread.AtEnd) → Prepares s at t t r r c c rows qualifiers l l x
+  pub unread-end : length s ≤ most → length s ≤ at → at ≤ length s → x ≡ noRows (length s) (answer.Refused unread.AtEnd) →
+      Prepares s at t t r r c c rows qualifiers n n l l x
   unread-end m h w e = unprepared (answer.Refused unread.AtEnd) (λ old. refused-end s at old m h w) e
 
   pub unread-plan : (o : PlanAt) → Plans s (readRecord (drop at s)) o → length s ≤ most → at < length s → (why : Unread) → o ≡ plan.Refused why →
-      x ≡ noRows (length s) (answer.Refused why) → Prepares s at t t r r c c rows qualifiers l l x
+      x ≡ noRows (length s) (answer.Refused why) → Prepares s at t t r r c c rows qualifiers n n l l x
   unread-plan o h m w why k e = unprepared (answer.Refused why) (λ old. refused-plan s at o h m w old why k) e
 
 -- what was planned is what is read
 pub prepared : (s : List ℕ) (at : ℕ) (o : PlanAt) → Plans s (readRecord (drop at s)) o → length s ≤ most → at < length s → (p : Plan) → o ≡ plan.Ready p →
-    (t₀ t₁ r₀ r₁ c₀ c₁ : List ℕ) (rows qualifiers : ℕ) (l₀ l₁ : List ℕ) (x : Prepared) → Planned s p t₀ t₁ r₀ r₁ c₀ c₁ rows qualifiers l₀ l₁ x →
-    Prepares s at t₀ t₁ r₀ r₁ c₀ c₁ rows qualifiers l₀ l₁ x
-prepared s at o h m w p e t₀ t₁ r₀ r₁ c₀ c₁ rows qualifiers l₀ l₁ x k =
+    (t₀ t₁ r₀ r₁ c₀ c₁ : List ℕ) (rows qualifiers : ℕ) (n₀ n₁ l₀ l₁ : List ℕ) (x : Prepared) →
+    Planned s p t₀ t₁ r₀ r₁ c₀ c₁ rows qualifiers n₀ n₁ l₀ l₁ x → Prepares s at t₀ t₁ r₀ r₁ c₀ c₁ rows qualifiers n₀ n₁ l₀ l₁ x
+prepared s at o h m w p e t₀ t₁ r₀ r₁ c₀ c₁ rows qualifiers n₀ n₁ l₀ l₁ x k =
     record {
-      answers = λ t₂ f₀ f₁ q₀ q₁ z u v d.
-          answered s at o h m w p e (roomsIn t₀ r₀ c₀ f₀ q₀ l₀) (roomsIn t₂ r₁ c₁ f₁ q₁ l₁) (x .answer) (k .answers t₂ f₀ f₁ q₀ q₁ z u v d);
+      answers = λ t₂ f₀ f₁ q₀ q₁ n₂ z u v d.
+          answered s at o h m w p e (roomsIn t₀ r₀ c₀ f₀ q₀ n₀ l₀) (roomsIn t₂ r₁ c₁ f₁ q₁ n₂ l₁) (x .answer) (k .answers t₂ f₀ f₁ q₀ q₁ n₂ z u v d);
       fits = k .fits;
     }
 
 -- ---- all features
 
-module _ (s : List ℕ) (p : Plan) (h : Ready s p) (t₀ r₀ c₀ : List ℕ) (rows qualifiers : ℕ) (l₀ : List ℕ) (n : Sizes) (b : Bool) (k : n ≡ sizesIn p)
-    (m : b ≡ fitsIn n (length t₀) (length r₀) (length c₀) (6 * rows) qualifiers (length l₀)) (x : Prepared) where
-  fits-rooms : (f₀ q₀ : List ℕ) → length f₀ ≡ 6 * rows → length q₀ ≡ qualifiers →
-      b ≡ fitsIn n (length t₀) (length r₀) (length c₀) (length f₀) (length q₀) (length l₀)
+module _ (s : List ℕ) (p : Plan) (h : Ready s p) (t₀ r₀ c₀ : List ℕ) (rows qualifiers : ℕ) (n₀ l₀ : List ℕ) (n : Sizes) (b : Bool) (k : n ≡ sizesIn p)
+    (m : b ≡ fitsIn n (length t₀) (length r₀) (length c₀) (8 * rows) qualifiers (length n₀) (length l₀)) (x : Prepared) where
+  fits-rooms : (f₀ q₀ : List ℕ) → length f₀ ≡ 8 * rows → length q₀ ≡ qualifiers →
+      b ≡ fitsIn n (length t₀) (length r₀) (length c₀) (length f₀) (length q₀) (length n₀) (length l₀)
   fits-rooms f₀ q₀ e d = rw (e, d) m
 
-  pub planned-room : not b ≡ true → x ≡ noRows (length s) (answer.Room n) → Planned s p t₀ t₀ r₀ r₀ c₀ c₀ rows qualifiers l₀ l₀ x
+  pub planned-room : not b ≡ true → x ≡ noRows (length s) (answer.Room n) → Planned s p t₀ t₀ r₀ r₀ c₀ c₀ rows qualifiers n₀ n₀ l₀ l₀ x
   planned-room w e =
-      subst (λ (y : Prepared). Planned s p t₀ t₀ r₀ r₀ c₀ c₀ rows qualifiers l₀ l₀ y) (sym e)
+      subst (λ (y : Prepared). Planned s p t₀ t₀ r₀ r₀ c₀ c₀ rows qualifiers n₀ n₀ l₀ l₀ y) (sym e)
       (record {
-        answers = λ t₂ f₀ f₁ q₀ q₁ z u v d.
-            let same = unchanged s t₀ t₂ f₀ f₁ q₀ q₁ z d in
-            rw (same .0, same .1 .0, same .1 .1) (answer-room s p h (roomsIn t₀ r₀ c₀ f₀ q₀ l₀) n b k (fits-rooms f₀ q₀ u v) w);
+        answers = λ t₂ f₀ f₁ q₀ q₁ n₂ z u v d.
+            let same = unchanged s t₀ t₂ f₀ f₁ q₀ q₁ n₀ n₂ z d in
+            rw (same .0, same .1 .0, same .1 .1 .0, same .1 .1 .1) (answer-room s p h (roomsIn t₀ r₀ c₀ f₀ q₀ n₀ l₀) n b k (fits-rooms f₀ q₀ u v) w);
         fits = none-fits s;
       })
 
-  pub planned-done : (t₁ r₁ c₁ l₁ : List ℕ) (a : ℕ) → not b ≡ false → AroundFilled (planTable s p) t₀ t₁ r₀ r₁ c₀ c₁ l₀ l₁ a → x ≡ allRows p a →
-      Planned s p t₀ t₁ r₀ r₁ c₀ c₁ rows qualifiers l₀ l₁ x
-  planned-done t₁ r₁ c₁ l₁ a w d e =
-      subst (λ (y : Prepared). Planned s p t₀ t₁ r₀ r₁ c₀ c₁ rows qualifiers l₀ l₁ y) (sym e)
+  pub planned-done : (t₁ r₁ c₁ n₁ l₁ : List ℕ) (a : ℕ) → not b ≡ false → AroundFilled (planTable s p) t₀ t₁ r₀ r₁ c₀ c₁ n₀ n₁ l₀ l₁ a → x ≡ allRows p a →
+      Planned s p t₀ t₁ r₀ r₁ c₀ c₁ rows qualifiers n₀ n₁ l₀ l₁ x
+  planned-done t₁ r₁ c₁ n₁ l₁ a w d e =
+      subst (λ (y : Prepared). Planned s p t₀ t₁ r₀ r₁ c₀ c₁ rows qualifiers n₀ n₁ l₀ l₁ y) (sym e)
       (record {
-        answers = λ t₂ f₀ f₁ q₀ q₁ z u v y.
-            answer-done s p h (roomsIn t₀ r₀ c₀ f₀ q₀ l₀) n b k (fits-rooms f₀ q₀ u v) (roomsIn t₂ r₁ c₁ f₁ q₁ l₁) w
-            (laid-over s p h t₀ t₁ t₂ r₀ r₁ c₀ c₁ f₀ f₁ q₀ q₁ l₀ l₁ a z d y);
+        answers = λ t₂ f₀ f₁ q₀ q₁ n₂ z u v y.
+            answer-done s p h (roomsIn t₀ r₀ c₀ f₀ q₀ n₀ l₀) n b k (fits-rooms f₀ q₀ u v) (roomsIn t₂ r₁ c₁ f₁ q₁ n₂ l₁) w
+            (laid-over s p h t₀ t₁ t₂ r₀ r₁ c₀ c₁ f₀ f₁ q₀ q₁ n₀ n₁ n₂ l₀ l₁ a z d y);
         fits = features-fit s p h a (d .gap);
       })
 

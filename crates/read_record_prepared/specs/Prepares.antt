@@ -34,17 +34,17 @@ allRows p place =
     }
 
 -- of a record that a plan stands for: whatever rooms, of so many rows and numbers of qualifiers, have the features put
-pub record Planned (s : List ℕ) (p : Plan) (t₀ t₁ r₀ r₁ c₀ c₁ : List ℕ) (rows qualifiers : ℕ) (l₀ l₁ : List ℕ) (r : Prepared) : Type 0 where
+pub record Planned (s : List ℕ) (p : Plan) (t₀ t₁ r₀ r₁ c₀ c₁ : List ℕ) (rows qualifiers : ℕ) (n₀ n₁ l₀ l₁ : List ℕ) (r : Prepared) : Type 0 where
   pub answers :
-      (t₂ f₀ f₁ q₀ q₁ : List ℕ) (z : ℕ) → length f₀ ≡ 6 * rows → length q₀ ≡ qualifiers →
-      FeaturesPut (r .place) (featuresIn (drop (r .at) s)) t₁ t₂ f₀ f₁ q₀ q₁ z →
-      Answering s p (roomsIn t₀ r₀ c₀ f₀ q₀ l₀) (roomsIn t₂ r₁ c₁ f₁ q₁ l₁) (r .answer)
+      (t₂ f₀ f₁ q₀ q₁ n₂ : List ℕ) (z : ℕ) → length f₀ ≡ 8 * rows → length q₀ ≡ qualifiers →
+      FeaturesPut (r .place) (featuresIn (drop (r .at) s)) t₁ t₂ f₀ f₁ q₀ q₁ n₁ n₂ z →
+      Answering s p (roomsIn t₀ r₀ c₀ f₀ q₀ n₀ l₀) (roomsIn t₂ r₁ c₁ f₁ q₁ n₂ l₁) (r .answer)
   pub fits : Fits s (r .at) (r .count) (r .place) (featuresIn (drop (r .at) s))
 
 -- the same of the record at a place
-pub record Prepares (s : List ℕ) (at : ℕ) (t₀ t₁ r₀ r₁ c₀ c₁ : List ℕ) (rows qualifiers : ℕ) (l₀ l₁ : List ℕ) (r : Prepared) : Type 0 where
+pub record Prepares (s : List ℕ) (at : ℕ) (t₀ t₁ r₀ r₁ c₀ c₁ : List ℕ) (rows qualifiers : ℕ) (n₀ n₁ l₀ l₁ : List ℕ) (r : Prepared) : Type 0 where
   pub answers :
-      (t₂ f₀ f₁ q₀ q₁ : List ℕ) (z : ℕ) → length f₀ ≡ 6 * rows → length q₀ ≡ qualifiers →
-      FeaturesPut (r .place) (featuresIn (drop (r .at) s)) t₁ t₂ f₀ f₁ q₀ q₁ z →
-      Answered s at (roomsIn t₀ r₀ c₀ f₀ q₀ l₀) (roomsIn t₂ r₁ c₁ f₁ q₁ l₁) (r .answer)
+      (t₂ f₀ f₁ q₀ q₁ n₂ : List ℕ) (z : ℕ) → length f₀ ≡ 8 * rows → length q₀ ≡ qualifiers →
+      FeaturesPut (r .place) (featuresIn (drop (r .at) s)) t₁ t₂ f₀ f₁ q₀ q₁ n₁ n₂ z →
+      Answered s at (roomsIn t₀ r₀ c₀ f₀ q₀ n₀ l₀) (roomsIn t₂ r₁ c₁ f₁ q₁ n₂ l₁) (r .answer)
   pub fits : Fits s (r .at) (r .count) (r .place) (featuresIn (drop (r .at) s))

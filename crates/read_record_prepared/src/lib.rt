@@ -59,10 +59,11 @@ fn planned(
     comments: &mut [usize],
     rows: usize,
     qualifiers: usize,
+    locations: &mut [usize],
     letters: &mut [u8],
 ) -> Prepared
-    requires { ⌜ Ready (now s) plan × (6 * rows < 2 ^ 64) ⌝ }
-    ensures { λ r. ⌜ Planned (now (s .entry)) plan (now (texts .entry)) (now (texts .exit)) (now (references .entry)) (now (references .exit)) (now (comments .entry)) (now (comments .exit)) rows qualifiers (now (letters .entry)) (now (letters .exit)) r ⌝ }
+    requires { ⌜ Ready (now s) plan × (8 * rows < 2 ^ 64) ⌝ }
+    ensures { λ r. ⌜ Planned (now (s .entry)) plan (now (texts .entry)) (now (texts .exit)) (now (references .entry)) (now (references .exit)) (now (comments .entry)) (now (comments .exit)) rows qualifiers (now (locations .entry)) (now (locations .exit)) (now (letters .entry)) (now (letters .exit)) r ⌝ }
 {
     let n = read_record_sizes::sizes_of(plan);
     if !read_record_sizes::enough(
@@ -70,13 +71,22 @@ fn planned(
         texts.len(),
         references.len(),
         comments.len(),
-        6 * rows,
+        8 * rows,
         qualifiers,
+        locations.len(),
         letters.len(),
     ) {
         return no_rows(s, ReadAnswer::Room(n));
     }
-    let place = read_record_frame::fill_around(s, plan, texts, references, comments, letters);
+    let place = read_record_frame::fill_around(
+        s,
+        plan,
+        texts,
+        references,
+        comments,
+        locations,
+        letters,
+    );
     all_rows(plan, place)
 }
 
@@ -89,10 +99,11 @@ pub fn prepare(
     comments: &mut [usize],
     rows: usize,
     qualifiers: usize,
+    locations: &mut [usize],
     letters: &mut [u8],
 ) -> Prepared
-    requires { ⌜ 6 * rows < 2 ^ 64 ⌝ }
-    ensures { λ r. ⌜ Prepares (now (s .entry)) at (now (texts .entry)) (now (texts .exit)) (now (references .entry)) (now (references .exit)) (now (comments .entry)) (now (comments .exit)) rows qualifiers (now (letters .entry)) (now (letters .exit)) r ⌝ }
+    requires { ⌜ 8 * rows < 2 ^ 64 ⌝ }
+    ensures { λ r. ⌜ Prepares (now (s .entry)) at (now (texts .entry)) (now (texts .exit)) (now (references .entry)) (now (references .exit)) (now (comments .entry)) (now (comments .exit)) rows qualifiers (now (locations .entry)) (now (locations .exit)) (now (letters .entry)) (now (letters .exit)) r ⌝ }
 {
     if MOST < s.len() {
         return no_rows(s, ReadAnswer::Refused(Unread::BadPlace));
@@ -113,6 +124,7 @@ pub fn prepare(
             comments,
             rows,
             qualifiers,
+            locations,
             letters,
         ),
     }

@@ -6,7 +6,7 @@ use mathlib.Core.Path.{_≡_, refl}
 use mathlib.Core.List.{List, _∷_, _++_, append-assoc}
 use lib.ListN.{length, length-append, length-replicate}
 use Rattle.spec_format.specs.Bytes.{is, bytes, spaces, each}
-use Rattle.spec_format.specs.Table.{Feature}
+use Rattle.spec_format.specs.Table.{Feature, Contig}
 use Rattle.spec_format.specs.Wrap.{wrapLocation}
 use Rattle.spec_format.specs.Write.{padded, qualifierLines, featureLines, featuresLines, contigLines}
 use Rattle.spec_public.specs.Public.{entryColumns, featuresColumns, featureColumns}
@@ -62,5 +62,5 @@ contig-start : (l : List ℕ) → entryColumns 1 (bytes "CONTIG") l (bytes "CONT
 contig-start l = both _ _ refl (both _ _ refl (both _ _ (same-as l l refl) refl))
 
 -- CONTIG has its word at column 1, its text from column 13, where it goes on, broken like a location
-pub contig-columns : (W : ℕ) (c : List ℕ) → 12 < W → BrokenLines (entryColumns 1 (bytes "CONTIG")) 13 (W - 12) (W - 12) c (contigLines W (is c))
-contig-columns W c h = location-lines (entryColumns 1 (bytes "CONTIG")) W 12 (bytes "CONTIG      ") c h h contig-start
+pub contig-columns : (W : ℕ) (c : Contig) → 12 < W → BrokenLines (entryColumns 1 (bytes "CONTIG")) 13 (W - 12) (W - 12) (c .text) (contigLines W (is c))
+contig-columns W c h = location-lines (entryColumns 1 (bytes "CONTIG")) W 12 (bytes "CONTIG      ") (c .text) h h contig-start

@@ -8,6 +8,7 @@ use Rattle.spec_format.specs.Bytes.{absent, is, bytes, all, digits}
 use Rattle.spec_format.specs.Dates.{monthName, dateText}
 use Rattle.spec_format.specs.declared.Dated.the-variants as dated
 use Rattle.spec_format.specs.Table.{Feature, Table}
+use Rattle.spec_format.specs.Location.{rowsIn}
 use Rattle.spec_format.specs.Locus.{tokens}
 use Rattle.spec_format.specs.Write.{lengthText, words, joined, printedName, locusText, fieldLines, featureLines, letterLines, originLines}
 use Rattle.spec_format.specs.Wrap.{fill, closing, linesAfter, wrapped, wrapText, commaLines, wrapLocation}
@@ -75,7 +76,7 @@ locus-outside = refl
 -- ---- features
 
 abbrev pub featureOf : ℕ → Feature
-featureOf n = record { kind = letters n; location = bytes "1"; qualifiers = [] }
+featureOf n = record { kind = letters n; location = bytes "1"; qualifiers = []; rows = rowsIn false (bytes "1") }
 
 -- a kind of 15 bytes meets the columns; one of 16 pushes the location to column 23
 pub kind-outside :

@@ -6,7 +6,7 @@ use mathlib.Core.List.{List, [], _∷_, _++_, append-assoc, append-nil}
 use lib.ListN.{length, take, drop}
 use lib.Dec.{ltb, leb}
 use Rattle.spec_format.specs.Bytes.{May, absent, is, bytes, spaces, each, pick}
-use Rattle.spec_format.specs.Table.{Source, Reference, Qualifier, Feature, Table}
+use Rattle.spec_format.specs.Table.{Source, Reference, Qualifier, Feature, Contig, Table}
 use Rattle.spec_format.specs.Wrap.{Line, lineText, lineRest, fill, closing, linesAfter, wrapped, wrapText, breakAt, commaLines, wrapLocation}
 use Rattle.spec_format.specs.Write.{padded, fieldLines, maybeLines, sourceLines, referenceLines, headerLines, commaKey, keyText, quotes, valueLines, qualifierText, qualifierLines, featureLines, featuresLines, contigLines, lineStart, tenStart, letterLines, originLines, locusText, written}
 use Rattle.spec_columns.specs.LocusLine.{lineOf, locus-line}
@@ -144,9 +144,9 @@ features-section W [] = none refl
 features-section W (f ∷ fs) =
     sections _ _ (some (ends-here (bytes "FEATURES             Location/Qualifiers"))) (each-section (featureLines W) (feature-section W) (f ∷ fs))
 
-contig-section : (W : ℕ) (c : May (List ℕ)) → Section (contigLines W c)
+contig-section : (W : ℕ) (c : May Contig) → Section (contigLines W c)
 contig-section W absent = none refl
-contig-section W (is c) = some (location-ends W (bytes "CONTIG      ") 12 c)
+contig-section W (is c) = some (location-ends W (bytes "CONTIG      ") 12 (c .text))
 
 letters-end : (i : ℕ) (l : List ℕ) → Ends (letterLines i l)
 unfolding letterLines

@@ -8,8 +8,8 @@ use mathlib.Core.List.{List, [], _∷_, _++_, append-nil}
 use lib.ListN.{length, length-append, length-replicate}
 use borrow.Author.Tests.{leb-true}
 use Rattle.spec_format.specs.Bytes.{May, absent, is, bytes, each, all, pick}
-use Rattle.spec_format.specs.Table.{Source, Reference, Qualifier, Feature, Table}
-use Rattle.spec_format.specs.Features.{locationText}
+use Rattle.spec_format.specs.Table.{Source, Reference, Qualifier, Feature, Contig, Table}
+use Rattle.spec_format.specs.Location.{locates}
 use Rattle.spec_format.specs.Write.{padded, fieldLines, maybeLines, sourceLines, referenceLines, headerLines, commaKey, keyText, quotes, valueLines, qualifierText, qualifierLines, featureLines, featuresLines, contigLines}
 use Rattle.spec_format.specs.WellFormed.{kindFine, keyFine, qualifierFine, featureFine, wellFormed}
 use Rattle.spec_format.specs.Wrap.{wrapText, wrapLocation}
@@ -96,7 +96,7 @@ module _ (W : ℕ) (wide : 60 ≤ W) where
   feature-narrow f e =
       narrow-append W W _ _ (location-narrow W (kindStart (f .kind)) 21 (f .location) (omega arith) (kind-short (f .kind) (and-left _ _ e)))
       (each-narrow W (qualifierFine W) (qualifierLines W) qualifier-narrow (f .qualifiers)
-      (and-right (locationText (f .location)) _ (and-right (kindFine W (f .kind)) _ e)))
+      (and-right (locates false (f .location)) _ (and-right (kindFine W (f .kind)) _ e)))
 
   features-narrow : (fs : List Feature) → all (featureFine W) fs ≡ true → Narrow W W (featuresLines W fs)
   unfolding featuresLines
@@ -105,9 +105,9 @@ module _ (W : ℕ) (wide : 60 ≤ W) where
       narrow-append W W _ _ (narrow-start W (bytes "FEATURES             Location/Qualifiers") (bytes "\n") (omega arith) (narrow-end W (W - 40)))
       (each-narrow W (featureFine W) (featureLines W) feature-narrow (f ∷ fs) e)
 
-  contig-narrow : (c : May (List ℕ)) → Narrow W W (contigLines W c)
+  contig-narrow : (c : May Contig) → Narrow W W (contigLines W c)
   contig-narrow absent = narrow-none W
-  contig-narrow (is c) = location-narrow W (bytes "CONTIG      ") 12 c (omega arith) (omega arith)
+  contig-narrow (is c) = location-narrow W (bytes "CONTIG      ") 12 (c .text) (omega arith) (omega arith)
 
 features-fine : (W : ℕ) (truncate escape : Bool) (t : Table) → wellFormed W truncate escape t ≡ true → all (featureFine W) (t .features) ≡ true
 unfolding wellFormed

@@ -6,15 +6,16 @@ use mathlib.Core.Path.{_≡_, refl, ap, _∙_}
 use mathlib.Core.List.{List, [], _∷_, _++_, append-assoc}
 use lib.ListN.{length}
 use lib.Dec.{lit<}
-use Rattle.spec_format.specs.Bytes.{bytes, spaces, starts, all, each, space, but}
+use Rattle.spec_format.specs.Bytes.{bytes, spaces, starts, all, each, visible, space, but}
 use Rattle.spec_format.specs.Utf8.{utf8}
 use Rattle.spec_format.specs.Readers.{Got, No, tag}
 use Rattle.spec_format.specs.Header.{lineAfter, concatLines, fieldBytes, field}
-use Rattle.spec_format.specs.Features.{locationText}
-use Rattle.spec_format.specs.Record.{contig}
+use Rattle.spec_format.specs.Location.{locates}
+use Rattle.spec_format.specs.Record.{contigOf, contig}
 use Rattle.spec_public.specs.Public.{entryColumns, continued}
-use Rattle.spec_texts_back.specs.Tests.{all-head, all-tail}
-use Rattle.spec_texts_back.specs.Pieces.{noEnd}
+use Rattle.spec_location.specs.Bytes.{locates-visible}
+use Rattle.spec_texts_back.specs.Tests.{and-both, all-head, all-tail, all-left, all-right, all-imp}
+use Rattle.spec_texts_back.specs.Pieces.{noEnd, visible-noEnd, visible-but}
 use Rattle.spec_texts_back.specs.FieldBack.{Lines, joined-line, text-end, text-line, text-pass, bytes-steps}
 use Rattle.spec_columns_back.specs.Cells.{cell, last-cell}
 use Rattle.spec_columns_back.specs.Further.{ended, further, furthers-are, further-first}
@@ -74,9 +75,28 @@ pub entry-read :
 unfolding field
 entry-read indent word t line ms lines keep rest h c k s n o u stops = rw (bytes-read indent word t line ms lines keep rest h c k s n o stops, u)
 
--- SO IS CONTIG, its lines joined by nothing
+-- lines that join to a text of bytes 33 to 126
+parts-line : (ms : List (List ℕ)) → all visible (each (lineAfter false) ms) ≡ true → all (all noEnd) ms ≡ true
+parts-line [] h = refl
+parts-line (m ∷ ms) h =
+    let x : List ℕ = each (lineAfter false) ms in
+    and-both (all noEnd m) _ (all-imp visible noEnd visible-noEnd m (all-left visible m x h)) (parts-line ms (all-right visible m x h))
+
+no-space : (t : List ℕ) → all visible t ≡ true → not (starts space t) ≡ true
+no-space [] h = refl
+no-space (b ∷ t) h = visible-but b (all-head visible b t h)
+
+-- SO IS CONTIG, its lines joined by nothing, with the rows of its text
 pub contig-read :
     (t line : List ℕ) (ms lines : List (List ℕ)) (rest : List ℕ) → entryColumns 1 (bytes "CONTIG") t line ≡ true → continued 13 ms lines ≡ true →
-    not (starts space t) ≡ true → all noEnd t ≡ true → all (all noEnd) ms ≡ true → locationText (concatLines false t ms) ≡ true →
-    tag (spaces 12) rest ≡ No → contig (each ended (line ∷ lines) ++ rest) ≡ Got (concatLines false t ms) rest
-contig-read t line ms lines rest h c s n o u stops = rw (bytes-read 0 (bytes "CONTIG") t line ms lines false rest h c (lit< tt) s n o stops, u)
+    locates true (concatLines false t ms) ≡ true → tag (spaces 12) rest ≡ No →
+    contig (each ended (line ∷ lines) ++ rest) ≡ Got (contigOf (concatLines false t ms)) rest
+contig-read t line ms lines rest h c u stops =
+    let x : List ℕ = each (lineAfter false) ms in
+    let v : all visible (t ++ x) ≡ true = locates-visible true (t ++ x) u in
+    let w : all visible t ≡ true = all-left visible t x v in
+    rw (
+      bytes-read 0 (bytes "CONTIG") t line ms lines false rest h c (lit< tt) (no-space t w) (all-imp visible noEnd visible-noEnd t w)
+          (parts-line ms (all-right visible t x v)) stops,
+      u,
+    )

@@ -1,52 +1,42 @@
--- EVERY FEATURE with the public columns, its location over any number of lines, is read as its key, the joined location and its qualifiers.
+-- EVERY FEATURE with the public columns, its location over any number of lines, is read as its key, the joined location with its rows, and its qualifiers.
 use Prim.Native.Nat.{ℕ, suc, _-_, _≤_}
 use native.Mathlib.Omega.{arith}
-use mathlib.Core.Bool.{Bool, true, _&&_, not}
+use mathlib.Core.Bool.{true, false, not}
 use mathlib.Core.Path.{_≡_, refl, ap, _∙_}
 use mathlib.Core.List.{List, [], _∷_, _++_, append-assoc}
 use lib.ListN.{length, drop, length-replicate}
 use Rattle.spec_format.specs.Bytes.{bytes, spaces, some, starts, all, each, concat, visible, slash, but}
 use Rattle.spec_format.specs.Readers.{Got, tag, until, lineEnd, many0, whileFits}
-use Rattle.spec_format.specs.Features.{featuresHeader, bare, qualifier, locationText, kindText, featureFrom, feature}
+use Rattle.spec_format.specs.Features.{featuresHeader, bare, qualifier, kindText, featureFrom, feature}
+use Rattle.spec_format.specs.Location.{locates, rowsIn}
 use Rattle.spec_format.specs.Record.{features}
 use Rattle.spec_format.specs.Table.{Qualifier, Feature}
 use Rattle.spec_public.specs.Public.{fromLeft, blankAt, featuresColumns, featureColumns, continued}
 use Rattle.spec_loops.specs.Loops.{tries-more, tries-no}
 use Rattle.spec_loops.specs.Shrinks.{feature-small}
-use Rattle.spec_texts_back.specs.Tests.{and-left, and-right, and-both, all-head, all-tail, all-append, all-imp, all-first, starts-more}
+use Rattle.spec_location.specs.Bytes.{locates-visible, locates-slash}
+use Rattle.spec_texts_back.specs.Tests.{and-left, and-right, and-both, all-head, all-left, all-right, all-imp, all-first, starts-more}
 use Rattle.spec_texts_back.specs.Pieces.{spaces-back, noEnd, visible-noEnd, visible-but}
+use Rattle.spec_texts_back.specs.FieldBack.{line-starts}
 use Rattle.spec_texts_back.specs.BareBack.{ends}
 use Rattle.spec_record_back.specs.QualifierBack.{outside, starts-outside}
 use Rattle.spec_record_back.specs.FeatureBack.{spaces-last, feature-steps, kind-read, no-feature}
-use Rattle.spec_format.specs.Impossible.{impossible}
 use Rattle.spec_columns_back.specs.Cells.{cell, last-cell, cell-short}
 use Rattle.spec_columns_back.specs.Further.{ended, goesOn, bare-read}
 
 -- ---- a feature
 
--- a further line of a location
-abbrev pub furtherLocation : List ℕ → Bool
-furtherLocation m = not (starts slash m) && all visible m
-
-location-goes : (m : List ℕ) → furtherLocation m ≡ true → goesOn m ≡ true
-location-goes m h =
-    and-both (not (starts slash m)) (all noEnd m) (and-left (not (starts slash m)) _ h)
-    (all-imp visible noEnd visible-noEnd m (and-right (not (starts slash m)) _ h))
-
-locations-go : (ms : List (List ℕ)) → all furtherLocation ms ≡ true → all goesOn ms ≡ true
-locations-go [] h = refl
-locations-go (m ∷ ms) h =
-    and-both (goesOn m) (all goesOn ms) (location-goes m (all-head furtherLocation m ms h)) (locations-go ms (all-tail furtherLocation m ms h))
-
-locations-seen : (ms : List (List ℕ)) → all furtherLocation ms ≡ true → all visible (concat ms) ≡ true
-locations-seen [] h = refl
-locations-seen (m ∷ ms) h =
-    all-append visible m (concat ms) (and-right (not (starts slash m)) _ (all-head furtherLocation m ms h))
-    (locations-seen ms (all-tail furtherLocation m ms h))
-
-some-more : (l x : List ℕ) → some l ≡ true → some (l ++ x) ≡ true
-some-more [] x h = impossible cc
-some-more (b ∷ l) x h = refl
+-- further lines of a location
+parts-go : (ms : List (List ℕ)) → all visible (concat ms) ≡ true → all (but 47) (concat ms) ≡ true → all goesOn ms ≡ true
+parts-go [] h k = refl
+parts-go (m ∷ ms) h k =
+    and-both (goesOn m) (all goesOn ms)
+    (and-both (not (starts slash m)) (all noEnd m) (no-slash m (all-left (but 47) m (concat ms) k)) (all-imp visible noEnd visible-noEnd m (all-left visible m (concat ms) h)))
+    (parts-go ms (all-right visible m (concat ms) h) (all-right (but 47) m (concat ms) k))
+  where
+    no-slash : (m : List ℕ) → all (but 47) m ≡ true → not (starts slash m) ≡ true
+    no-slash [] h = refl
+    no-slash (b ∷ m) h = all-head (but 47) b m h
 
 regroup : (a k g s l : List ℕ) → a ++ ((k ++ g) ++ (s ++ l)) ≡ a ++ (k ++ (g ++ (s ++ l)))
 regroup a k g s l = simp append-assoc
@@ -67,31 +57,35 @@ lines-group a k g l e m s = simp append-assoc
 seen-starts : (l : List ℕ) → some l ≡ true → all visible l ≡ true → starts (but 32) l ≡ true
 seen-starts l s h = all-first (but 32) l s (all-imp visible (but 32) visible-but l h)
 
+-- with the rows of its location
+abbrev pub featureOf : List ℕ → List ℕ → List Qualifier → Feature
+featureOf key l qs = record { kind = key; location = l; qualifiers = qs; rows = rowsIn false l }
+
 -- A FEATURE WITH THE PUBLIC COLUMNS is read; s is what stands after its location, of which qs are read
 pub feature-read :
     (key l line : List ℕ) (ms lines : List (List ℕ)) (s rest : List ℕ) (qs : List Qualifier) → featureColumns key l line ≡ true →
-    continued 22 ms lines ≡ true → kindText key ≡ true → locationText l ≡ true → all furtherLocation ms ≡ true → ends 21 s ≡ true →
+    continued 22 ms lines ≡ true → kindText key ≡ true → locates false (l ++ concat ms) ≡ true → ends 21 s ≡ true →
     many0 (qualifier 21) s ≡ Got qs rest →
-    feature (each ended (line ∷ lines) ++ s) ≡ Got (record { kind = key; location = l ++ concat ms; qualifiers = qs }) rest
+    feature (each ended (line ∷ lines) ++ s) ≡ Got (featureOf key (l ++ concat ms) qs) rest
 unfolding featureFrom
-feature-read key l line ms lines s rest qs h c k t f e q =
+feature-read key l line ms lines s rest qs h c k t e q =
     let n : length key ≤ 15 = key-short key l line h in
     let gap : List ℕ = spaces (suc (15 - length key)) in
     let x₃ : List ℕ = ended l ++ (each ended lines ++ s) in
-    let ls : some l ≡ true = and-left (some l) _ t in
-    let lv : all visible l ≡ true = and-right (some l) _ t in
+    let v : all visible (l ++ concat ms) ≡ true = locates-visible false (l ++ concat ms) t in
+    let o : all (but 47) (l ++ concat ms) ≡ true = locates-slash (l ++ concat ms) t in
+    let lv : all visible l ≡ true = all-left visible l (concat ms) v in
+    let g : all goesOn ms ≡ true = parts-go ms (all-right visible l (concat ms) v) (all-right (but 47) l (concat ms) o) in
     let kv : all visible key ≡ true = and-left (all visible key) _ (and-right (some key) _ k) in
-    let b : bare 21 x₃ ≡ Got (l ++ concat ms) s = bare-read 21 s e l ms lines c (all-imp visible noEnd visible-noEnd l lv) (locations-go ms f) in
-    let whole : locationText (l ++ concat ms) ≡ true =
-    and-both (some (l ++ concat ms)) _ (some-more l (concat ms) ls) (all-append visible l (concat ms) lv (locations-seen ms f)) in
+    let b : bare 21 x₃ ≡ Got (l ++ concat ms) s = bare-read 21 s e l ms lines c (all-imp visible noEnd visible-noEnd l lv) g in
     rw (line-is key l line h, lines-group (spaces 5) key gap l (10 ∷ []) (each ended lines) s)
     (feature-steps (spaces 5 ++ (key ++ (gap ++ x₃))) (key ++ (gap ++ x₃)) (gap ++ x₃) x₃ (spaces 5) key gap
-    (record { kind = key; location = l ++ concat ms; qualifiers = qs }) rest
+    (featureOf key (l ++ concat ms) qs) rest
     (spaces-back 4 (key ++ (gap ++ x₃)) (starts-more (but 32) key (gap ++ x₃) (seen-starts key (and-left (some key) _ k) kv)))
     (kind-read key (gap ++ x₃) k refl)
-    (spaces-back (15 - length key) x₃ (starts-more (but 32) (ended l) (each ended lines ++ s) (starts-more (but 32) l (10 ∷ []) (seen-starts l ls lv))))
+    (spaces-back (15 - length key) x₃ (starts-more (but 32) (ended l) (each ended lines ++ s) (line-starts l [] lv)))
     (rw length-replicate (omega (arith, length-replicate {A = ℕ} (15 - length key) 32)))
-    (rw (b, whole, q)))
+    (rw (b, t, q)))
 
 -- ---- the feature table
 

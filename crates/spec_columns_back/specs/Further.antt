@@ -1,7 +1,7 @@
 -- Lines that go on with a text, each alone from the column where the text began; a location or a bare value over such lines is read as their join.
 use Prim.Native.Nat.{ℕ, suc, _+_, _-_}
 use native.Mathlib.Omega.{arith}
-use mathlib.Core.Bool.{Bool, true, false, _&&_, not}
+use mathlib.Core.Bool.{Bool, true, _&&_, not}
 use mathlib.Core.Path.{_≡_, refl}
 use mathlib.Core.List.{List, [], _∷_, _++_, append-assoc, append-nil}
 use Rattle.spec_format.specs.Bytes.{spaces, starts, all, each, concat, slash, but}

@@ -14,10 +14,12 @@ Slice = Both (RefT (List ℕ)) (RefT (List ℕ))
 abbrev pub Rows : Type 0
 Rows = Both (RefT (List Feature)) (RefT (List Feature))
 
-abbrev pub lent : Slice → Slice → Slice → Rows → Slice → Slice → Rooms
-lent texts references comments rows qualifiers letters =
-    roomsIn (now (texts .entry)) (now (references .entry)) (now (comments .entry)) (flat (now (rows .entry))) (now (qualifiers .entry)) (now (letters .entry))
+abbrev pub lent : Slice → Slice → Slice → Rows → Slice → Slice → Slice → Rooms
+lent texts references comments rows qualifiers locations letters =
+    roomsIn (now (texts .entry)) (now (references .entry)) (now (comments .entry)) (flat (now (rows .entry))) (now (qualifiers .entry)) (now (locations .entry))
+    (now (letters .entry))
 
-abbrev pub left : Slice → Slice → Slice → Rows → Slice → Slice → Rooms
-left texts references comments rows qualifiers letters =
-    roomsIn (now (texts .exit)) (now (references .exit)) (now (comments .exit)) (flat (now (rows .exit))) (now (qualifiers .exit)) (now (letters .exit))
+abbrev pub left : Slice → Slice → Slice → Rows → Slice → Slice → Slice → Rooms
+left texts references comments rows qualifiers locations letters =
+    roomsIn (now (texts .exit)) (now (references .exit)) (now (comments .exit)) (flat (now (rows .exit))) (now (qualifiers .exit)) (now (locations .exit))
+    (now (letters .exit))

@@ -1,4 +1,4 @@
--- A head as 31 numbers, and the head that numbers stand for. A text that may be absent is its start and its length plus one, and 0, 0 where it is absent, as in rows.
+-- A head as 33 numbers, and the head that numbers stand for. A text that may be absent is its start and its length plus one, and 0, 0 where it is absent, as in rows.
 use Prim.Native.Nat.{ℕ, zero, suc, _+_}
 use mathlib.Core.Bool.{Bool, false, not, cond, _&&_}
 use mathlib.Core.List.{List, [], _∷_, _++_}
@@ -10,6 +10,8 @@ use Rattle.spec_format.specs.declared.Text.{Text}
 use Rattle.spec_format.specs.declared.Text.the-variants as text
 use Rattle.spec_format.specs.declared.SourceText.{SourceText}
 use Rattle.spec_format.specs.declared.SourceText.the-variants as source
+use Rattle.spec_format.specs.declared.ContigText.{ContigText}
+use Rattle.spec_format.specs.declared.ContigText.the-variants as contig
 use Rattle.spec_format.specs.declared.Length.{Length}
 use Rattle.spec_format.specs.declared.Length.the-variants as bases
 use Rattle.spec_format.specs.declared.Dated.{Dated}
@@ -37,6 +39,11 @@ abbrev pub sourceNumbers : SourceText → List ℕ
 sourceNumbers source.Absent = 0 ∷ 0 ∷ 0 ∷ 0 ∷ []
 sourceNumbers (source.At s o) = s .start ∷ above (s .length) ∷ [] ++ textNumbers o
 
+-- the text, and its first location row and how many there are
+abbrev pub contigNumbers : ContigText → List ℕ
+contigNumbers contig.Absent = 0 ∷ 0 ∷ 0 ∷ 0 ∷ []
+contigNumbers (contig.At s row rows) = s .start ∷ above (s .length) ∷ row ∷ rows ∷ []
+
 abbrev pub lengthNumbers : Length → List ℕ
 lengthNumbers bases.Absent = 0 ∷ []
 lengthNumbers (bases.Bases n) = (n + 1) ∷ []
@@ -59,7 +66,7 @@ fieldNumbers h =
     sourceNumbers (h .source)
 
 unfoldable pub restNumbers : Head → List ℕ
-restNumbers h = h .references ∷ h .comments ∷ [] ++ h .features ∷ [] ++ textNumbers (h .contig) ++ h .letters ∷ []
+restNumbers h = h .references ∷ h .comments ∷ [] ++ h .features ∷ [] ++ contigNumbers (h .contig) ++ h .letters ∷ []
 
 unfoldable pub headNumbers : Head → List ℕ
 headNumbers h = locusNumbers h ++ fieldNumbers h ++ restNumbers h
@@ -73,6 +80,10 @@ textFrom start (suc n) = text.At (record { start = start; length = n })
 abbrev pub sourceFrom : ℕ → ℕ → Text → SourceText
 sourceFrom start zero o = source.Absent
 sourceFrom start (suc n) o = source.At (record { start = start; length = n }) o
+
+abbrev pub contigFrom : ℕ → ℕ → ℕ → ℕ → ContigText
+contigFrom start zero row rows = contig.Absent
+contigFrom start (suc n) row rows = contig.At (record { start = start; length = n }) row rows
 
 abbrev pub lengthFrom : ℕ → Length
 lengthFrom zero = bases.Absent
@@ -98,6 +109,9 @@ spanIn ns i = record { start = getD ns i 0; length = getD ns (i + 1) 0 }
 abbrev pub sourceIn : List ℕ → ℕ → SourceText
 sourceIn ns i = sourceFrom (getD ns i 0) (getD ns (i + 1) 0) (textIn ns (i + 2))
 
+abbrev pub contigIn : List ℕ → ℕ → ContigText
+contigIn ns i = contigFrom (getD ns i 0) (getD ns (i + 1) 0) (getD ns (i + 2) 0) (getD ns (i + 3) 0)
+
 abbrev pub dateIn : List ℕ → ℕ → Dated
 dateIn ns i = dateFrom (getD ns i 0) (getD ns (i + 1) 0) (getD ns (i + 2) 0)
 
@@ -119,8 +133,8 @@ headIn ns =
       references = getD ns 25 0;
       comments = getD ns 26 0;
       features = getD ns 27 0;
-      contig = textIn ns 28;
-      letters = getD ns 30 0;
+      contig = contigIn ns 28;
+      letters = getD ns 32 0;
     }
 
 -- a head whose division lies outside every room, so number 10 is due for it
@@ -142,10 +156,10 @@ outside =
       references = 0;
       comments = 0;
       features = 0;
-      contig = text.Absent;
+      contig = contig.Absent;
       letters = 0;
     }
 
--- fewer than 31 numbers, or a length above 4,294,967,295, is no head: number 10
+-- fewer than 33 numbers, or a length above 4,294,967,295, is no head: number 10
 unfoldable pub headFrom : List ℕ → Head
-headFrom ns = pick (leb 31 (length ns)) (pick (leb (getD ns 2 0) 4294967296) (headIn ns) outside) outside
+headFrom ns = pick (leb 33 (length ns)) (pick (leb (getD ns 2 0) 4294967296) (headIn ns) outside) outside

@@ -16,6 +16,7 @@ pub record Answered (s : List ℕ) (at : ℕ) (old new : Rooms) (r : ReadAnswer)
   pub comments : new .comments ≡ roomsAfter s at old .comments
   pub features : new .features ≡ roomsAfter s at old .features
   pub qualifiers : new .qualifiers ≡ roomsAfter s at old .qualifiers
+  pub locations : new .locations ≡ roomsAfter s at old .locations
   pub letters : new .letters ≡ roomsAfter s at old .letters
 
 -- ---- the features' room holds rows that are structs; definitions speak of their flat numbers
@@ -27,8 +28,9 @@ pub record RowRooms : Type 0 where
   pub comments : List ℕ
   pub rows : List Feature
   pub qualifiers : List ℕ
+  pub locations : List ℕ
   pub letters : List ℕ
 
 -- the same with flat numbers
 abbrev pub flatRooms : RowRooms → Rooms
-flatRooms x = roomsIn (x .texts) (x .references) (x .comments) (flat (x .rows)) (x .qualifiers) (x .letters)
+flatRooms x = roomsIn (x .texts) (x .references) (x .comments) (flat (x .rows)) (x .qualifiers) (x .locations) (x .letters)

@@ -5,6 +5,7 @@ use mathlib.Core.List.{List}
 use mathlib.Core.Path.{_≡_}
 use lib.ListN.{replicate}
 use Rattle.spec_format.specs.Rooms.{Rooms, readAnswer, roomsAfter}
+use Rattle.spec_format.specs.declared.ContigText.the-variants as contig
 use Rattle.spec_format.specs.declared.Dated.the-variants as date
 use Rattle.spec_format.specs.declared.Head.{Head}
 use Rattle.spec_format.specs.declared.How.{How}
@@ -19,7 +20,7 @@ use Rattle.spec_contracts.specs.Writes.{WriteAnswered}
 
 -- the rows before anything is read into them: no proof writes them out
 abbrev pub emptyRow : Feature
-emptyRow = record { kind = record { start = 0; length = 0 }; location = record { start = 0; length = 0 }; first = 0; count = 0 }
+emptyRow = record { kind = record { start = 0; length = 0 }; location = record { start = 0; length = 0 }; first = 0; count = 0; row = 0; rows = 0 }
 
 unfoldable pub emptyRows : List Feature
 emptyRows = replicate 8192 emptyRow
@@ -43,7 +44,7 @@ emptyHead =
       references = 0;
       comments = 0;
       features = 0;
-      contig = text.Absent;
+      contig = contig.Absent;
       letters = 0;
     }
 
@@ -62,11 +63,12 @@ howAfter (read.Refused why) how = notAtAll how
 howAfter (read.Room sizes) how = notAtAll how
 
 -- THE ANSWERS AND THE ROOMS AFTERWARDS, of a record at a place of s, read into the rooms `old` and written to the slice `before`
-pub record Rounds (s : List ℕ) (at : ℕ) (old : Rooms) (how : How) (texts references comments qualifiers letters before after : List ℕ) (r : ReadAnswer) (w : WriteAnswer) : Type 0 where
+pub record Rounds (s : List ℕ) (at : ℕ) (old : Rooms) (how : How) (texts references comments qualifiers locations letters before after : List ℕ) (r : ReadAnswer) (w : WriteAnswer) : Type 0 where
   pub is : r ≡ readAnswer s at old
   pub texts-are : texts ≡ roomsAfter s at old .texts
   pub references-are : references ≡ roomsAfter s at old .references
   pub comments-are : comments ≡ roomsAfter s at old .comments
   pub qualifiers-are : qualifiers ≡ roomsAfter s at old .qualifiers
+  pub locations-are : locations ≡ roomsAfter s at old .locations
   pub letters-are : letters ≡ roomsAfter s at old .letters
   pub wrote : WriteAnswered (howAfter r how) (roomsAfter s at old) (headOf r) before after w

@@ -21,10 +21,10 @@ use Rattle.spec_contracts.specs.Writes.{WriteAnswered}
 -- ---- reading
 
 abbrev pub noHead : List ℕ
-noHead = replicate 31 0
+noHead = replicate 33 0
 
 abbrev pub noSizes : Sizes
-noSizes = record { texts = 0; references = 0; comments = 0; features = 0; qualifiers = 0; letters = 0 }
+noSizes = record { texts = 0; references = 0; comments = 0; features = 0; qualifiers = 0; locations = 0; letters = 0 }
 
 abbrev pub headTold : ReadAnswer → List ℕ
 headTold (answer.Done h place) = headNumbers h

@@ -1,5 +1,5 @@
 -- Why the demands hold: what the answers of the definitions say, number by number.
-use Prim.Native.Nat.{ℕ, _*_, _/_, _≤_, _<_}
+use Prim.Native.Nat.{ℕ, _*_, _/_, _<_}
 use native.Mathlib.Omega.{arith}
 use mathlib.Core.Bool.{Bool, true, false, _&&_}
 use mathlib.Core.List.{List}
@@ -46,6 +46,7 @@ unread-not-zero unread.TwoDefinitions e = impossible cc
 unread-not-zero unread.NoSlashes e = impossible cc
 unread-not-zero unread.OtherLength e = impossible cc
 unread-not-zero unread.BadLetter e = impossible cc
+unread-not-zero unread.TooDeep e = impossible cc
 
 pub unread-not-six : (why : Unread) → unreadNumber why ≡ 6 → ⊥
 unread-not-six unread.AtEnd e = impossible cc
@@ -56,16 +57,7 @@ unread-not-six unread.TwoDefinitions e = impossible cc
 unread-not-six unread.NoSlashes e = impossible cc
 unread-not-six unread.OtherLength e = impossible cc
 unread-not-six unread.BadLetter e = impossible cc
-
-pub unread-most : (why : Unread) → unreadNumber why ≤ 9
-unread-most unread.AtEnd = omega arith
-unread-most unread.Unended = omega arith
-unread-most unread.BadPlace = omega arith
-unread-most unread.NoLocus = omega arith
-unread-most unread.TwoDefinitions = omega arith
-unread-most unread.NoSlashes = omega arith
-unread-most unread.OtherLength = omega arith
-unread-most unread.BadLetter = omega arith
+unread-not-six unread.TooDeep e = impossible cc
 
 -- ---- what the definitions answer, lent rooms q, and leave
 
@@ -126,7 +118,16 @@ rows-tell a b e =
     ap (λ (x : Rooms). rowsFor x (a .rows)) e ∙ ap (λ (x : List Feature). rowsFor (flatRooms b) x) (flat-tells (a .rows) (b .rows) (ap (λ (x : Rooms). x .features) e))
   where
     rowsFor : Rooms → List Feature → RowRooms
-    rowsFor x rows = record { texts = x .texts; references = x .references; comments = x .comments; rows = rows; qualifiers = x .qualifiers; letters = x .letters }
+    rowsFor x rows =
+        record {
+          texts = x .texts;
+          references = x .references;
+          comments = x .comments;
+          rows = rows;
+          qualifiers = x .qualifiers;
+          locations = x .locations;
+          letters = x .letters;
+        }
 
 -- ---- rooms of given sizes
 
@@ -136,13 +137,14 @@ roomsFor n =
       texts = replicate (n .texts) 0;
       references = replicate (14 * n .references) 0;
       comments = replicate (2 * n .comments) 0;
-      features = replicate (6 * n .features) 0;
+      features = replicate (8 * n .features) 0;
       qualifiers = replicate (4 * n .qualifiers) 0;
+      locations = replicate (7 * n .locations) 0;
       letters = replicate (n .letters) 0;
     }
 
-six : (a b c d e f : Bool) → a ≡ true → b ≡ true → c ≡ true → d ≡ true → e ≡ true → f ≡ true → (a && (b && (c && (d && (e && f))))) ≡ true
-six a b c d e f p q r s t u = cc
+seven : (a b c d e f g : Bool) → a ≡ true → b ≡ true → c ≡ true → d ≡ true → e ≡ true → f ≡ true → g ≡ true → (a && (b && (c && (d && (e && (f && g)))))) ≡ true
+seven a b c d e f g p q r s t u v = cc
 
 long : (k : ℕ) → length (replicate {A = ℕ} k 0) ≡ k
 long k = length-replicate {A = ℕ} k 0
@@ -150,10 +152,19 @@ long k = length-replicate {A = ℕ} k 0
 pub rooms-for-fit : (n : Sizes) → fits n (roomsFor n) ≡ true
 unfolding fits
 rooms-for-fit n =
-    rw (long (n .texts), long (14 * n .references), long (2 * n .comments), long (6 * n .features), long (4 * n .qualifiers), long (n .letters))
-    (six _ _ _ _ _ _ (le-leb (n .texts) (n .texts) (omega arith)) (le-leb (n .references) (14 * n .references / 14) (omega arith))
-    (le-leb (n .comments) (2 * n .comments / 2) (omega arith)) (le-leb (n .features) (6 * n .features / 6) (omega arith))
-    (le-leb (n .qualifiers) (4 * n .qualifiers / 4) (omega arith)) (le-leb (n .letters) (n .letters) (omega arith)))
+    rw (
+      long (n .texts),
+      long (14 * n .references),
+      long (2 * n .comments),
+      long (8 * n .features),
+      long (4 * n .qualifiers),
+      long (7 * n .locations),
+      long (n .letters),
+    )
+    (seven _ _ _ _ _ _ _ (le-leb (n .texts) (n .texts) (omega arith)) (le-leb (n .references) (14 * n .references / 14) (omega arith))
+    (le-leb (n .comments) (2 * n .comments / 2) (omega arith)) (le-leb (n .features) (8 * n .features / 8) (omega arith))
+    (le-leb (n .qualifiers) (4 * n .qualifiers / 4) (omega arith)) (le-leb (n .locations) (7 * n .locations / 7) (omega arith))
+    (le-leb (n .letters) (n .letters) (omega arith)))
 
 -- ---- the writers
 

@@ -1,7 +1,6 @@
 -- DEMAND 1, TOTAL. Every input has a numbered answer, and every call ends: that a call ends with an answer is what the check proves of each function; here is what its contract says of that
 -- answer. A refusal leaves all lent room as it was. Any two answers that a contract permits agree. 6 is answered exactly when the call would succeed with more room.
-use Prim.Native.Nat.{ℕ, _≤_}
-use native.Mathlib.Omega.{arith}
+use Prim.Native.Nat.{ℕ}
 use mathlib.Core.Bool.{Bool, true, false, _||_}
 use mathlib.Core.List.{List, [], _∷_}
 use mathlib.Core.Logic.{_↔_}
@@ -18,6 +17,7 @@ use Rattle.spec_format.specs.declared.How.{How}
 use Rattle.spec_format.specs.declared.ReadAnswer.{ReadAnswer}
 use Rattle.spec_format.specs.declared.ReadAnswer.the-variants as read
 use Rattle.spec_format.specs.declared.Sizes.{Sizes}
+use Rattle.spec_format.specs.declared.Unread.the-variants as unread
 use Rattle.spec_format.specs.declared.Unwritten.the-variants as unwritten
 use Rattle.spec_format.specs.declared.WriteAnswer.{WriteAnswer}
 use Rattle.spec_format.specs.declared.WriteAnswer.the-variants as write
@@ -29,20 +29,32 @@ use Rattle.spec_contracts.specs.Told.{reading, writing, ReadTold, WriteTold}
 use Rattle.spec_contracts.specs.Writes.{textDue, WriteAnswered}
 use Rattle.spec_contracts.specs.declared.Reading.{Reading}
 use Rattle.spec_contracts.specs.declared.Writing.{Writing}
-use Rattle.spec_demands.specs.Answers.{unread-most, unread-not-six, rows-tell, room-of, after-same, slice-same, no-width, no-head, what-is-due}
+use Rattle.spec_demands.specs.Answers.{unread-not-six, rows-tell, room-of, after-same, slice-same, no-width, no-head, what-is-due}
 use Rattle.spec_demands.specs.Six.{six-more, more-six, told-more, told-used, room-told, bytes-told}
 use Rattle.spec_demands.specs.What.{MoreRoom, Uses, MoreBytes}
 
--- ---- a number of document 01's table
-
-pub read-numbered : (a : ReadAnswer) → readNumber a ≤ 9
-read-numbered (read.Done head place) = omega arith
-read-numbered (read.Refused why) = unread-most why
-read-numbered (read.Room sizes) = omega arith
+-- ---- a number of document 01's table, to which ticket 1 adds 14
 
 abbrev pub oneOf : List ℕ → ℕ → Bool
 oneOf [] n = false
 oneOf (m ∷ ms) n = eqb n m || oneOf ms n
+
+-- those of the reader
+abbrev pub readNumbers : List ℕ
+readNumbers = 0 ∷ 1 ∷ 2 ∷ 3 ∷ 4 ∷ 5 ∷ 6 ∷ 7 ∷ 8 ∷ 9 ∷ 14 ∷ []
+
+pub read-numbered : (a : ReadAnswer) → oneOf readNumbers (readNumber a) ≡ true
+read-numbered (read.Done head place) = refl
+read-numbered (read.Room sizes) = refl
+read-numbered (read.Refused unread.AtEnd) = refl
+read-numbered (read.Refused unread.Unended) = refl
+read-numbered (read.Refused unread.BadPlace) = refl
+read-numbered (read.Refused unread.NoLocus) = refl
+read-numbered (read.Refused unread.TwoDefinitions) = refl
+read-numbered (read.Refused unread.NoSlashes) = refl
+read-numbered (read.Refused unread.OtherLength) = refl
+read-numbered (read.Refused unread.BadLetter) = refl
+read-numbered (read.Refused unread.TooDeep) = refl
 
 pub written-numbered : (a : WriteAnswer) → oneOf (0 ∷ 6 ∷ 10 ∷ 11 ∷ 12 ∷ 13 ∷ []) (writeNumber a) ≡ true
 written-numbered (write.Done count) = refl
@@ -98,7 +110,7 @@ module _ (s : List ℕ) (at : ℕ) (old new : RowRooms) (told : Reading) (call :
   number-is : told .number ≡ readNumber (call .answer)
   number-is = ap (λ (x : Reading). x .number) (call .is)
 
-  pub read-told-numbered : told .number ≤ 9
+  pub read-told-numbered : oneOf readNumbers (told .number) ≡ true
   read-told-numbered = rw number-is (read-numbered (call .answer))
 
   pub read-told-untouched : (told .number ≡ 0 → ⊥) → new ≡ old
@@ -136,7 +148,7 @@ module _ (how : How) (r : Rooms) (ns old new : List ℕ) (told : Writing) (call 
       let e = written-one how r (headFrom ns) old new (call .answer) (call .answered) new′ (other .answer) (other .answered) in
       (call .is ∙ (ap writing (e .0) ∙ sym (other .is)), e .1)
 
-  -- numbers that stand for no head (fewer than 31, or a length above 4,294,967,295) are refused by 10
+  -- numbers that stand for no head (fewer than 33, or a length above 4,294,967,295) are refused by 10
   pub written-told-headless : headFrom ns ≡ outside → widthFine (how .width) ≡ true → told .number ≡ 10
   written-told-headless e f =
       wrote-is ∙ (ap writeNumber (call .answered .is) ∙ rw e (no-head (how .keeping) (how .width) (how .truncate) (how .escape) r (length old) f))
@@ -151,11 +163,12 @@ module _ (how : How) (r : Rooms) (ns old new : List ℕ) (told : Writing) (call 
 -- ---- THE FUNCTION BEHIND THE PROGRAMS: a record at a place of s, read into the rooms `old` and written again to the slice `before`, which is then `after`
 
 module _
-    (s : List ℕ) (at : ℕ) (old : Rooms) (how : How) (t rf cm q l before after : List ℕ) (r : ReadAnswer) (w : WriteAnswer) (call : Rounds s at old how t rf cm q l before after r w) where
+    (s : List ℕ) (at : ℕ) (old : Rooms) (how : How) (t rf cm q lc l before after : List ℕ) (r : ReadAnswer) (w : WriteAnswer)
+    (call : Rounds s at old how t rf cm q lc l before after r w) where
   -- any two answers that the contract permits are equal, and so are the slice and the rooms afterwards
-  pub round-one : (t′ rf′ cm′ q′ l′ after′ : List ℕ) (r′ : ReadAnswer) (w′ : WriteAnswer) → Rounds s at old how t′ rf′ cm′ q′ l′ before after′ r′ w′ →
-      (r ≡ r′) × ((w ≡ w′) × ((after ≡ after′) × ((t ≡ t′) × ((rf ≡ rf′) × ((cm ≡ cm′) × ((q ≡ q′) × (l ≡ l′)))))))
-  round-one t′ rf′ cm′ q′ l′ after′ r′ w′ other =
+  pub round-one : (t′ rf′ cm′ q′ lc′ l′ after′ : List ℕ) (r′ : ReadAnswer) (w′ : WriteAnswer) → Rounds s at old how t′ rf′ cm′ q′ lc′ l′ before after′ r′ w′ →
+      (r ≡ r′) × ((w ≡ w′) × ((after ≡ after′) × ((t ≡ t′) × ((rf ≡ rf′) × ((cm ≡ cm′) × ((q ≡ q′) × ((lc ≡ lc′) × (l ≡ l′))))))))
+  round-one t′ rf′ cm′ q′ lc′ l′ after′ r′ w′ other =
       let e : r ≡ r′ = call .is ∙ sym (other .is) in
       let o : WriteAnswered (howAfter r how) (roomsAfter s at old) (headOf r) before after′ w′ =
       subst (λ (x : ReadAnswer). WriteAnswered (howAfter x how) (roomsAfter s at old) (headOf x) before after′ w′) (sym e) (other .wrote) in
@@ -169,7 +182,10 @@ module _
               call .texts-are ∙ sym (other .texts-are),
               (
                 call .references-are ∙ sym (other .references-are),
-                (call .comments-are ∙ sym (other .comments-are), (call .qualifiers-are ∙ sym (other .qualifiers-are), call .letters-are ∙ sym (other .letters-are))),
+                (
+                  call .comments-are ∙ sym (other .comments-are),
+                  (call .qualifiers-are ∙ sym (other .qualifiers-are), (call .locations-are ∙ sym (other .locations-are), call .letters-are ∙ sym (other .letters-are))),
+                ),
               ),
             ),
           ),
@@ -177,13 +193,20 @@ module _
       )
 
   -- where nothing is read the rooms are what they were
-  pub round-unread : (readNumber r ≡ 0 → ⊥) → (t ≡ old .texts) × ((rf ≡ old .references) × ((cm ≡ old .comments) × ((q ≡ old .qualifiers) × (l ≡ old .letters))))
+  pub round-unread : (readNumber r ≡ 0 → ⊥) →
+      (t ≡ old .texts) × ((rf ≡ old .references) × ((cm ≡ old .comments) × ((q ≡ old .qualifiers) × ((lc ≡ old .locations) × (l ≡ old .letters)))))
   round-unread n =
       let e = after-same s at old (λ z. n (ap readNumber (call .is) ∙ z)) in (
         call .texts-are ∙ ap (λ (x : Rooms). x .texts) e,
         (
           call .references-are ∙ ap (λ (x : Rooms). x .references) e,
-          (call .comments-are ∙ ap (λ (x : Rooms). x .comments) e, (call .qualifiers-are ∙ ap (λ (x : Rooms). x .qualifiers) e, call .letters-are ∙ ap (λ (x : Rooms). x .letters) e)),
+          (
+            call .comments-are ∙ ap (λ (x : Rooms). x .comments) e,
+            (
+              call .qualifiers-are ∙ ap (λ (x : Rooms). x .qualifiers) e,
+              (call .locations-are ∙ ap (λ (x : Rooms). x .locations) e, call .letters-are ∙ ap (λ (x : Rooms). x .letters) e),
+            ),
+          ),
         ),
       )
 
@@ -201,4 +224,4 @@ module _
 
   -- its two answers are the reader's and the writer's, so what is said of 6 above holds of them
   pub round-read : Answered s at old (roomsAfter s at old) r
-  round-read = record { is = call .is; texts = refl; references = refl; comments = refl; features = refl; qualifiers = refl; letters = refl }
+  round-read = record { is = call .is; texts = refl; references = refl; comments = refl; features = refl; qualifiers = refl; locations = refl; letters = refl }

@@ -126,8 +126,8 @@ module _ (W : ℕ) (truncate escape : Bool) (r : Rooms) (ns old new : List ℕ) 
 -- ---- THE FUNCTION BEHIND THE PROGRAMS: a record that was read, and then written by the keeping rules, is read again as the table that was read
 
 module _
-    (s : List ℕ) (at : ℕ) (old : Rooms) (W : ℕ) (truncate escape : Bool) (t rf cm q l out new : List ℕ) (h : Head) (place k : ℕ)
-    (call : Rounds s at old (howOf true W truncate escape) t rf cm q l out new (read.Done h place) (write.Done k)) where
+    (s : List ℕ) (at : ℕ) (old : Rooms) (W : ℕ) (truncate escape : Bool) (t rf cm q lc l out new : List ℕ) (h : Head) (place k : ℕ)
+    (call : Rounds s at old (howOf true W truncate escape) t rf cm q lc l out new (read.Done h place) (write.Done k)) where
   pub round-the-same : k ≤ most → (before after : Rooms) (a : ReadAnswer) → fits (sizes (tableOf (roomsAfter s at old) h)) before ≡ true → Answered (take k new) 0 before after a →
       Same (roomsAfter s at old) h k after a
   round-the-same m before after a f again = still-the-same W truncate escape (roomsAfter s at old) h out new k (call .wrote) m before after a f again

@@ -1,5 +1,5 @@
 -- The head that is read back can be told as numbers: its texts lie in a room, its length has 32 bits, its date is one.
-use Prim.Native.Nat.{ℕ, _-_, _≤_, _<_}
+use Prim.Native.Nat.{ℕ, _≤_, _<_}
 use native.Mathlib.Omega.{arith}
 use mathlib.Core.Bool.{Bool, true, false}
 use mathlib.Core.List.{List}
@@ -9,8 +9,10 @@ use lib.ListN.{length, take, drop, length-take, length-drop}
 use borrow.Author.Tests.{leb-true, ltb-false}
 use Rattle.spec_format.specs.Impossible.{impossible}
 use Rattle.spec_format.specs.Record.{most}
-use Rattle.spec_format.specs.Rooms.{Rooms, tableOf, roomsFine, lengthsFine, headOf, textAt, sourceAt, lengthOf, mayText, maySource, mayLength}
+use Rattle.spec_format.specs.Rooms.{Rooms, tableOf, roomsFine, lengthsFine, headOf, textAt, sourceAt, contigTextAt, lengthOf, mayText, maySource, mayContig, mayLength}
 use Rattle.spec_format.specs.WellFormed.{dateFine, locusFine, wellFormed}
+use Rattle.spec_format.specs.declared.ContigText.{ContigText}
+use Rattle.spec_format.specs.declared.ContigText.the-variants as contig
 use Rattle.spec_format.specs.declared.Dated.{Dated}
 use Rattle.spec_format.specs.declared.Dated.the-variants as dated
 use Rattle.spec_format.specs.declared.Head.{Head}
@@ -23,7 +25,7 @@ use Rattle.spec_format.specs.declared.Text.the-variants as text
 use Rattle.spec_rooms.specs.LayoutLengths.{and-left, and-right}
 use Rattle.spec_contracts.specs.Numbers.{largest}
 use Rattle.spec_contracts.specs.Writes.{LengthFits}
-use Rattle.api_head.specs.Back.{textSmall, sourceSmall, lengthSmall, dateSmall, Small}
+use Rattle.api_head.specs.Back.{textSmall, sourceSmall, contigSmall, lengthSmall, dateSmall, Small}
 
 cut-short : (store : List ℕ) (start n : ℕ) → length store ≤ most → length (take n (drop start store)) < largest
 cut-short store start n m =
@@ -39,6 +41,10 @@ module _ (store : List ℕ) (m : length store ≤ most) where
   source-small : (at o : ℕ) (t : SourceText) → sourceSmall (sourceAt at o (maySource store t))
   source-small at o source.Absent = tt
   source-small at o (source.At s p) = (cut-short store (s .start) (s .length) m, text-small o p)
+
+contig-small : (r : Rooms) → length (r .texts) ≤ most → (at row : ℕ) (c : ContigText) → contigSmall (contigTextAt at row (mayContig r c))
+contig-small r m at row contig.Absent = tt
+contig-small r m at row (contig.At s first rows) = cut-short (r .texts) (s .start) (s .length) m
 
 length-small : (l : Length) → LengthFits l → lengthSmall (lengthOf (mayLength l))
 length-small bases.Absent f = tt
@@ -86,5 +92,5 @@ head-small W truncate escape r h f g l =
       dblink = text-small (r .texts) m _ (h .dblink);
       keywords = text-small (r .texts) m _ (h .keywords);
       source = source-small (r .texts) m _ _ (h .source);
-      contig = text-small (r .texts) m _ (h .contig);
+      contig = contig-small r m _ _ (h .contig);
     }

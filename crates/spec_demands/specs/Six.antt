@@ -60,6 +60,7 @@ laid-uses t n more after w e =
       comments = rw w (l .comments);
       features = rw w (l .features);
       qualifiers = rw w (l .qualifiers);
+      locations = rw w (l .locations);
       letters = rw w (l .letters);
     }
 
@@ -89,7 +90,7 @@ module _ (s : List ℕ) (at : ℕ) (old new : Rooms) (a : ReadAnswer) (call : An
   six-more z = let b = six-by z in (sizes (b .table), more-room s at (b .table) (b .rest) (b .reads) old (b .over))
 
   any-call : (q : Rooms) → Answered s at q (roomsAfter s at q) (readAnswer s at q)
-  any-call q = record { is = refl; texts = refl; references = refl; comments = refl; features = refl; qualifiers = refl; letters = refl }
+  any-call q = record { is = refl; texts = refl; references = refl; comments = refl; features = refl; qualifiers = refl; locations = refl; letters = refl }
 
   pub more-six : (n : Sizes) → MoreRoom s at old n → readNumber a ≡ 6
   more-six n m = go (readAt s at) refl

@@ -30,8 +30,9 @@ pub record Uses (n : Sizes) (more after : Rooms) : Type 0 where
   pub texts : length (laid .texts) ≡ n .texts
   pub references : length (laid .references) ≡ 14 * n .references
   pub comments : length (laid .comments) ≡ 2 * n .comments
-  pub features : length (laid .features) ≡ 6 * n .features
+  pub features : length (laid .features) ≡ 8 * n .features
   pub qualifiers : length (laid .qualifiers) ≡ 4 * n .qualifiers
+  pub locations : length (laid .locations) ≡ 7 * n .locations
   pub letters : length (laid .letters) ≡ n .letters
 
 -- k is more than n bytes, and a call with the same table succeeds exactly where the slice has k bytes, and then writes k

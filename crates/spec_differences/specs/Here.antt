@@ -4,7 +4,7 @@ use mathlib.Core.Bool.{Bool, true, false, cond}
 use mathlib.Core.Path.{_≡_, refl}
 use mathlib.Core.List.{List, [], _∷_, _++_, map}
 use lib.ListN.{length, take, drop, replicate}
-use Rattle.spec_format.specs.Bytes.{May, absent, is, bytes, decimal, spaces, pick}
+use Rattle.spec_format.specs.Bytes.{May, absent, is, bytes, decimal, spaces, pick, each, concat}
 use Rattle.spec_format.specs.Bytes.{number, digits}
 use Rattle.spec_format.specs.Dates.{monthName, dateText}
 use Rattle.spec_format.specs.Features.{featuresHeader, bare, escape, quotedTurn, quoted, value, valueOf, qualifier, featureFrom, feature}
@@ -13,8 +13,11 @@ use Rattle.spec_format.specs.Locus.{preamble, tokens, dateOf, dateToken, locusF
 use Rattle.spec_format.specs.Origin.{originTag, letters}
 use Rattle.spec_format.specs.Readers.{tag, until, line, lineEnd, membersUpTo, endUpTo, members, end}
 use Rattle.spec_format.specs.Numbers.{unreadNumber, unreadPlace}
-use Rattle.spec_format.specs.Record.{Outcome, Read, Not, features, slashesLater, middle, tableFrom, readRecord, readAt}
-use Rattle.spec_format.specs.Table.{Feature, Table}
+use Rattle.spec_format.specs.Record.{Outcome, Read, Not, features, slashesLater, middle, deepIn, tableFrom, readRecord, readAt}
+use Rattle.spec_format.specs.Table.{LocationRow, Feature, Contig, Table}
+use Rattle.spec_format.specs.Location.{run, past, behind, baseNumber, bases, accession, leaf, plain, begin, membersIn, locationFrom, reading, rowsIn}
+use Rattle.spec_format.specs.Deep.{soFar, deepFeature, deepContig}
+use Rattle.spec_format.specs.Rooms.{locationNumbers}
 use Rattle.spec_format.specs.Utf8.{chars, utf8}
 use Rattle.spec_format.specs.WellFormed.{referenceTexts, headerTexts, locusFine, qualifierFine, featureFine, lettersFine, wellFormed}
 use Rattle.spec_format.specs.Wrap.{fill, closing, linesAfter, wrapped, wrapText, lastComma, breakAt, commaLines, wrapLocation}
@@ -63,10 +66,14 @@ locus-read l = locus-values (readAt (l ++ bytes "\nORIGIN\n//\n") 0)
 unk : List ℕ
 unk = bytes "- - - linear UNK -"
 
+-- a location's text, a blank, and the seven numbers of each of its rows
+location-text : List ℕ → List LocationRow → List ℕ
+location-text t rows = t ++ bytes " " ++ locationNumbers rows
+
 -- the first feature's location, or the number of a refusal
 first-location : List Feature → List ℕ
 first-location [] = bytes "none"
-first-location (f ∷ fs) = f .location
+first-location (f ∷ fs) = location-text (f .location) (f .rows)
 
 location-values : Outcome → List ℕ
 location-values (Read t rest) = first-location (t .features)
@@ -74,6 +81,37 @@ location-values (Not why) = unreadNumber why ∷ []
 
 location-read : List ℕ → List ℕ
 location-read s = location-values (readAt (bytes "LOCUS x\nFEATURES  Location/Qualifiers\n" ++ s) 0)
+
+-- CONTIG likewise
+may-contig : May Contig → List ℕ
+may-contig absent = bytes "none"
+may-contig (is c) = location-text (c .text) (c .rows)
+
+contig-values : Outcome → List ℕ
+contig-values (Read t rest) = may-contig (t .contig)
+contig-values (Not why) = unreadNumber why ∷ []
+
+contig-read : List ℕ → List ℕ
+contig-read l = contig-values (readAt (bytes "LOCUS x\nCONTIG " ++ l ++ bytes "\n//\n") 0)
+
+-- a feature with that location, its only line, is refused with 7
+seven : List ℕ → Answer
+seven l = record { got = location-read (bytes " a " ++ l ++ bytes "\n//\n"); should = 7 ∷ [] }
+
+-- or has it, with these numbers in its rows
+located : List ℕ → List ℕ → Answer
+located l numbers = record { got = location-read (bytes " a " ++ l ++ bytes "\n//\n"); should = l ++ bytes " " ++ numbers }
+
+contig-located : List ℕ → List ℕ → Answer
+contig-located l numbers = record { got = contig-read l; should = l ++ bytes " " ++ numbers }
+
+-- the row of a join( ) with that many rows inside
+joinRow : ℕ → List ℕ
+joinRow n = 5 ∷ 0 ∷ 0 ∷ 0 ∷ 0 ∷ 0 ∷ n ∷ []
+
+-- join( n times, a base, and as many brackets
+joins : ℕ → List ℕ
+joins n = concat (replicate n (bytes "join(")) ++ bytes "1" ++ replicate n 41
 
 -- ---- writing
 
@@ -90,7 +128,8 @@ table-of name count kind location key text letters =
       source = absent;
       references = [];
       comments = [];
-      features = record { kind = kind; location = location; qualifiers = record { key = key; value = is text } ∷ [] } ∷ [];
+      features =
+          record { kind = kind; location = location; qualifiers = record { key = key; value = is text } ∷ []; rows = rowsIn false location } ∷ [];
       contig = absent;
       letters = letters;
     }
@@ -157,27 +196,65 @@ answers =
     record { got = locus-read (bytes "LOCUS x 0 bp DNA SYN DNA"); should = unk } ∷
     record { got = answer (bytes "LOCUS x"); should = 2 ∷ 0 ∷ [] } ∷
     record { got = answer (bytes "LOC"); should = 4 ∷ 0 ∷ [] } ∷
-    -- 3
-    record { got = location-read (bytes " a 01..2\n//\n"); should = bytes "01..2" } ∷
-    record { got = location-read (bytes " a 1..x\n//\n"); should = bytes "1..x" } ∷
-    record { got = location-read (bytes " a 1..<2\n//\n"); should = bytes "1..<2" } ∷
-    record { got = location-read (bytes " a 1.2\n//\n"); should = bytes "1.2" } ∷
-    record { got = location-read (bytes " a 1,2\n//\n"); should = bytes "1,2" } ∷
-    record { got = location-read (bytes " a 1 2\n//\n"); should = 7 ∷ [] } ∷
-    record { got = location-read (bytes " a 1..2 \n//\n"); should = 7 ∷ [] } ∷
-    record { got = location-read (bytes " a join(1, 2)\n//\n"); should = 7 ∷ [] } ∷
-    record { got = location-read (bytes " a " ++ 195 ∷ 169 ∷ [] ++ bytes "\n//\n"); should = 7 ∷ [] } ∷
-    record { got = location-read (bytes " a :\n//\n"); should = bytes ":" } ∷
+    -- 3, what the Rust takes and this does not: anything after a location; a sign; 0 and leading zeros; a number that is too large
+    seven (bytes "1x") ∷
+    seven (bytes "1..x") ∷
+    seven (bytes "5.9") ∷
+    seven (bytes "1..<5") ∷
+    seven (bytes "+1") ∷
+    seven (bytes "-1") ∷
+    seven (bytes "0") ∷
+    seven (bytes "01") ∷
+    seven (bytes "4294967296") ∷
+    -- forms that are none, gap( ) in a feature among them
+    seven (bytes "bond(1,2)") ∷
+    seven (bytes "one-of(1,2)") ∷
+    seven (bytes "gap(5)") ∷
+    -- an accession without a version, of other bytes, alone, and so damaged locations
+    seven (bytes "A:1") ∷
+    seven (bytes "A-B.1:1") ∷
+    seven (bytes "A.1") ∷
+    seven (bytes "x") ∷
+    seven (bytes "<1") ∷
+    seven (bytes ">1..5") ∷
+    seven (bytes "(1.5)..7") ∷
+    seven (bytes "join(1") ∷
+    seven (bytes "complement(1,2)") ∷
+    seven (bytes "Join(1)") ∷
+    seven (bytes "join(1,2..<5)") ∷
+    -- an accession before a word
+    seven (bytes "A.1:join(1,2)") ∷
+    record { got = contig-read (bytes "A.1:gap(5)"); should = 7 ∷ [] } ∷
+    -- more than 16 words open, and as many as may be
+    record { got = location-read (bytes " a " ++ joins 17 ++ bytes "\n//\n"); should = 14 ∷ [] } ∷
+    record { got = contig-read (joins 17); should = 14 ∷ [] } ∷
+    located (joins 16) (1 ∷ 0 ∷ 1 ∷ 1 ∷ 0 ∷ 0 ∷ 0 ∷ each joinRow (1 ∷ 2 ∷ 3 ∷ 4 ∷ 5 ∷ 6 ∷ 7 ∷ 8 ∷ 9 ∷ 10 ∷ 11 ∷ 12 ∷ 13 ∷ 14 ∷ 15 ∷ 16 ∷ [])) ∷
+    -- blanks and bytes outside 33 to 126, and what both refuse
+    seven (bytes "1 2") ∷
+    seven (bytes "1..2 ") ∷
+    seven (bytes "join(1, 2)") ∷
+    seven (195 ∷ 169 ∷ []) ∷
+    seven (bytes ":") ∷
     record { got = location-read (bytes " a\n 1\n//\n"); should = 7 ∷ [] } ∷
     record { got = location-read (bytes " /a 1\n//\n"); should = 7 ∷ [] } ∷
     record { got = location-read (bytes " " ++ 195 ∷ 169 ∷ [] ++ bytes " 1\n//\n"); should = 7 ∷ [] } ∷
     record { got = location-read (bytes " a" ++ 127 ∷ [] ++ bytes " 1\n//\n"); should = 7 ∷ [] } ∷
     record { got = answer (bytes "LOCUS x\nCONTIG 1 2\n//\n"); should = 7 ∷ 0 ∷ [] } ∷
+    -- taken by both, and read otherwise by the Rust: n^m that are no neighbours; an accession that begins with a digit; gap( ) with another text
+    located (bytes "5^9") (3 ∷ 0 ∷ 5 ∷ 9 ∷ 0 ∷ 0 ∷ 0 ∷ []) ∷
+    located (bytes "join(5^9,7)") (3 ∷ 0 ∷ 5 ∷ 9 ∷ 0 ∷ 0 ∷ 0 ∷ 1 ∷ 0 ∷ 7 ∷ 7 ∷ 0 ∷ 0 ∷ 0 ∷ 5 ∷ 0 ∷ 0 ∷ 0 ∷ 0 ∷ 0 ∷ 2 ∷ []) ∷
+    located (bytes "9.1:5") (1 ∷ 0 ∷ 5 ∷ 5 ∷ 0 ∷ 3 ∷ 0 ∷ []) ∷
+    located (bytes "join(9.1:5,7)") (1 ∷ 0 ∷ 5 ∷ 5 ∷ 5 ∷ 3 ∷ 0 ∷ 1 ∷ 0 ∷ 7 ∷ 7 ∷ 0 ∷ 0 ∷ 0 ∷ 5 ∷ 0 ∷ 0 ∷ 0 ∷ 0 ∷ 0 ∷ 2 ∷ []) ∷
+    contig-located (bytes "gap(x)") (7 ∷ 0 ∷ 0 ∷ 0 ∷ 4 ∷ 1 ∷ 0 ∷ []) ∷
+    contig-located (bytes "join(A.1:1..5,gap(x))") (2 ∷ 0 ∷ 1 ∷ 5 ∷ 5 ∷ 3 ∷ 0 ∷ 7 ∷ 0 ∷ 0 ∷ 0 ∷ 18 ∷ 1 ∷ 0 ∷ 5 ∷ 0 ∷ 0 ∷ 0 ∷ 0 ∷ 0 ∷ 2 ∷ []) ∷
+    -- and what the Rust prints anew, kept here
+    located (bytes "5..5") (2 ∷ 0 ∷ 5 ∷ 5 ∷ 0 ∷ 0 ∷ 0 ∷ []) ∷
+    contig-located (bytes "gap(+05)") (7 ∷ 0 ∷ 0 ∷ 0 ∷ 4 ∷ 3 ∷ 0 ∷ []) ∷
     -- 4
     record { got = lines-of 79 (bytes "note") (replicate 50 97 ++ bytes "\" b"); should = spaces 21 ++ bytes "/note=\"" ++ replicate 50 97 ++ bytes "\n" ++ spaces 21 ++ bytes "\"\" b\"\n" } ∷
     record { got = lines-of 79 (bytes "note") (replicate 50 97 ++ bytes "\""); should = spaces 21 ++ bytes "/note=\"" ++ replicate 50 97 ++ bytes "\n" ++ spaces 21 ++ bytes "\"\"\"\n" } ∷
     -- 5
-    record { got = location-read (bytes " a -9223372036854775808\n//\n"); should = bytes "-9223372036854775808" } ∷
+    seven (bytes "-9223372036854775808") ∷
     record { got = location-read (bytes " a 1\n   " ++ 255 ∷ []); should = 2 ∷ [] } ∷
     record { got = line-or-11 true (table (replicate 23 97 ++ 195 ∷ 169 ∷ [] ++ bytes "a") (bytes "note") (bytes "a")); should = 11 ∷ [] } ∷
     eleven (table (bytes "x") (replicate 56 97) (bytes "a")) ∷
@@ -210,8 +287,12 @@ answers =
     []
 
 -- what the answers compute by: to unfold one of these names is to unfold all that its line names
+the-locations : Bool
+unfolding number run past behind baseNumber bases accession leaf plain begin membersIn locationFrom reading locationNumbers soFar deepFeature deepContig deepIn
+the-locations = true
+
 the-reader : Bool
-unfolding featuresHeader bare escape quotedTurn quoted value valueOf qualifier featureFrom feature fieldText fieldBytes field reference source ignoredLine headerField latest every preamble tokens dateOf dateToken locusFrom locusOf locusLine locus originTag letters tag until line lineEnd membersUpTo endUpTo members end features slashesLater middle tableFrom readRecord readAt
+unfolding featuresHeader bare escape quotedTurn quoted value valueOf qualifier featureFrom feature fieldText fieldBytes field reference source ignoredLine headerField latest every preamble tokens dateOf dateToken locusFrom locusOf locusLine locus originTag letters tag until line lineEnd membersUpTo endUpTo members end features slashesLater middle tableFrom readRecord readAt the-locations
 the-reader = true
 
 the-rules : Bool
@@ -224,5 +305,5 @@ the-writer = true
 
 -- THE PAGE'S ANSWERS ARE THOSE OF THE DEFINITIONS
 pub answers-hold : map (λ a. a .got) answers ≡ map (λ a. a .should) answers
-unfolding the-reader the-rules the-writer told answer may-text may-number may-date locus-values locus-read unk first-location location-values location-read table-of table with-kind with-letters line-or-11 eleven lines-of bare-line answers number
+unfolding the-reader the-rules the-writer told answer may-text may-number may-date locus-values locus-read unk location-text first-location location-values location-read may-contig contig-values contig-read seven located contig-located joinRow joins table-of table with-kind with-letters line-or-11 eleven lines-of bare-line answers
 answers-hold = refl

@@ -9,13 +9,14 @@ use Rattle.spec_format.specs.Utf8.{utf8, chars}
 use Rattle.spec_format.specs.Readers.{Ans, Got, No, Cut, tag, until, line, lineEnd, members, membersUpTo, end, endUpTo}
 use Rattle.spec_format.specs.Dates.{monthName, dateText}
 use Rattle.spec_format.specs.Table.{Qualifier, Table}
+use Rattle.spec_format.specs.Location.{run, past, behind, baseNumber, bases, accession, leaf, plain, begin, membersIn, locationFrom, reading, rowsIn}
 use Rattle.spec_format.specs.Locus.{tokens}
 use Rattle.spec_format.specs.Features.{bare, escape, quotedTurn, quoted, value, valueOf, qualifier}
 use Rattle.spec_format.specs.Wrap.{fill, closing, linesAfter, wrapped, wrapText, lastComma, breakAt, commaLines, wrapLocation}
 use Rattle.spec_format.specs.Write.{lengthText, white, blanked, words, printedName, locusText, fieldLines, headerLines, commaKey, bareKey, valueLines, qualifierLines, featureLines, featuresLines, letterLines, originLines, written}
 use Rattle.spec_format.specs.WellFormed.{headerTexts, locusFine, qualifierFine, featureFine, lettersFine, wellFormed}
 use Rattle.spec_format.specs.Keeping.{locusKept, linesKept, valueKept, qualifierKept, featureKept, keeps}
-use Rattle.spec_format.specs.Rooms.{layout, headOf, piecesText, piecesRow, textsOf, rowsOf, featureText, featureRows, qualifierRows, rowsFrom, qualifierIn, featureIn, referenceIn, commentIn, tableOf, rowsFine, referenceRowFine, qualifierRowFine, qualifiersFine, featuresFine, lengthsFine, headFine, countsFine, roomsFine}
+use Rattle.spec_format.specs.Rooms.{layout, headOf, piecesText, piecesRow, textsOf, rowsOf, featureText, featureRows, qualifierRows, rowsFrom, qualifierIn, featureIn, referenceIn, commentIn, tableOf, rowsFine, referenceRowFine, qualifierRowFine, qualifiersFine, featuresFine, lengthsFine, headFine, countsFine, roomsFine, locationNumbers, locationCount, locationRowIn, locationFine, featureRowFine}
 use Rattle.spec_format.specs.Numbers.{writeNumber}
 use Rattle.spec_format.specs.Answers.{plainAnswer, keepingAnswer}
 use Rattle.spec_format.specs.declared.Dated.the-variants as dated
@@ -49,7 +50,8 @@ record-of name n note =
       source = absent;
       references = [];
       comments = [];
-      features = record { kind = bytes "gene"; location = bytes "1"; qualifiers = record { key = bytes "note"; value = is note } ∷ [] } ∷ [];
+      features =
+          record { kind = bytes "gene"; location = bytes "1"; qualifiers = record { key = bytes "note"; value = is note } ∷ []; rows = rowsIn false (bytes "1") } ∷ [];
       contig = absent;
       letters = [];
     }
@@ -83,5 +85,5 @@ examples =
     []
 
 pub examples-hold : map (λ e. e .got) examples ≡ map (λ e. e .should) examples
-unfolding examples value-read read record-of name-columns note-lines keeping-number utf8 chars tag until line lineEnd members membersUpTo end endUpTo monthName dateText tokens bare escape quotedTurn quoted value valueOf qualifier fill closing linesAfter wrapped wrapText lastComma breakAt commaLines wrapLocation number digits lengthText white blanked words printedName locusText fieldLines headerLines commaKey bareKey valueLines qualifierLines featureLines featuresLines letterLines originLines written headerTexts locusFine qualifierFine featureFine lettersFine wellFormed locusKept linesKept valueKept qualifierKept featureKept keeps layout headOf piecesText piecesRow textsOf rowsOf featureText featureRows qualifierRows rowsFrom qualifierIn featureIn referenceIn commentIn tableOf rowsFine referenceRowFine qualifierRowFine qualifiersFine featuresFine lengthsFine headFine countsFine roomsFine plainAnswer keepingAnswer
+unfolding examples value-read read record-of name-columns note-lines keeping-number utf8 chars tag until line lineEnd members membersUpTo end endUpTo monthName dateText tokens bare escape quotedTurn quoted value valueOf qualifier fill closing linesAfter wrapped wrapText lastComma breakAt commaLines wrapLocation number digits lengthText white blanked words printedName locusText fieldLines headerLines commaKey bareKey valueLines qualifierLines featureLines featuresLines letterLines originLines written headerTexts locusFine qualifierFine featureFine lettersFine wellFormed locusKept linesKept valueKept qualifierKept featureKept keeps layout headOf piecesText piecesRow textsOf rowsOf featureText featureRows qualifierRows rowsFrom qualifierIn featureIn referenceIn commentIn tableOf rowsFine referenceRowFine qualifierRowFine qualifiersFine featuresFine lengthsFine headFine countsFine roomsFine plainAnswer keepingAnswer run past behind baseNumber bases accession leaf plain begin membersIn locationFrom reading locationNumbers locationCount locationRowIn locationFine featureRowFine
 examples-hold = refl

@@ -1,4 +1,4 @@
--- Reading, the feature table: feature_table.rs, with departure 3 for kinds and locations.
+-- Reading, the feature table: feature_table.rs, with departure 3 for kinds and ticket 1 for locations.
 use Prim.Native.Nat.{ℕ, _+_}
 use mathlib.Core.Bool.{Bool, true, false, _&&_, _||_, not}
 use mathlib.Core.List.{List, [], _∷_, _++_}
@@ -7,6 +7,7 @@ use lib.Dec.{eqb}
 use Rattle.spec_format.specs.Bytes.{pick, May, absent, is, bytes, spaces, some, starts, all, same, concat, visible, notBlank, space, slash}
 use Rattle.spec_format.specs.Readers.{Ans, Got, No, Cut, bind, mapped, passing, orElse, tag, until1, spaces1, line, lineEnd, utf8Of, Turn, more, stop, loop, many0}
 use Rattle.spec_format.specs.Table.{Qualifier, Feature}
+use Rattle.spec_format.specs.Location.{locates, rowsIn}
 
 -- `features_header`: "a line of `FEATURES`, spaces or tabs, `Location/Qualifiers`"
 unfoldable pub featuresHeader : List ℕ → Ans (List ℕ)
@@ -82,18 +83,15 @@ qualifier indent s =
     bind (tag (spaces indent) s) λ _ s. bind (tag (bytes "/") s) λ _ s. bind (utf8Of (until1 keyEnd s)) λ key s.
     bind (valueOf indent key s) λ value s. Got (record { key = key; value = value }) s
 
--- departure 3: "Locations and CONTIG are checked only for bytes 33 to 126, non-empty; kinds for number 11's bytes and first byte, any length"
-abbrev pub locationText : List ℕ → Bool
-locationText t = some t && all visible t
-
+-- departure 3: "kinds for number 11's bytes and first byte, any length"
 abbrev pub kindText : List ℕ → Bool
 kindText t = some t && (all visible t && not (starts slash t))
 
--- from the location on
+-- from the location on; ticket 1: "any other bad location is 7 or 2", so a feature whose location has no reading is not taken
 unfoldable pub featureFrom : ℕ → List ℕ → List ℕ → Ans Feature
 featureFrom indent kind s =
-    bind (passing locationText (bare indent s)) λ location s. bind (many0 (qualifier indent) s) λ qualifiers s.
-    Got (record { kind = kind; location = location; qualifiers = qualifiers }) s
+    bind (passing (locates false) (bare indent s)) λ location s. bind (many0 (qualifier indent) s) λ qualifiers s.
+    Got (record { kind = kind; location = location; qualifiers = qualifiers; rows = rowsIn false location }) s
 
 -- `feature`: "for each feature spaces, kind, spaces, location. All before the location is the feature's indent"
 unfoldable pub feature : List ℕ → Ans Feature

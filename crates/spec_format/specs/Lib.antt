@@ -4,9 +4,11 @@ pub mod Utf8
 pub mod Readers
 pub mod Dates
 pub mod Table
+pub mod Location
 pub mod Locus
 pub mod Header
 pub mod Features
+pub mod Deep
 pub mod Origin
 pub mod Record
 pub mod Rooms

@@ -20,6 +20,7 @@ unreadNumber unread.TwoDefinitions = 5
 unreadNumber unread.NoSlashes = 7
 unreadNumber unread.OtherLength = 8
 unreadNumber unread.BadLetter = 9
+unreadNumber unread.TooDeep = 14
 
 abbrev pub unreadPlace : Unread → ℕ → ℕ
 unreadPlace unread.AtEnd at = at
@@ -30,6 +31,7 @@ unreadPlace unread.TwoDefinitions at = at
 unreadPlace unread.NoSlashes at = at
 unreadPlace unread.OtherLength at = at
 unreadPlace unread.BadLetter at = at
+unreadPlace unread.TooDeep at = at
 
 abbrev pub readNumber : ReadAnswer → ℕ
 readNumber (read.Done head place) = 0

@@ -5,11 +5,13 @@ use mathlib.Core.List.{List, [], _∷_}
 use lib.ListN.{length, drop}
 use lib.Dec.{eqb, leb}
 use Rattle.spec_format.specs.Bytes.{pick, May, absent, is, bytes}
-use Rattle.spec_format.specs.Readers.{Ans, Got, No, Cut, bind, passing, optional, tag, lineEnd, whileFits}
-use Rattle.spec_format.specs.Table.{Locus, Feature, Table}
+use Rattle.spec_format.specs.Readers.{Ans, Got, No, Cut, bind, mapped, passing, optional, tag, lineEnd, whileFits}
+use Rattle.spec_format.specs.Table.{Locus, Feature, Contig, Table}
 use Rattle.spec_format.specs.Locus.{preamble, locus}
 use Rattle.spec_format.specs.Header.{Field, field, fieldBytes, headerField, latest, every, textIn, sourceIn, referenceIn}
-use Rattle.spec_format.specs.Features.{featuresHeader, feature, locationText}
+use Rattle.spec_format.specs.Location.{locates, rowsIn}
+use Rattle.spec_format.specs.Features.{featuresHeader, feature}
+use Rattle.spec_format.specs.Deep.{deepFeature, deepContig}
 use Rattle.spec_format.specs.Origin.{originTag, Letters, AtSlash, AtEnd, Bad, letters}
 use Rattle.spec_format.specs.declared.Unread.{Unread}
 use Rattle.spec_format.specs.declared.Unread.the-variants as unread
@@ -29,9 +31,12 @@ features s = bind (featuresHeader s) λ _ s. whileFits feature s
 abbrev pub baseCount : List ℕ → Ans (List ℕ)
 baseCount s = field 0 (bytes "BASE COUNT") false s
 
--- `contig_text`, with departure 3
-abbrev pub contig : List ℕ → Ans (List ℕ)
-contig s = passing locationText (fieldBytes 0 (bytes "CONTIG") false s)
+-- `contig_text`, whose text has a reading as a location (ticket 1)
+abbrev pub contigOf : List ℕ → Contig
+contigOf t = record { text = t; rows = rowsIn true t }
+
+abbrev pub contig : List ℕ → Ans Contig
+contig s = mapped contigOf (passing (locates true) (fieldBytes 0 (bytes "CONTIG") false s))
 
 -- a line beginning `//` after the place where the sections end
 unfoldable pub slashesLater : List ℕ → Bool
@@ -106,12 +111,30 @@ listOf (is l) = l
 
 pub record Middle : Type 0 where
   pub features : List Feature
-  pub contig : May (List ℕ)
+  pub contig : May Contig
 
 unfoldable pub middle : List ℕ → Ans Middle
 middle s =
     bind (optional s (features s)) λ fs s. bind (optional s (baseCount s)) λ _ s. bind (optional s (contig s)) λ c s.
     Got (record { features = listOf fs; contig = c }) s
+
+-- number 14, where the features end, and where CONTIG is tried: ahead of what stands after that
+abbrev pub isThere : {A : Type 0} → May A → Bool
+isThere absent = false
+isThere (is a) = true
+
+abbrev pub deepAfterCount : Ans (May (List ℕ)) → Bool
+deepAfterCount (Got c s) = deepContig s
+deepAfterCount No = false
+deepAfterCount Cut = false
+
+abbrev pub deepAfter : Ans (May (List Feature)) → Bool
+deepAfter (Got fs s) = (isThere fs && deepFeature s) || deepAfterCount (optional s (baseCount s))
+deepAfter No = false
+deepAfter Cut = false
+
+unfoldable pub deepIn : List ℕ → Bool
+deepIn s = deepAfter (optional s (features s))
 
 -- the table of a LOCUS line, header fields and sections, without letters
 unfoldable pub tableFrom : Locus → List Field → Middle → Table
@@ -138,7 +161,8 @@ afterHeader l fs Cut = Not unread.Unended
 
 -- "second DEFINITION": 5 stands where the header ends
 abbrev pub header : Locus → List ℕ → Ans (List Field) → Outcome
-header l s (Got fs r) = pick (leb (length (every (textIn (bytes "DEFINITION")) fs)) 1) (afterHeader l fs (middle r)) (Not unread.TwoDefinitions)
+header l s (Got fs r) =
+    pick (leb (length (every (textIn (bytes "DEFINITION")) fs)) 1) (pick (deepIn r) (Not unread.TooDeep) (afterHeader l fs (middle r))) (Not unread.TwoDefinitions)
 header l s No = Not unread.Unended
 header l s Cut = Not unread.Unended
 

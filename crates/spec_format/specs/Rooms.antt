@@ -1,18 +1,21 @@
 -- A table in lent rooms: what it takes of each (`sizes`), what it leaves there (`layout`), the table that rooms hold (`tableOf`), and the
 -- answers of the reader with number 6 on top. The store holds the texts in the table's own order, rows follow one another, letters too.
 use Prim.Native.Nat.{ℕ, zero, suc, _+_, _-_, _*_, _/_}
-use mathlib.Core.Bool.{Bool, true, false, _&&_}
+use mathlib.Core.Bool.{Bool, true, false, _&&_, _||_}
 use mathlib.Core.List.{List, [], _∷_, _++_}
 use lib.ListN.{length, take, drop, getD}
 use lib.Dec.{eqb, leb}
-use Rattle.spec_format.specs.Bytes.{pick, May, absent, is, each}
-use Rattle.spec_format.specs.Table.{Source, Reference, Qualifier, Feature, Table}
+use Rattle.spec_format.specs.Bytes.{pick, May, absent, is, each, all, same}
+use Rattle.spec_format.specs.Table.{Source, Reference, Qualifier, LocationRow, Feature, Contig, Table}
+use Rattle.spec_format.specs.Location.{Reading, one, none, tooDeep, reading}
 use Rattle.spec_format.specs.Record.{Outcome, Read, Not, most, readAt}
 use Rattle.spec_format.specs.declared.Span.{Span}
 use Rattle.spec_format.specs.declared.Text.{Text}
 use Rattle.spec_format.specs.declared.Text.the-variants as text
 use Rattle.spec_format.specs.declared.SourceText.{SourceText}
 use Rattle.spec_format.specs.declared.SourceText.the-variants as source
+use Rattle.spec_format.specs.declared.ContigText.{ContigText}
+use Rattle.spec_format.specs.declared.ContigText.the-variants as contig
 use Rattle.spec_format.specs.declared.Length.{Length}
 use Rattle.spec_format.specs.declared.Length.the-variants as bases
 use Rattle.spec_format.specs.declared.Head.{Head}
@@ -20,19 +23,28 @@ use Rattle.spec_format.specs.declared.Sizes.{Sizes}
 use Rattle.spec_format.specs.declared.ReadAnswer.{ReadAnswer}
 use Rattle.spec_format.specs.declared.ReadAnswer.the-variants as answer
 
--- texts and letters are bytes; a row is 14, 2, 6 or 4 numbers
+-- texts and letters are bytes; a row is 14, 2, 8, 4 or 7 numbers
 pub record Rooms : Type 0 where
   pub texts : List ℕ
   pub references : List ℕ
   pub comments : List ℕ
   pub features : List ℕ
   pub qualifiers : List ℕ
+  pub locations : List ℕ
   pub letters : List ℕ
 
 -- what a call is lent, room by room
-abbrev pub roomsIn : List ℕ → List ℕ → List ℕ → List ℕ → List ℕ → List ℕ → Rooms
-roomsIn texts references comments features qualifiers letters =
-    record { texts = texts; references = references; comments = comments; features = features; qualifiers = qualifiers; letters = letters }
+abbrev pub roomsIn : List ℕ → List ℕ → List ℕ → List ℕ → List ℕ → List ℕ → List ℕ → Rooms
+roomsIn texts references comments features qualifiers locations letters =
+    record {
+      texts = texts;
+      references = references;
+      comments = comments;
+      features = features;
+      qualifiers = qualifiers;
+      locations = locations;
+      letters = letters;
+    }
 
 -- ---- pieces: the texts of a row, in order. One that is always there has start and length in the row; one that may be absent has start and
 -- length plus one, and 0, 0 where it is absent
@@ -84,7 +96,23 @@ featurePieces f = always (f .kind) ∷ always (f .location) ∷ []
 abbrev pub qualifierPieces : Qualifier → List Piece
 qualifierPieces q = always (q .key) ∷ perhaps (q .value) ∷ []
 
--- ---- layout: the texts of rows, and the rows, with the running start in the store and, for features, the running number of qualifiers
+-- the seven numbers of a location row, and those of rows one after the other
+abbrev pub rowNumbers : LocationRow → List ℕ
+rowNumbers l = l .form ∷ l .marks ∷ l .from ∷ l .to ∷ l .start ∷ l .length ∷ l .inside ∷ []
+
+unfoldable pub locationNumbers : List LocationRow → List ℕ
+locationNumbers ls = each rowNumbers ls
+
+abbrev pub contigText : May Contig → May (List ℕ)
+contigText absent = absent
+contigText (is c) = is (c .text)
+
+abbrev pub contigRows : May Contig → List LocationRow
+contigRows absent = []
+contigRows (is c) = c .rows
+
+-- ---- layout: the texts of rows, and the rows, with the running start in the store and, for features, the running numbers of qualifiers and of
+-- location rows
 
 unfoldable pub textsOf : {A : Type 0} → (A → List Piece) → List A → List ℕ
 textsOf f [] = []
@@ -97,10 +125,11 @@ rowsOf f at (x ∷ xs) = piecesRow at (f x) ++ rowsOf f (at + length (piecesText
 unfoldable pub featureText : Feature → List ℕ
 featureText f = piecesText (featurePieces f) ++ textsOf qualifierPieces (f .qualifiers)
 
-unfoldable pub featureRows : ℕ → ℕ → List Feature → List ℕ
-featureRows at q [] = []
-featureRows at q (f ∷ fs) =
-    piecesRow at (featurePieces f) ++ q ∷ length (f .qualifiers) ∷ [] ++ featureRows (at + length (featureText f)) (q + length (f .qualifiers)) fs
+unfoldable pub featureRows : ℕ → ℕ → ℕ → List Feature → List ℕ
+featureRows at q l [] = []
+featureRows at q l (f ∷ fs) =
+    piecesRow at (featurePieces f) ++ q ∷ length (f .qualifiers) ∷ l ∷ length (f .rows) ∷ [] ++
+    featureRows (at + length (featureText f)) (q + length (f .qualifiers)) (l + length (f .rows)) fs
 
 unfoldable pub qualifierRows : ℕ → List Feature → List ℕ
 qualifierRows at [] = []
@@ -110,6 +139,14 @@ qualifierRows at (f ∷ fs) =
 unfoldable pub qualifierCount : List Feature → ℕ
 qualifierCount [] = 0
 qualifierCount (f ∷ fs) = length (f .qualifiers) + qualifierCount fs
+
+-- the features' location rows in order, as numbers
+abbrev pub featureLocations : Feature → List ℕ
+featureLocations f = locationNumbers (f .rows)
+
+unfoldable pub locationCount : List Feature → ℕ
+locationCount [] = 0
+locationCount (f ∷ fs) = length (f .rows) + locationCount fs
 
 -- where in the store the texts of references, comments, features and CONTIG start
 abbrev pub referencesAt : Table → ℕ
@@ -129,11 +166,12 @@ layout t =
     record {
       texts =
           piecesText (headPieces t) ++ textsOf referencePieces (t .references) ++ textsOf commentPieces (t .comments) ++ each featureText (t .features) ++
-          pieceText (perhaps (t .contig));
+          pieceText (perhaps (contigText (t .contig)));
       references = rowsOf referencePieces (referencesAt t) (t .references);
       comments = rowsOf commentPieces (commentsAt t) (t .comments);
-      features = featureRows (featuresAt t) 0 (t .features);
+      features = featureRows (featuresAt t) 0 0 (t .features);
       qualifiers = qualifierRows (featuresAt t) (t .features);
+      locations = each featureLocations (t .features) ++ locationNumbers (contigRows (t .contig));
       letters = t .letters;
     }
 
@@ -145,6 +183,7 @@ sizes t =
       comments = length (t .comments);
       features = length (t .features);
       qualifiers = qualifierCount (t .features);
+      locations = locationCount (t .features) + length (contigRows (t .contig));
       letters = length (t .letters);
     }
 
@@ -164,6 +203,10 @@ textAt at (is t) = text.At (spanOf at t)
 abbrev pub sourceAt : ℕ → ℕ → May Source → SourceText
 sourceAt at o absent = source.Absent
 sourceAt at o (is s) = source.At (spanOf at (s .text)) (textAt o (s .organism))
+
+abbrev pub contigTextAt : ℕ → ℕ → May Contig → ContigText
+contigTextAt at row absent = contig.Absent
+contigTextAt at row (is c) = contig.At (spanOf at (c .text)) row (length (c .rows))
 
 abbrev pub lengthOf : May ℕ → Length
 lengthOf absent = bases.Absent
@@ -187,7 +230,7 @@ headOf t =
       references = length (t .references);
       comments = length (t .comments);
       features = length (t .features);
-      contig = textAt (contigAt t) (t .contig);
+      contig = contigTextAt (contigAt t) (locationCount (t .features)) (t .contig);
       letters = length (t .letters);
     }
 
@@ -228,6 +271,25 @@ unfoldable pub rowsFrom : {A : Type 0} → (ℕ → A) → ℕ → ℕ → ℕ �
 rowsFrom f w i zero = []
 rowsFrom f w i (suc n) = f (w * i) ∷ rowsFrom f w (i + 1) n
 
+unfoldable pub locationRowIn : Rooms → ℕ → LocationRow
+locationRowIn r at =
+    record {
+      form = getD (r .locations) at 0;
+      marks = getD (r .locations) (at + 1) 0;
+      from = getD (r .locations) (at + 2) 0;
+      to = getD (r .locations) (at + 3) 0;
+      start = getD (r .locations) (at + 4) 0;
+      length = getD (r .locations) (at + 5) 0;
+      inside = getD (r .locations) (at + 6) 0;
+    }
+
+abbrev pub locationsFrom : Rooms → ℕ → ℕ → List LocationRow
+locationsFrom r row rows = rowsFrom (locationRowIn r) 7 row rows
+
+abbrev pub mayContig : Rooms → ContigText → May Contig
+mayContig r contig.Absent = absent
+mayContig r (contig.At s row rows) = is (record { text = spanText (r .texts) s; rows = locationsFrom r row rows })
+
 unfoldable pub referenceIn : Rooms → ℕ → Reference
 referenceIn r at =
     record {
@@ -252,6 +314,7 @@ featureIn r at =
       kind = textIn (r .texts) (r .features) at;
       location = textIn (r .texts) (r .features) (at + 2);
       qualifiers = rowsFrom (qualifierIn r) 4 (getD (r .features) (at + 4) 0) (getD (r .features) (at + 5) 0);
+      rows = locationsFrom r (getD (r .features) (at + 6) 0) (getD (r .features) (at + 7) 0);
     }
 
 unfoldable pub tableOf : Rooms → Head → Table
@@ -274,13 +337,13 @@ tableOf r h =
       source = maySource (r .texts) (h .source);
       references = rowsFrom (referenceIn r) 14 0 (h .references);
       comments = rowsFrom (commentIn r) 2 0 (h .comments);
-      features = rowsFrom (featureIn r) 6 0 (h .features);
-      contig = mayText (r .texts) (h .contig);
+      features = rowsFrom (featureIn r) 8 0 (h .features);
+      contig = mayContig r (h .contig);
       letters = take (h .letters) (r .letters);
     }
 
 -- ---- number 10: "table has a span or row outside its room, a feature's qualifiers starting before the end of an earlier feature's, or a room
--- over 16,777,216 long"; rooms of rows are measured in rows
+-- over 16,777,216 long"; rooms of rows are measured in rows. Ticket 1: "where a text has its reading, location rows other than that reading's are 10"
 
 abbrev pub spanFine : ℕ → ℕ → ℕ → Bool
 spanFine room start n = leb start room && leb n (room - start)
@@ -299,6 +362,32 @@ rowTextFine r room at = spanFine (length (r .texts)) (getD room at 0) (getD room
 
 abbrev pub rowPerhapsFine : Rooms → List ℕ → ℕ → Bool
 rowPerhapsFine r room at = pick (eqb (getD room (at + 1) 0) 0) true (spanFine (length (r .texts)) (getD room at 0) (getD room (at + 1) 0 - 1))
+
+-- the rows of a text's reading, where it has one, are these
+abbrev pub readAs : Reading → List LocationRow → Bool
+readAs (one ls) rows = same (locationNumbers ls) (locationNumbers rows)
+readAs none rows = true
+readAs tooDeep rows = true
+
+-- each feature's rows, and CONTIG's, are those of its text, where this has a reading
+abbrev pub featureRead : Feature → Bool
+featureRead f = readAs (reading false (f .location)) (f .rows)
+
+abbrev pub contigRead : May Contig → Bool
+contigRead absent = true
+contigRead (is c) = readAs (reading true (c .text)) (c .rows)
+
+unfoldable pub locationsRead : Table → Bool
+locationsRead t = all featureRead (t .features) && contigRead (t .contig)
+
+-- `rows` location rows from `row` on lie in their room and are those of the text; where there are none, they start nowhere
+unfoldable pub locationFine : Bool → Rooms → List ℕ → ℕ → ℕ → Bool
+locationFine gaps r text row rows =
+    (eqb rows 0 || spanFine (length (r .locations) / 7) row rows) && readAs (reading gaps text) (locationsFrom r row rows)
+
+abbrev pub contigTextFine : Rooms → ContigText → Bool
+contigTextFine r contig.Absent = true
+contigTextFine r (contig.At s row rows) = spanFine (length (r .texts)) (s .start) (s .length) && locationFine true r (spanText (r .texts) s) row rows
 
 -- n rows from row i on, of w numbers each, are fine
 unfoldable pub rowsFine : (ℕ → Bool) → ℕ → ℕ → ℕ → Bool
@@ -322,41 +411,47 @@ unfoldable pub qualifiersFine : Rooms → ℕ → ℕ → ℕ → Bool
 qualifiersFine r from first count =
     leb from first && (spanFine (length (r .qualifiers) / 4) first count && rowsFine (qualifierRowFine r) 4 first count)
 
+-- the texts of a feature and its location rows
+unfoldable pub featureRowFine : Rooms → ℕ → Bool
+featureRowFine r at =
+    rowTextFine r (r .features) at && (rowTextFine r (r .features) (at + 2) &&
+    locationFine false r (textIn (r .texts) (r .features) (at + 2)) (getD (r .features) (at + 6) 0) (getD (r .features) (at + 7) 0))
+
 -- n features from feature i on; the qualifiers of the earlier ones end at `from`. A feature without qualifiers has none that start anywhere
 unfoldable pub featuresFine : Rooms → ℕ → ℕ → ℕ → Bool
 featuresFine r i from zero = true
 featuresFine r i from (suc n) =
-    elim (rowTextFine r (r .features) (6 * i) && rowTextFine r (r .features) (6 * i + 2)) [
+    elim (featureRowFine r (8 * i)) [
       | false ↦ false
       | true ↦
-          elim (eqb (getD (r .features) (6 * i + 5) 0) 0) [
+          elim (eqb (getD (r .features) (8 * i + 5) 0) 0) [
             | true ↦ featuresFine r (i + 1) from n
             | false ↦
-                elim (qualifiersFine r from (getD (r .features) (6 * i + 4) 0) (getD (r .features) (6 * i + 5) 0)) [
+                elim (qualifiersFine r from (getD (r .features) (8 * i + 4) 0) (getD (r .features) (8 * i + 5) 0)) [
                   | false ↦ false
                   | true ↦
-                      featuresFine r (i + 1) (getD (r .features) (6 * i + 4) 0 + getD (r .features) (6 * i + 5) 0) n
+                      featuresFine r (i + 1) (getD (r .features) (8 * i + 4) 0 + getD (r .features) (8 * i + 5) 0) n
                 ]
           ]
     ]
 
 unfoldable pub lengthsFine : Rooms → Bool
 lengthsFine r =
-    leb (length (r .texts)) most && (leb (length (r .references) / 14) most && (leb (length (r .comments) / 2) most && (leb (length (r .features) / 6) most &&
-    (leb (length (r .qualifiers) / 4) most && leb (length (r .letters)) most))))
+    leb (length (r .texts)) most && (leb (length (r .references) / 14) most && (leb (length (r .comments) / 2) most && (leb (length (r .features) / 8) most &&
+    (leb (length (r .qualifiers) / 4) most && (leb (length (r .locations) / 7) most && leb (length (r .letters)) most)))))
 
 unfoldable pub headFine : Rooms → Head → Bool
 headFine r h =
     textFine (length (r .texts)) (h .name) && (textFine (length (r .texts)) (h .molecule) &&
     (spanFine (length (r .texts)) (h .division .start) (h .division .length) && (textFine (length (r .texts)) (h .definition) &&
     (textFine (length (r .texts)) (h .accession) && (textFine (length (r .texts)) (h .version) && (textFine (length (r .texts)) (h .dblink) &&
-    (textFine (length (r .texts)) (h .keywords) && (sourceFine (length (r .texts)) (h .source) && textFine (length (r .texts)) (h .contig)))))))))
+    (textFine (length (r .texts)) (h .keywords) && (sourceFine (length (r .texts)) (h .source) && contigTextFine r (h .contig)))))))))
 
 -- as many rows and letters as the head says
 unfoldable pub countsFine : Rooms → Head → Bool
 countsFine r h =
     leb (h .references) (length (r .references) / 14) && (leb (h .comments) (length (r .comments) / 2) &&
-    (leb (h .features) (length (r .features) / 6) && leb (h .letters) (length (r .letters))))
+    (leb (h .features) (length (r .features) / 8) && leb (h .letters) (length (r .letters))))
 
 -- number 10 is not due
 unfoldable pub roomsFine : Rooms → Head → Bool
@@ -369,7 +464,8 @@ roomsFine r h =
 unfoldable pub fits : Sizes → Rooms → Bool
 fits n r =
     leb (n .texts) (length (r .texts)) && (leb (n .references) (length (r .references) / 14) && (leb (n .comments) (length (r .comments) / 2) &&
-    (leb (n .features) (length (r .features) / 6) && (leb (n .qualifiers) (length (r .qualifiers) / 4) && leb (n .letters) (length (r .letters))))))
+    (leb (n .features) (length (r .features) / 8) && (leb (n .qualifiers) (length (r .qualifiers) / 4) && (leb (n .locations) (length (r .locations) / 7) &&
+    leb (n .letters) (length (r .letters)))))))
 
 unfoldable pub answerOf : ℕ → Rooms → Outcome → ReadAnswer
 answerOf n r (Read t rest) = pick (fits (sizes t) r) (answer.Done (headOf t) (n - length rest)) (answer.Room (sizes t))
@@ -391,6 +487,7 @@ overRooms new old =
       comments = over (new .comments) (old .comments);
       features = over (new .features) (old .features);
       qualifiers = over (new .qualifiers) (old .qualifiers);
+      locations = over (new .locations) (old .locations);
       letters = over (new .letters) (old .letters);
     }
 

@@ -1,5 +1,5 @@
--- The table: what a record holds ("The table" of document 01). Two tables are equal if each text, row, number and letter is; where texts and
--- qualifiers lie in rooms is no part of a table.
+-- The table: what a record holds ("The table" of document 01, and ticket 1's location rows). Two tables are equal if each text, row, number and letter is; where
+-- texts, qualifiers and location rows lie in rooms is no part of a table.
 use Prim.Native.Nat.{ℕ}
 use mathlib.Core.Bool.{Bool}
 use mathlib.Core.List.{List}
@@ -31,10 +31,27 @@ pub record Qualifier : Type 0 where
   pub key : List ℕ
   pub value : May (List ℕ)
 
+-- a part of a location (document 02, ticket 1). The form: 1 base n, 2 range n..m, 3 between n^m, 4 complement( ), 5 join( ), 6 order( ), 7 gap( ); of a range the
+-- marks, 1 for `<` and 2 for `>`; n and m, a base n as both; where in the location's text its accession stands with its version, or a gap's
+-- inner text; of a word how many rows belong to it, which stand right before it. What a part does not have is 0
+pub record LocationRow : Type 0 where
+  pub form : ℕ
+  pub marks : ℕ
+  pub from : ℕ
+  pub to : ℕ
+  pub start : ℕ
+  pub length : ℕ
+  pub inside : ℕ
+
 pub record Feature : Type 0 where
   pub kind : List ℕ
   pub location : List ℕ
   pub qualifiers : List Qualifier
+  pub rows : List LocationRow
+
+pub record Contig : Type 0 where
+  pub text : List ℕ
+  pub rows : List LocationRow
 
 pub record Table : Type 0 where
   pub locus : Locus
@@ -47,5 +64,5 @@ pub record Table : Type 0 where
   pub references : List Reference
   pub comments : List (List ℕ)
   pub features : List Feature
-  pub contig : May (List ℕ)
+  pub contig : May Contig
   pub letters : List ℕ

@@ -7,8 +7,9 @@ use lib.Dec.{leb}
 use Rattle.spec_format.specs.Bytes.{pick, May, absent, is, some, all, between, visible, printing, letter, but}
 use Rattle.spec_format.specs.Utf8.{utf8}
 use Rattle.spec_format.specs.Dates.{made, isDate}
-use Rattle.spec_format.specs.Table.{Source, Reference, Qualifier, Feature, Table}
-use Rattle.spec_format.specs.Features.{kindText, locationText}
+use Rattle.spec_format.specs.Table.{Source, Reference, Qualifier, Feature, Contig, Table}
+use Rattle.spec_format.specs.Features.{kindText}
+use Rattle.spec_format.specs.Location.{locates}
 use Rattle.spec_format.specs.Record.{promised}
 use Rattle.spec_format.specs.Write.{printedName, commaKey}
 use Rattle.spec_format.specs.declared.Dated.{Dated}
@@ -68,9 +69,12 @@ valueFine k v = pick (commaKey k) (commaText v) (utf8 v)
 unfoldable pub qualifierFine : ℕ → Qualifier → Bool
 qualifierFine W q = keyFine W (q .key) && ifIs (valueFine (q .key)) (q .value)
 
--- "location, CONTIG .. empty or with other bytes"
+-- ticket 1: "In writing both are 11": a location without a reading, be it for a seventeenth word
 unfoldable pub featureFine : ℕ → Feature → Bool
-featureFine W f = kindFine W (f .kind) && (locationText (f .location) && all (qualifierFine W) (f .qualifiers))
+featureFine W f = kindFine W (f .kind) && (locates false (f .location) && all (qualifierFine W) (f .qualifiers))
+
+abbrev pub contigFine : Contig → Bool
+contigFine c = locates true (c .text)
 
 -- "a sequence byte that is no letter; letters present that do not number the length"
 unfoldable pub lettersFine : May ℕ → List ℕ → Bool
@@ -80,5 +84,5 @@ lettersFine l (b ∷ t) = all letter (b ∷ t) && promised l (length (b ∷ t))
 -- number 11 is not due
 unfoldable pub wellFormed : ℕ → Bool → Bool → Table → Bool
 wellFormed W truncate escape t =
-    locusFine truncate escape t && (headerTexts utf8 t && (all (featureFine W) (t .features) && (ifIs locationText (t .contig) &&
+    locusFine truncate escape t && (headerTexts utf8 t && (all (featureFine W) (t .features) && (ifIs contigFine (t .contig) &&
     lettersFine (t .locus .length) (t .letters))))

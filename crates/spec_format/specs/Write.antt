@@ -6,7 +6,7 @@ use lib.ListN.{length, take, getD}
 use lib.Dec.{eqb, ltb}
 use Rattle.spec_format.specs.Bytes.{pick, May, absent, is, bytes, spaces, among, each, between, decimal}
 use Rattle.spec_format.specs.Dates.{dateText, printedDate}
-use Rattle.spec_format.specs.Table.{Source, Reference, Qualifier, Feature, Table}
+use Rattle.spec_format.specs.Table.{Source, Reference, Qualifier, Feature, Contig, Table}
 use Rattle.spec_format.specs.Locus.{tokens}
 use Rattle.spec_format.specs.Wrap.{wrapText, wrapLocation}
 
@@ -146,9 +146,9 @@ unfoldable pub featuresLines : ℕ → List Feature → List ℕ
 featuresLines W [] = []
 featuresLines W (f ∷ fs) = bytes "FEATURES             Location/Qualifiers\n" ++ each (featureLines W) (f ∷ fs)
 
-abbrev pub contigLines : ℕ → May (List ℕ) → List ℕ
+abbrev pub contigLines : ℕ → May Contig → List ℕ
 contigLines W absent = []
-contigLines W (is c) = wrapLocation W (bytes "CONTIG      ") 12 c
+contigLines W (is c) = wrapLocation W (bytes "CONTIG      ") 12 (c .text)
 
 -- ---- ORIGIN: "60 letters a line, number right-aligned in 9, a space before each ten"
 

@@ -24,6 +24,12 @@ pub enum SourceText {
     At { text: Span, organism: Text },
 }
 
+// CONTIG: its text, the first of its location rows, and how many there are.
+pub enum ContigText {
+    Absent,
+    At { text: Span, row: usize, rows: usize },
+}
+
 // The length that a LOCUS line gives.
 pub enum Length {
     Absent,
@@ -110,7 +116,7 @@ pub struct Head {
     pub references: usize,
     pub comments: usize,
     pub features: usize,
-    pub contig: Text,
+    pub contig: ContigText,
     pub letters: usize,
 }
 
@@ -122,6 +128,7 @@ pub struct Sizes {
     pub comments: usize,
     pub features: usize,
     pub qualifiers: usize,
+    pub locations: usize,
     pub letters: usize,
 }
 
@@ -135,6 +142,7 @@ pub enum Unread {
     NoSlashes,
     OtherLength,
     BadLetter,
+    TooDeep,
 }
 
 // What the reader answers.

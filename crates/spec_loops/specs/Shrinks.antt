@@ -12,7 +12,8 @@ use Rattle.spec_format.specs.Readers.{Ans, Got, No, Cut, bind, mapped, passing,
 use Rattle.spec_format.specs.Readers.{line, lineEnd, Turn, more, stop, endUpTo, end, loop, fitting, fitTurn, many0}
 use Rattle.spec_format.specs.Header.{furtherLine, fieldText, fieldBytes, field, maybeField, reference, source, Entry, SourceOf, ReferenceOf, Dropped, ignoredLine, entry, headerField}
 use Rattle.spec_format.specs.Features.{notSlash, bareTurn, bareMore, bare, escape, quotedEnd, special, quotedTurn}
-use Rattle.spec_format.specs.Features.{quoted, value, keyEnd, valueOf, qualifier, kindText, locationText, featureFrom, feature}
+use Rattle.spec_format.specs.Features.{quoted, value, keyEnd, valueOf, qualifier, kindText, featureFrom, feature}
+use Rattle.spec_format.specs.Location.{locates}
 use Rattle.spec_format.specs.Locus.{skipping, preambleTurn}
 use Rattle.spec_format.specs.Origin.{Letters, AtSlash, AtEnd, Bad, keep, skipped, letters}
 use Rattle.spec_format.specs.Utf8.{utf8}
@@ -386,7 +387,7 @@ qualifier-takes indent s =
 from-takes : (indent : ℕ) (kind s : List ℕ) → Leaves 1 s (featureFrom indent kind s)
 unfolding featureFrom
 from-takes indent kind s =
-    leaves-first (leaves-passing locationText (bare-takes indent s)) (λ _ s. leaves-first (many0-leaves (qualifier indent) (qualifier-takes indent) s) (λ _ s. leaves-got 0 s _ s (past-here s)))
+    leaves-first (leaves-passing (locates false) (bare-takes indent s)) (λ _ s. leaves-first (many0-leaves (qualifier indent) (qualifier-takes indent) s) (λ _ s. leaves-got 0 s _ s (past-here s)))
 
 feature-takes : (s : List ℕ) → Leaves 1 s (feature s)
 unfolding feature

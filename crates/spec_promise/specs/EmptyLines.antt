@@ -12,6 +12,7 @@ use Rattle.spec_format.specs.Record.{Read, most, slashesAt, readAt}
 use Rattle.spec_format.specs.Write.{written}
 use Rattle.spec_format.specs.WellFormed.{widthFine, wellFormed}
 use Rattle.spec_format.specs.Keeping.{keeps}
+use Rattle.spec_format.specs.Rooms.{locationsRead}
 use Rattle.spec_loops.specs.Loops.{tries-more}
 use Rattle.spec_loops.specs.Shrinks.{lineEnd-small}
 use Rattle.spec_record_back.specs.LocusBack.{lengthFits}
@@ -52,10 +53,10 @@ slashes-back t es rest h = rw (all-taken (lf ∷ es) rest h)
 
 pub lines-inside :
     (W : ℕ) (truncate escape : Bool) (before : List ℕ) (t : Table) (es : List EmptyLine) (rest : List ℕ) → widthFine W ≡ true →
-    wellFormed W truncate escape t ≡ true → keeps W truncate escape t ≡ true → lengthFits t ≡ true → lineEnds rest ≡ false →
+    wellFormed W truncate escape t ≡ true → keeps W truncate escape t ≡ true → locationsRead t ≡ true → lengthFits t ≡ true → lineEnds rest ≡ false →
     leb (length (before ++ (written W truncate escape t ++ (each endBytes es ++ rest)))) most ≡ true →
     readAt (before ++ (written W truncate escape t ++ (each endBytes es ++ rest))) (length before) ≡ Read t rest
-lines-inside W truncate escape before t es rest w f k n e m =
+lines-inside W truncate escape before t es rest w f k p n e m =
     let y : List ℕ = each endBytes es ++ rest in
     at-steps (before ++ (written W truncate escape t ++ y)) before (written W truncate escape t ++ y) (Read t rest) refl (written-some W truncate escape t y) m
-    (kept-then W truncate escape t y w f k n ∙ slashes-back t es rest e)
+    (kept-then W truncate escape t y w f k p n ∙ slashes-back t es rest e)

@@ -14,7 +14,7 @@ use Rattle.spec_format.specs.Record.{Outcome, Read, Not, most, readAt}
 use Rattle.spec_format.specs.Write.{written}
 use Rattle.spec_format.specs.WellFormed.{widthFine, ifIs, wellFormed}
 use Rattle.spec_format.specs.Keeping.{keeps}
-use Rattle.spec_format.specs.Rooms.{Rooms, tableOf, lengthsFine, roomsFine, sizes, fits, headOf, mayLength, layout, overRooms, answerOf, readAnswer, roomsOf, roomsAfter}
+use Rattle.spec_format.specs.Rooms.{Rooms, tableOf, locationsRead, lengthsFine, roomsFine, sizes, fits, headOf, mayLength, layout, overRooms, answerOf, readAnswer, roomsOf, roomsAfter}
 use Rattle.spec_format.specs.Answers.{room, keepingAnswer, plainAnswer, sliceAfter}
 use Rattle.spec_format.specs.Numbers.{writeNumber, writeValue}
 use Rattle.spec_format.specs.declared.Head.{Head}
@@ -30,6 +30,7 @@ use Rattle.spec_record_back.specs.RecordsBack.{keepable}
 use Rattle.spec_record_back.specs.AnswersBack.{answer-back, answer-read}
 use Rattle.spec_rooms.specs.LayoutBack.{layout-back}
 use Rattle.spec_rooms.specs.LayoutFine.{layout-fine}
+use Rattle.spec_rooms.specs.ReadRows.{read-rows}
 use Rattle.spec_format.specs.Impossible.{impossible}
 
 -- ---- the premises, as tests
@@ -53,9 +54,9 @@ head-length-fits r h f = go (h .length) refl
     go (given.Bases n) e = let l : n < 4294967296 = f n e in le-leb n 4294967295 (omega arith)
 
 pub can-keep :
-    (W : ℕ) (truncate escape : Bool) (t : Table) → wellFormed W truncate escape t ≡ true → keeps W truncate escape t ≡ true → lengthFits t ≡ true →
-    keepable W truncate escape t ≡ true
-can-keep W truncate escape t f k n = rw (f, k, n)
+    (W : ℕ) (truncate escape : Bool) (t : Table) → wellFormed W truncate escape t ≡ true → keeps W truncate escape t ≡ true → locationsRead t ≡ true →
+    lengthFits t ≡ true → keepable W truncate escape t ≡ true
+can-keep W truncate escape t f k p n = rw (f, k, p, n)
 
 -- ---- the two writers
 
@@ -181,7 +182,7 @@ module _ (s : List ℕ) (at : ℕ) (q : Rooms) (h : Head) (place : ℕ) where
       d .ended ∙ ap (λ l. length s - length l) rest-is
 
   pub done-fine : DoneBy → lengthsFine q ≡ true → roomsFine (roomsAfter s at q) h ≡ true
-  done-fine d l = rw (rooms-are d, d .answered) (layout-fine (d .table) q (d .fit) l)
+  done-fine d l = rw (rooms-are d, d .answered) (layout-fine (d .table) q (read-rows s at (d .table) (d .rest) (d .reads)) (d .fit) l)
 
 module _
     (W : ℕ) (truncate escape : Bool) (r : Rooms) (h : Head) (old : List ℕ) (k : ℕ) (e : keepingAnswer W truncate escape r h (length old) ≡ answer.Done k)

@@ -13,7 +13,7 @@ use Rattle.spec_format.specs.Record.{Read, most, readAt}
 use Rattle.spec_format.specs.Write.{written}
 use Rattle.spec_format.specs.WellFormed.{wellFormed}
 use Rattle.spec_format.specs.Keeping.{keeps}
-use Rattle.spec_format.specs.Rooms.{Rooms, tableOf, lengthsFine, roomsFine, sizes, fits, headOf, readAnswer, roomsAfter}
+use Rattle.spec_format.specs.Rooms.{Rooms, tableOf, locationsRead, lengthsFine, roomsFine, sizes, fits, headOf, readAnswer, roomsAfter}
 use Rattle.spec_format.specs.Answers.{keepingAnswer, plainAnswer, sliceAfter}
 use Rattle.spec_format.specs.declared.Head.{Head}
 use Rattle.spec_format.specs.declared.Length.the-variants as given
@@ -27,13 +27,14 @@ use Rattle.spec_promise.specs.Grounds.{width-fine, length-fits, head-len
 
 -- ---- the record comes back
 
--- The keeping writer takes this table: it can be laid out at a width of 60 to 132, and it breaks no keeping rule. The length that its LOCUS line
--- gives is below 2^32, as every number of 32 bits is.
+-- The keeping writer takes this table: it can be laid out at a width of 60 to 132, and it breaks no keeping rule. Its location rows are those of its
+-- texts, which number 10 sees to. The length that its LOCUS line gives is below 2^32, as every number of 32 bits is.
 pub record Taken (W : ℕ) (truncate escape : Bool) (t : Table) : Type 0 where
   pub narrowest : 60 ≤ W
   pub widest : W ≤ 132
   pub laidOut : wellFormed W truncate escape t ≡ true
   pub rules : keeps W truncate escape t ≡ true
+  pub rowsRead : locationsRead t ≡ true
   pub bases : (n : ℕ) → t .locus .length ≡ is n → n < 4294967296
 
 -- What is written of such a table is read back as that table, at any place of any slice of at most 16,777,216 bytes. Reading ends where the
@@ -44,7 +45,7 @@ pub record-comes-back :
     readAt (before ++ (written W truncate escape t ++ rest)) (length before) ≡ Read t rest
 record-comes-back W truncate escape before t rest k e m =
     kept-inside W truncate escape (width-fine W (k .narrowest) (k .widest)) before t rest
-    (can-keep W truncate escape t (k .laidOut) (k .rules) (length-fits t (λ n d. omega (arith, k .bases n d)))) e m
+    (can-keep W truncate escape t (k .laidOut) (k .rules) (k .rowsRead) (length-fits t (λ n d. omega (arith, k .bases n d)))) e m
 
 -- Empty lines that follow the record are taken with it, whether they end with LF or with CR LF. They are no part of the table, and the next record
 -- is read from behind them.
@@ -53,7 +54,8 @@ pub empty-lines-are-taken :
     lineEnds rest ≡ false → leb (length (before ++ (written W truncate escape t ++ (each endBytes lines ++ rest)))) most ≡ true →
     readAt (before ++ (written W truncate escape t ++ (each endBytes lines ++ rest))) (length before) ≡ Read t rest
 empty-lines-are-taken W truncate escape before t lines rest k e m =
-    lines-inside W truncate escape before t lines rest (width-fine W (k .narrowest) (k .widest)) (k .laidOut) (k .rules) (length-fits t (λ n d. omega (arith, k .bases n d))) e m
+    lines-inside W truncate escape before t lines rest (width-fine W (k .narrowest) (k .widest)) (k .laidOut) (k .rules) (k .rowsRead)
+    (length-fits t (λ n d. omega (arith, k .bases n d))) e m
 
 -- Tables that are written one after the other are read back, all of them and in their order, each from the place where the one before ended. After
 -- the last one the reader says that there is no more.

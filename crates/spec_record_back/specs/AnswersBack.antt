@@ -12,11 +12,12 @@ use Rattle.spec_format.specs.Record.{Read, most, readAt}
 use Rattle.spec_format.specs.Write.{written}
 use Rattle.spec_format.specs.WellFormed.{widthFine, wellFormed}
 use Rattle.spec_format.specs.Keeping.{keeps}
-use Rattle.spec_format.specs.Rooms.{Rooms, tableOf, roomsFine, sizes, fits, headOf, answerOf, readAnswer}
+use Rattle.spec_format.specs.Rooms.{Rooms, tableOf, locationsRead, roomsFine, sizes, fits, headOf, answerOf, readAnswer}
 use Rattle.spec_format.specs.Answers.{keepingAnswer, sliceAfter}
 use Rattle.spec_format.specs.declared.Head.{Head}
 use Rattle.spec_format.specs.declared.ReadAnswer.the-variants as read
 use Rattle.spec_format.specs.declared.WriteAnswer.the-variants as answer
+use Rattle.spec_rooms.specs.LocationRows.{fine-read}
 use Rattle.spec_texts_back.specs.Tests.{and-both}
 use Rattle.spec_record_back.specs.LocusBack.{lengthFits}
 use Rattle.spec_record_back.specs.RecordsBack.{kept-alone}
@@ -26,6 +27,7 @@ module _ (W : ℕ) (truncate escape : Bool) (r : Rooms) (h : Head) where
   -- what an answer 0 of the keeping writer says
   record Kept (k : ℕ) : Type 0 where
     width : widthFine W ≡ true
+    rooms : roomsFine r h ≡ true
     laidOut : wellFormed W truncate escape (tableOf r h) ≡ true
     rules : keeps W truncate escape (tableOf r h) ≡ true
     count : k ≡ length (written W truncate escape (tableOf r h))
@@ -39,7 +41,7 @@ module _ (W : ℕ) (truncate escape : Bool) (r : Rooms) (h : Head) where
       go :
           (a : Bool) → widthFine W ≡ a → (b : Bool) → roomsFine r h ≡ b → (c : Bool) → wellFormed W truncate escape (tableOf r h) ≡ c → (d : Bool) →
           keeps W truncate escape (tableOf r h) ≡ d → (f : Bool) → leb (length (written W truncate escape (tableOf r h))) n ≡ f → Kept k
-      go true p true q true s true u true v = record { width = p; laidOut = s; rules = u; count = cc }
+      go true p true q true s true u true v = record { width = p; rooms = q; laidOut = s; rules = u; count = cc }
       go true p true q true s true u false v = impossible cc
       go true p true q true s false u f v = impossible cc
       go true p true q false s d u f v = impossible cc
@@ -60,7 +62,8 @@ module _ (W : ℕ) (truncate escape : Bool) (r : Rooms) (h : Head) where
       let a : Kept k = answered (length old) k e in
       rw (filled old k a)
       (kept-alone W truncate escape (a .width) (tableOf r h)
-      (and-both (wellFormed W truncate escape (tableOf r h)) _ (a .laidOut) (and-both (keeps W truncate escape (tableOf r h)) _ (a .rules) n))
+      (and-both (wellFormed W truncate escape (tableOf r h)) _ (a .laidOut)
+      (and-both (keeps W truncate escape (tableOf r h)) _ (a .rules) (and-both (locationsRead (tableOf r h)) _ (fine-read r h (a .rooms)) n)))
       (rw (a .count) at m))
 
   -- and so the reader answers with that table, where it fits the rooms lent, all bytes taken, or with the sizes that it needs

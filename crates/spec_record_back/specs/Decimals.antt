@@ -1,5 +1,5 @@
--- Decimal numbers, written and read; and dates.
-use Prim.Native.Nat.{ℕ, zero, suc, _+_, _-_, _*_, _/_, _%_, _<_, _≤_}
+-- How long decimal numbers are and that they are digits; and dates.
+use Prim.Native.Nat.{ℕ, zero, suc, _+_, _/_, _%_, _<_, _≤_}
 use native.Mathlib.Omega.{arith}
 use mathlib.Core.Bool.{Bool, true, false, _&&_}
 use mathlib.Core.Path.{_≡_, refl, ap, _∙_}
@@ -7,48 +7,14 @@ use mathlib.Core.List.{List, [], _∷_, _++_}
 use lib.ListN.{length, length-append}
 use lib.Dec.{eqb, ltb}
 use borrow.Author.Tests.{eqb-true, eqb-false, ltb-true, ltb-false, le-ltb, le-leb}
-use Rattle.spec_format.specs.Bytes.{some, all, visible, digit, number, digits, decimal}
+use Rattle.spec_format.specs.Bytes.{some, all, visible, digit, number, digits}
 use Rattle.spec_format.specs.Dates.{made, isDate, months, monthName, dateText}
 use Rattle.spec_format.specs.Locus.{placeIn, dateOf, dateToken}
 use Rattle.spec_format.specs.declared.Date.{Date}
 use Rattle.spec_format.specs.declared.Dated.the-variants as dated
 use Rattle.spec_texts_back.specs.Tests.{and-left, and-right, all-append}
+use Rattle.spec_location.specs.Decimals.{digit-of}
 use Rattle.spec_format.specs.Impossible.{impossible}
-
-abbrev power : ℕ → ℕ
-power zero = 1
-power (suc f) = 10 * power f
-
-number-nil : (v : ℕ) → number v [] ≡ v
-unfolding number
-number-nil v = refl
-
-number-append : (v : ℕ) (s t : List ℕ) → number v (s ++ t) ≡ number (number v s) t
-unfolding number
-number-append v [] t = refl
-number-append v (b ∷ s) t = number-append (10 * v + (b - 48)) s t
-
-number-one : (v d : ℕ) → number v ((48 + d) ∷ []) ≡ 10 * v + d
-unfolding number
-number-one v d = omega arith
-
-number-back : (f n : ℕ) → n < power f → number 0 (digits f n) ≡ n
-unfolding digits
-number-back zero n h = let e : number 0 [] ≡ 0 = number-nil 0 in rw e (omega arith)
-number-back (suc f) n h = go (number-back f (n / 10)) (ltb n 10) refl
-  where
-    go : (n / 10 < power f → number 0 (digits f (n / 10)) ≡ n / 10) → (x : Bool) → ltb n 10 ≡ x → number 0 (digits (suc f) n) ≡ n
-    go ih true p = let e : digits (suc f) n ≡ (48 + n) ∷ [] = cc in rw (e, number-one 0 n) (omega arith)
-    go ih false p =
-        let e : digits (suc f) n ≡ digits f (n / 10) ++ (48 + n % 10) ∷ [] = cc in
-        rw (e, number-append 0 (digits f (n / 10)) ((48 + n % 10) ∷ []), ih (omega arith), number-one (n / 10) (n % 10)) (omega arith)
-
--- a number of the size that a LOCUS line takes is read as it was written
-pub decimal-back : (n : ℕ) → n ≤ 4294967295 → number 0 (decimal n) ≡ n
-decimal-back n h = number-back 10 n (omega arith)
-
-digit-of : (d : ℕ) → d < 10 → digit (48 + d) ≡ true
-digit-of d h = cc (le-leb 48 (48 + d) (omega arith), le-leb (48 + d) 57 (omega arith))
 
 pub all-digits : (f n : ℕ) → all digit (digits f n) ≡ true
 unfolding digits

@@ -1,7 +1,7 @@
 -- A feature and the feature table, written and read.
 use Prim.Native.Nat.{ℕ, zero, suc, _+_, _-_, _<_, _≤_}
 use native.Mathlib.Omega.{arith}
-use mathlib.Core.Bool.{Bool, true, _&&_, not}
+use mathlib.Core.Bool.{Bool, true, false, _&&_, not}
 use mathlib.Core.Path.{_≡_, refl, ap, _∙_}
 use mathlib.Core.List.{List, [], _∷_, _++_, append-assoc}
 use lib.ListN.{length, length-append, length-replicate}
@@ -9,15 +9,19 @@ use lib.Dec.{leb}
 use borrow.Author.Tests.{leb-true}
 use Rattle.spec_format.specs.Bytes.{bytes, spaces, some, starts, all, each, visible, but, space, slash}
 use Rattle.spec_format.specs.Readers.{Got, No, passing, tag, until, until1, spaces1, lineEnd, more, fitTurn, many0, tryTurn, whileFits}
-use Rattle.spec_format.specs.Features.{featuresHeader, bare, qualifier, locationText, kindText, featureFrom, feature}
+use Rattle.spec_format.specs.Features.{featuresHeader, bare, qualifier, kindText, featureFrom, feature}
+use Rattle.spec_format.specs.Location.{locates, rowsIn}
 use Rattle.spec_format.specs.Record.{features}
 use Rattle.spec_format.specs.Table.{Qualifier, Feature}
 use Rattle.spec_format.specs.Wrap.{commaLines, wrapLocation}
 use Rattle.spec_format.specs.Write.{padded, qualifierLines, featureLines, featuresLines}
 use Rattle.spec_format.specs.WellFormed.{kindFine, qualifierFine, featureFine}
+use Rattle.spec_format.specs.Rooms.{featureRead}
 use Rattle.spec_format.specs.Keeping.{kindKept, noSlash, qualifierKept, featureKept}
 use Rattle.spec_loops.specs.Loops.{fit-shrinks, try-shrinks}
 use Rattle.spec_loops.specs.Shrinks.{qualifier-small, feature-small}
+use Rattle.spec_location.specs.Bytes.{locates-some, locates-visible}
+use Rattle.spec_rooms.specs.LocationRows.{rows-are}
 use Rattle.spec_texts_back.specs.Tests.{and-left, and-right, all-head, all-tail, all-imp, all-first, starts-more}
 use Rattle.spec_texts_back.specs.Pieces.{until-back, spaces-back, visible-but}
 use Rattle.spec_texts_back.specs.Joins.{each-follow, each-back}
@@ -54,14 +58,14 @@ module _ (W : ℕ) where
 -- ---- a feature
 
 location-back :
-    (W : ℕ) (kind location rest : List ℕ) (qs : List Qualifier) → 21 < W → locationText location ≡ true → noSlash location ≡ true →
+    (W : ℕ) (kind location rest : List ℕ) (qs : List Qualifier) → 21 < W → locates false location ≡ true → noSlash location ≡ true →
     all (qualifierGood W) qs ≡ true → outside 21 rest ≡ true →
     featureFrom 21 kind (commaLines (length location) W 21 21 location ++ (each (qualifierLines W) qs ++ rest)) ≡
-    Got (record { kind = kind; location = location; qualifiers = qs }) rest
+    Got (record { kind = kind; location = location; qualifiers = qs; rows = rowsIn false location }) rest
 unfolding featureFrom
 location-back W kind location rest qs w f n g fine =
-    let s : some location ≡ true = and-left (some location) (all visible location) f in
-    let a : all visible location ≡ true = and-right (some location) (all visible location) f in
+    let s : some location ≡ true = locates-some false location f in
+    let a : all visible location ≡ true = locates-visible false location f in
     let x : List ℕ = each (qualifierLines W) qs ++ rest in
     let b : bare 21 (commaLines (length location) W 21 21 location ++ x) ≡ Got location x =
     commas-back W 21 w x (qualifiers-follow W rest fine qs g) (length location) 21 location w s a n (omega arith) in
@@ -118,27 +122,26 @@ lines-split W f rest h =
     regroup : (l c q r : List ℕ) → ((l ++ c) ++ q) ++ r ≡ l ++ (c ++ (q ++ r))
     regroup l c q r = simp append-assoc
 
--- A FEATURE is read back
+-- A FEATURE is read back, with its rows where they are those of its location
 pub feature-back :
-    (W : ℕ) (f : Feature) (rest : List ℕ) → 21 < W → featureFine W f ≡ true → featureKept W f ≡ true → outside 21 rest ≡ true →
+    (W : ℕ) (f : Feature) (rest : List ℕ) → 21 < W → featureFine W f ≡ true → featureKept W f ≡ true → featureRead f ≡ true → outside 21 rest ≡ true →
     feature (featureLines W f ++ rest) ≡ Got f rest
 unfolding featureFine featureKept
-feature-back W f rest w h g fine =
+feature-back W f rest w h g rows fine =
     let k : List ℕ = f .kind in
     let l : List ℕ = f .location in
     let kf : kindFine W k ≡ true = and-left (kindFine W k) _ h in
     let kt : kindText k ≡ true = and-right (leb (length k) (W - 7)) (kindText k) kf in
-    let h₂ : (locationText l && all (qualifierFine W) (f .qualifiers)) ≡ true = and-right (kindFine W k) _ h in
-    let lt : locationText l ≡ true = and-left (locationText l) _ h₂ in
+    let h₂ : (locates false l && all (qualifierFine W) (f .qualifiers)) ≡ true = and-right (kindFine W k) _ h in
+    let lt : locates false l ≡ true = and-left (locates false l) _ h₂ in
     let g₂ : (noSlash l && all (qualifierKept W) (f .qualifiers)) ≡ true = and-right (kindKept k) _ g in
     let ns : noSlash l ≡ true = and-left (noSlash l) _ g₂ in
     let len : length k ≤ 15 = leb-true (length k) 15 (and-left (kindKept k) _ g) in
     let q : all (qualifierGood W) (f .qualifiers) ≡ true =
-    all-both (qualifierFine W) (qualifierKept W) (f .qualifiers) (and-right (locationText l) _ h₂) (and-right (noSlash l) _ g₂) in
+    all-both (qualifierFine W) (qualifierKept W) (f .qualifiers) (and-right (locates false l) _ h₂) (and-right (noSlash l) _ g₂) in
     let ak : all visible k ≡ true = and-left (all visible k) (not (starts slash k)) (and-right (some k) _ kt) in
     let sk : starts (but 32) k ≡ true = all-first (but 32) k (and-left (some k) _ kt) (all-imp visible (but 32) visible-but k ak) in
-    let al : all visible l ≡ true = and-right (some l) (all visible l) lt in
-    let sl : starts (but 32) l ≡ true = all-first (but 32) l (and-left (some l) _ lt) (all-imp visible (but 32) visible-but l al) in
+    let sl : starts (but 32) l ≡ true = all-first (but 32) l (locates-some false l lt) (all-imp visible (but 32) visible-but l (locates-visible false l lt)) in
     let x₄ : List ℕ = each (qualifierLines W) (f .qualifiers) ++ rest in
     let x₃ : List ℕ = commaLines (length l) W 21 21 l ++ x₄ in
     let gap : List ℕ = spaces (suc (15 - length k)) in
@@ -148,7 +151,7 @@ feature-back W f rest w h g fine =
     (kind-read k (gap ++ x₃) kt refl)
     (spaces-back (15 - length k) x₃ (commas-starts W 21 (but 32) (length l) 21 l x₄ w sl))
     (rw length-replicate (omega (arith, length-replicate {A = ℕ} (15 - length k) 32)))
-    (location-back W k l rest (f .qualifiers) w lt ns q fine))
+    (rw (rows-are false l (f .rows) rows lt) (location-back W k l rest (f .qualifiers) w lt ns q fine)))
 
 -- ---- the feature table
 
@@ -159,30 +162,35 @@ no-feature (b ∷ s) h = rw (h, until)
 
 module _ (W : ℕ) (w : 21 < W) where
   abbrev featureGood : Feature → Bool
-  featureGood f = featureFine W f && featureKept W f
+  featureGood f = featureFine W f && (featureKept W f && featureRead f)
 
   one-feature : (f : Feature) (s : List ℕ) → featureGood f ≡ true → outside 21 s ≡ true → tryTurn feature (featureLines W f ++ s) ≡ Got (more f) s
   one-feature f s g e =
-      rw (feature-back W f s w (and-left (featureFine W f) (featureKept W f) g) (and-right (featureFine W f) (featureKept W f) g) e)
+      let g₁ : (featureKept W f && featureRead f) ≡ true = and-right (featureFine W f) _ g in
+      rw (feature-back W f s w (and-left (featureFine W f) _ g) (and-left (featureKept W f) _ g₁) (and-right (featureKept W f) _ g₁) e)
 
   -- five spaces and a kind
   feature-follow : (f : Feature) (s : List ℕ) → featureGood f ≡ true → outside 21 (featureLines W f ++ s) ≡ true
   unfolding featureFine featureKept
   feature-follow f s g =
       let k : List ℕ = f .kind in
-      let h : featureFine W f ≡ true = and-left (featureFine W f) (featureKept W f) g in
-      let len : length k ≤ 15 = leb-true (length k) 15 (and-left (kindKept k) _ (and-right (featureFine W f) (featureKept W f) g)) in
+      let h : featureFine W f ≡ true = and-left (featureFine W f) _ g in
+      let g₁ : (featureKept W f && featureRead f) ≡ true = and-right (featureFine W f) _ g in
+      let len : length k ≤ 15 = leb-true (length k) 15 (and-left (kindKept k) _ (and-left (featureKept W f) _ g₁)) in
       let kt : kindText k ≡ true = and-right (leb (length k) (W - 7)) (kindText k) (and-left (kindFine W k) _ h) in
       let ak : all visible k ≡ true = and-left (all visible k) (not (starts slash k)) (and-right (some k) _ kt) in
       let sk : starts (but 32) k ≡ true = all-first (but 32) k (and-left (some k) _ kt) (all-imp visible (but 32) visible-but k ak) in
       rw (lines-split W f s len) (starts-outside 15 (k ++ _) (starts-more (but 32) k _ sk))
 
-  module _ (rest : List ℕ) (fine : starts (but 32) rest ≡ true) (fs : List Feature) (h : all (featureFine W) fs ≡ true) (k : all (featureKept W) fs ≡ true) where
+  module _
+      (rest : List ℕ) (fine : starts (but 32) rest ≡ true) (fs : List Feature) (h : all (featureFine W) fs ≡ true) (k : all (featureKept W) fs ≡ true)
+      (rows : all featureRead fs ≡ true) where
     -- THE FEATURES are read back
     pub features-back : whileFits feature (each (featureLines W) fs ++ rest) ≡ Got fs rest
     features-back =
         each-back (tryTurn feature) (try-shrinks feature feature-small) (featureLines W) featureGood (outside 21) one-feature feature-follow rest
-        (starts-outside 20 rest fine) (rw (no-feature rest fine)) fs (all-both (featureFine W) (featureKept W) fs h k)
+        (starts-outside 20 rest fine) (rw (no-feature rest fine)) fs
+        (all-both (featureFine W) (λ f. featureKept W f && featureRead f) fs h (all-both (featureKept W) featureRead fs k rows))
 
 header-back : (x : List ℕ) → featuresHeader (bytes "FEATURES             Location/Qualifiers\n" ++ x) ≡ Got [] x
 unfolding featuresHeader tag until lineEnd
@@ -191,8 +199,8 @@ header-back x = refl
 -- with their header line
 pub table-back :
     (W : ℕ) (f : Feature) (fs : List Feature) (rest : List ℕ) → 21 < W → starts (but 32) rest ≡ true → all (featureFine W) (f ∷ fs) ≡ true →
-    all (featureKept W) (f ∷ fs) ≡ true → features (featuresLines W (f ∷ fs) ++ rest) ≡ Got (f ∷ fs) rest
+    all (featureKept W) (f ∷ fs) ≡ true → all featureRead (f ∷ fs) ≡ true → features (featuresLines W (f ∷ fs) ++ rest) ≡ Got (f ∷ fs) rest
 unfolding features featuresLines
-table-back W f fs rest w s h k =
+table-back W f fs rest w s h k rows =
     rw (append-assoc (bytes "FEATURES             Location/Qualifiers\n") (each (featureLines W) (f ∷ fs)) rest, header-back (each (featureLines W) (f ∷ fs) ++ rest))
-    (features-back W w rest s (f ∷ fs) h k)
+    (features-back W w rest s (f ∷ fs) h k rows)

@@ -20,7 +20,8 @@ use Rattle.spec_format.specs.declared.Dated.{Dated}
 use Rattle.spec_format.specs.declared.Dated.the-variants as dated
 use Rattle.spec_texts_back.specs.Tests.{and-left, and-right, all-head, all-tail, all-append, all-imp, all-and, all-first, starts-more}
 use Rattle.spec_texts_back.specs.Pieces.{until-back, all-spaces, noEnd, line-back, visible-noEnd}
-use Rattle.spec_record_back.specs.Decimals.{decimal-back, all-digits, some-digits, length-digits, DateBack, date-back}
+use Rattle.spec_location.specs.Decimals.{decimal-back}
+use Rattle.spec_record_back.specs.Decimals.{all-digits, some-digits, length-digits, DateBack, date-back}
 
 -- nothing is skipped before the word
 pub preamble-back : (x : List ℕ) → preamble (bytes "LOCUS" ++ x) ≡ Got tt (bytes "LOCUS" ++ x)

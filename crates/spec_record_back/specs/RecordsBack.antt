@@ -14,15 +14,16 @@ use Rattle.spec_format.specs.Table.{Table}
 use Rattle.spec_format.specs.Record.{Outcome, Read, Not, readRecord, most, readAt}
 use Rattle.spec_format.specs.Write.{locusText, written}
 use Rattle.spec_format.specs.WellFormed.{widthFine, wellFormed}
+use Rattle.spec_format.specs.Rooms.{locationsRead}
 use Rattle.spec_format.specs.Keeping.{keeps}
 use Rattle.spec_format.specs.declared.Unread.the-variants as unread
 use Rattle.spec_texts_back.specs.Tests.{and-left, and-right, all-head, all-tail}
 use Rattle.spec_record_back.specs.LocusBack.{lengthFits}
 use Rattle.spec_record_back.specs.RecordBack.{lineEnds, kept}
 
--- the keeping writer takes the table, whose length is one that a LOCUS line can give
+-- the keeping writer takes the table, whose location rows are those of its texts (else: 10) and whose length is one that a LOCUS line can give
 abbrev pub keepable : ℕ → Bool → Bool → Table → Bool
-keepable W truncate escape t = wellFormed W truncate escape t && (keeps W truncate escape t && lengthFits t)
+keepable W truncate escape t = wellFormed W truncate escape t && (keeps W truncate escape t && (locationsRead t && lengthFits t))
 
 module _ (W : ℕ) (truncate escape : Bool) where
   -- a record starts with a byte that is no line end's
@@ -56,9 +57,10 @@ module _ (W : ℕ) (truncate escape : Bool) (w : widthFine W ≡ true) where
       lineEnds rest ≡ false → leb (length s) most ≡ true → readAt s (length before) ≡ Read t rest
   record-at s before t rest p k e m =
       let k₁ = and-right (wellFormed W truncate escape t) _ k in
+      let k₂ = and-right (keeps W truncate escape t) _ k₁ in
       at-steps s before (written W truncate escape t ++ rest) (Read t rest) p (written-some W truncate escape t rest) m
       (kept W truncate escape t rest w (and-left (wellFormed W truncate escape t) _ k) (and-left (keeps W truncate escape t) _ k₁)
-      (and-right (keeps W truncate escape t) _ k₁) e)
+      (and-left (locationsRead t) _ k₂) (and-right (locationsRead t) _ k₂) e)
 
   -- at any place of a slice, whatever stands before it
   pub kept-inside :

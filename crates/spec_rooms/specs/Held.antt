@@ -1,5 +1,5 @@
 -- A list that stands in a room at a place, and what can be read of it there.
-use Prim.Native.Nat.{ℕ, _+_, _-_, _≤_}
+use Prim.Native.Nat.{ℕ, zero, suc, _+_, _-_, _≤_, _<_}
 use native.Mathlib.Omega.{arith}
 use mathlib.Core.Bool.{true}
 use mathlib.Core.Path.{_≡_, refl, ap, sym, _∙_}
@@ -39,7 +39,7 @@ module _ (S : List ℕ) (at : ℕ) where
   pub held-cut : (t : List ℕ) → Held S at t → cut S at (length t) ≡ t
   held-cut t h = ap (λ l. take (length t) (drop at l)) (h .is) ∙ rw (drop-at (h .before) (t ++ h .after) at (h .long)) (take-append-seam t (h .after))
 
-  held-within : (t : List ℕ) → Held S at t → at + length t ≤ length S
+  pub held-within : (t : List ℕ) → Held S at t → at + length t ≤ length S
   held-within t h =
       omega (arith, ap length (h .is), length-append (h .before) (t ++ h .after), length-append t (h .after))
 
@@ -51,6 +51,14 @@ module _ (S : List ℕ) (at : ℕ) where
 
 pub held-at : (S : List ℕ) (at n : ℕ) (t : List ℕ) → at ≡ n → Held S at t → Held S n t
 held-at S at n t e h = record { before = h .before; after = h .after; is = h .is; long = h .long ∙ e }
+
+-- the number k places on
+pub held-number : (S : List ℕ) (at : ℕ) (t : List ℕ) → Held S at t → (k : ℕ) → k < length t → getD S (at + k) 0 ≡ getD t k 0
+held-number S at [] h k b = absurd (omega (arith, b))
+held-number S at (n ∷ t) h zero b = let e : at + 0 ≡ at = omega arith in rw e (held-head S at n t h)
+held-number S at (n ∷ t) h (suc k) b =
+    let e : at + suc k ≡ at + 1 + k = omega arith in
+    rw e (held-number S (at + 1) t (held-tail S at n t h) k (omega arith))
 
 -- what is written over a room stands at its start
 pub held-first : (t old : List ℕ) → Held (t ++ old) 0 t

@@ -1,12 +1,15 @@
 -- Each keeping rule earns its place: for each, a table that breaks it and no other, which is well-formed and does not come back, beside the same
--- table mended, which keeps all rules and comes back. One statement over a list; what is stricter than needed is said in docs/DECISIONS.md.
+-- table mended, which keeps all rules and comes back. One statement over a list; what is stricter than needed is said in docs/DECISIONS.md. The rule on locations has
+-- none: no well-formed table breaks it (`location-rule-holds`).
 use Prim.Native.Nat.{ℕ, _+_}
 use mathlib.Core.Bool.{Bool, true, false, _&&_}
 use mathlib.Core.Path.{_≡_, refl}
 use mathlib.Core.List.{List, [], _∷_, _++_, map}
 use lib.ListN.{length, replicate}
 use Rattle.spec_format.specs.Bytes.{May, absent, is, bytes, same}
-use Rattle.spec_format.specs.Table.{Locus, Reference, Qualifier, Feature, Table}
+use Rattle.spec_format.specs.Table.{Locus, Reference, Qualifier, LocationRow, Feature, Table}
+use Rattle.spec_format.specs.Location.{run, past, behind, baseNumber, bases, accession, leaf, plain as plain-location, begin, membersIn, locationFrom, reading, rowsIn, locates}
+use Rattle.spec_format.specs.Deep.{soFar, deepFeature, deepContig}
 use Rattle.spec_format.specs.Record.{Outcome, Read, Not}
 use Rattle.spec_format.specs.declared.Dated.{Dated}
 use Rattle.spec_format.specs.declared.Dated.the-variants as dated
@@ -17,17 +20,20 @@ use Rattle.spec_format.specs.Bytes.{number as decimal}
 use Rattle.spec_format.specs.Dates.{monthName, dateText}
 use Rattle.spec_format.specs.Features.{featuresHeader, bare, escape, quotedTurn, quoted, value, valueOf, qualifier, featureFrom, feature}
 use Rattle.spec_format.specs.Header.{fieldText, fieldBytes, field, reference, source, ignoredLine, headerField, latest, every}
-use Rattle.spec_format.specs.Keeping.{locusKept, linesKept, headerKept, bareKept, valueKept, qualifierKept, featureKept, keeps}
+use Rattle.spec_format.specs.Keeping.{noSlash, locusKept, linesKept, headerKept, bareKept, valueKept, qualifierKept, featureKept, keeps}
 use Rattle.spec_format.specs.Locus.{preamble, tokens, dateOf, dateToken, locusFrom, locusOf, locusLine, locus}
 use Rattle.spec_format.specs.Origin.{originTag, letters}
 use Rattle.spec_format.specs.Readers.{tag, until, line, lineEnd, membersUpTo, endUpTo, members, end}
-use Rattle.spec_format.specs.Record.{features, slashesLater, middle, tableFrom, readRecord, readAt}
+use Rattle.spec_format.specs.Record.{features, slashesLater, middle, deepIn, tableFrom, readRecord, readAt}
+use Rattle.spec_format.specs.Rooms.{locationNumbers, locationCount, locationRowIn, qualifierIn, featureIn, locationsRead, locationFine, qualifierRowFine, qualifiersFine, featureRowFine}
 use Rattle.spec_format.specs.Rooms.{textsOf, rowsOf, featureText, featureRows, qualifierRows, qualifierCount, piecesText, piecesRow, layout, sizes}
 use Rattle.spec_format.specs.Rooms.{headOf, rowsFrom, tableOf, rowsFine, featuresFine, lengthsFine, headFine, countsFine, roomsFine}
 use Rattle.spec_format.specs.Utf8.{chars, utf8}
-use Rattle.spec_format.specs.WellFormed.{referenceTexts, headerTexts, locusFine, qualifierFine, featureFine, lettersFine, wellFormed}
+use Rattle.spec_format.specs.WellFormed.{kindFine, referenceTexts, headerTexts, locusFine, qualifierFine, featureFine, lettersFine, wellFormed}
 use Rattle.spec_format.specs.Wrap.{fill, closing, linesAfter, wrapped, wrapText, lastComma, breakAt, commaLines, wrapLocation}
 use Rattle.spec_format.specs.Write.{lengthText, white, blanked, words, joined, printedName, locusText, fieldLines, referenceLines, headerLines}
+use Rattle.spec_location.specs.Tests.{and-left, and-right}
+use Rattle.spec_location.specs.Bytes.{locates-slash}
 use Rattle.spec_format.specs.Write.{commaKey, bareKey, valueLines, qualifierLines, featureLines, featuresLines, letterLines, originLines, written}
 
 -- ---- equal texts, in tables whose shapes the examples have
@@ -72,7 +78,8 @@ same-features [] [] = true
 same-features [] (b ∷ ys) = false
 same-features (a ∷ xs) [] = false
 same-features (a ∷ xs) (b ∷ ys) =
-    same (a .kind) (b .kind) && (same (a .location) (b .location) && (same-qualifiers (a .qualifiers) (b .qualifiers) && same-features xs ys))
+    same (a .kind) (b .kind) && (same (a .location) (b .location) && (same-qualifiers (a .qualifiers) (b .qualifiers) &&
+    (same (locationNumbers (a .rows)) (locationNumbers (b .rows)) && same-features xs ys)))
 
 same-table : Table → Table → Bool
 same-table a b =
@@ -129,17 +136,18 @@ with-pubmed p =
     table plain absent
     (record { text = bytes "1"; authors = absent; consrtm = absent; title = bytes "T"; journal = absent; pubmed = is p; remark = absent } ∷ []) []
 
-with-feature : List ℕ → List ℕ → List ℕ → List ℕ → Table
-with-feature k l q v = table plain absent [] (record { kind = k; location = l; qualifiers = record { key = q; value = is v } ∷ [] } ∷ [])
+-- a feature from base 1 to 12
+with-feature : List ℕ → List Qualifier → List LocationRow → Table
+with-feature k qs rows = table plain absent [] (record { kind = k; location = bytes "1..12"; qualifiers = qs; rows = rows } ∷ [])
+
+its-rows : List LocationRow
+its-rows = rowsIn false (bytes "1..12")
 
 with-kind : List ℕ → Table
-with-kind k = with-feature k (bytes "1..12") (bytes "note") (bytes "n")
-
-with-location : List ℕ → Table
-with-location l = with-feature (bytes "gene") l (bytes "note") (bytes "n")
+with-kind k = with-feature k (record { key = bytes "note"; value = is (bytes "n") } ∷ []) its-rows
 
 with-value : List ℕ → List ℕ → Table
-with-value q v = with-feature (bytes "gene") (bytes "1..12") q v
+with-value q v = with-feature (bytes "gene") (record { key = q; value = is v } ∷ []) its-rows
 
 -- ---- the examples: the switches with which the broken one is written; the broken table, and the mended one
 
@@ -178,8 +186,6 @@ examples =
     rule (with-locus (is (bytes "P")) (is 0) (is (bytes "D A")) (bytes "SYN") day) (with-locus (is (bytes "P")) (is 0) (is (bytes "DNA")) (bytes "SYN") day) ∷
     -- kinds at most 15 bytes
     rule (with-kind (replicate 16 97)) (with-kind (replicate 15 97)) ∷
-    -- locations without `/`
-    rule (with-location (replicate 39 49 ++ bytes "/2")) (with-location (replicate 39 49 ++ bytes ".2")) ∷
     -- comma-broken values without `/`
     rule (with-value (bytes "anticodon") (replicate 28 49 ++ bytes "/2")) (with-value (bytes "anticodon") (replicate 28 49 ++ bytes ".2")) ∷
     -- comma-broken values do not begin with a quote
@@ -222,11 +228,15 @@ verdict e =
 -- ---- what the examples compute by, named once: to unfold one of these names is to unfold all that its line names
 
 the-tables : Bool
-unfolding same-may same-number same-date same-locus same-pubmed same-qualifiers same-features same-table back comes-back table day locus-of with-locus plain named with-definition with-pubmed with-feature with-kind with-location with-value
+unfolding same-may same-number same-date same-locus same-pubmed same-qualifiers same-features same-table back comes-back table day locus-of with-locus plain named with-definition with-pubmed with-feature its-rows with-kind with-value
 the-tables = true
 
+the-locations : Bool
+unfolding decimal run past behind baseNumber bases accession leaf plain-location begin membersIn locationFrom reading locationNumbers soFar deepFeature deepContig deepIn
+the-locations = true
+
 the-reader : Bool
-unfolding featuresHeader bare escape quotedTurn quoted value valueOf qualifier featureFrom feature fieldText fieldBytes field reference source ignoredLine headerField latest every preamble tokens dateOf dateToken locusFrom locusOf locusLine locus originTag letters tag until line lineEnd membersUpTo endUpTo members end features slashesLater middle tableFrom readRecord readAt
+unfolding featuresHeader bare escape quotedTurn quoted value valueOf qualifier featureFrom feature fieldText fieldBytes field reference source ignoredLine headerField latest every preamble tokens dateOf dateToken locusFrom locusOf locusLine locus originTag letters tag until line lineEnd membersUpTo endUpTo members end features slashesLater middle tableFrom readRecord readAt the-locations
 the-reader = true
 
 the-writer : Bool
@@ -238,7 +248,7 @@ unfolding chars utf8 referenceTexts headerTexts locusFine qualifierFine featureF
 the-rules = true
 
 the-rooms : Bool
-unfolding roomsFine lengthsFine headFine countsFine rowsFine featuresFine tableOf layout headOf sizes rowsFrom textsOf rowsOf featureText featureRows qualifierRows qualifierCount piecesText piecesRow
+unfolding roomsFine lengthsFine headFine countsFine rowsFine qualifierRowFine qualifiersFine featureRowFine featuresFine locationFine tableOf layout headOf sizes rowsFrom textsOf rowsOf featureText featureRows qualifierRows qualifierCount locationCount locationRowIn qualifierIn featureIn piecesText piecesRow
 the-rooms = true
 
 pub each-rule-earns-its-place : map verdict examples ≡ map (λ e. true ∷ false ∷ false ∷ true ∷ true ∷ true ∷ []) examples
@@ -253,11 +263,10 @@ stricter =
     with-definition (replicate 48 97) ∷
     with-value (bytes "note") (replicate 32 97 ++ bytes "\nb") ∷
     with-value (bytes "number") (replicate 31 49) ∷
-    -- a `/` in a location or comma-broken value that begins no line
-    with-location (bytes "1/2") ∷
+    -- a `/` in a comma-broken value that begins no line
     with-value (bytes "anticodon") (bytes "1/2") ∷
     -- a long kind whose feature has no further line
-    table plain absent [] (record { kind = replicate 16 97; location = bytes "1..12"; qualifiers = [] } ∷ []) ∷
+    with-feature (replicate 16 97) [] its-rows ∷
     -- a translation with a quote, a tab, a space that begins no line, a byte above 126
     with-value (bytes "translation") (bytes "a\"b") ∷
     with-value (bytes "translation") (bytes "a\tb") ∷
@@ -293,7 +302,7 @@ rules-of-another-width = refl
 pub narrow : List Table
 narrow =
     with-definition (bytes "abcdefg") ∷
-    table plain absent [] (record { kind = replicate 13 97; location = bytes "1..12"; qualifiers = [] } ∷ []) ∷
+    with-feature (replicate 13 97) [] its-rows ∷
     []
 
 pub narrower-than-needed :
@@ -301,3 +310,25 @@ pub narrower-than-needed :
     map (λ t. true ∷ true ∷ true ∷ []) narrow
 unfolding the-reader the-writer the-rules the-tables narrow
 narrower-than-needed = refl
+
+-- ---- location rows (document 02, ticket 1)
+
+-- number 11 asks for a reading, which has no `/`
+pub location-rule-holds : (W : ℕ) (f : Feature) → featureFine W f ≡ true → noSlash (f .location) ≡ true
+unfolding featureFine
+location-rule-holds W f h =
+    locates-slash (f .location) (and-left (locates false (f .location)) _ (and-right (kindFine W (f .kind)) _ h))
+
+-- rows that are not those of the text: such a table is well-formed and keeps the rules, and does not come back; it is 10
+pub other-rows : Table
+other-rows = with-feature (bytes "gene") [] (rowsIn false (bytes "1..13"))
+
+pub rows-earn-their-place :
+    wellFormed 60 false false other-rows ∷ keeps 60 false false other-rows ∷ locationsRead other-rows ∷ comes-back 60 false false other-rows ∷ [] ≡
+    true ∷ true ∷ false ∷ false ∷ []
+unfolding the-reader the-writer the-rules the-tables other-rows locationsRead
+rows-earn-their-place = refl
+
+pub other-rows-are-10 : writeNumber (keepingAnswer 60 false false (layout other-rows) (headOf other-rows) 0) ≡ 10
+unfolding the-reader the-writer the-rules the-tables the-rooms other-rows keepingAnswer
+other-rows-are-10 = refl

@@ -11,13 +11,15 @@ use Rattle.spec_format.specs.Bytes.{is, bytes, spaces, some, starts, all, visib
 use Rattle.spec_format.specs.Utf8.{utf8}
 use Rattle.spec_format.specs.Readers.{Got, No, tag, line, many0}
 use Rattle.spec_format.specs.Header.{lineAfter, concatLines, furtherLine, fieldText, fieldBytes, field}
-use Rattle.spec_format.specs.Record.{contig}
-use Rattle.spec_format.specs.Features.{locationText}
+use Rattle.spec_format.specs.Record.{contigOf, contig}
+use Rattle.spec_format.specs.Table.{Contig}
+use Rattle.spec_format.specs.Location.{locates, rowsIn}
 use Rattle.spec_format.specs.Wrap.{wrapText, breakAt, commaLines, wrapLocation}
 use Rattle.spec_format.specs.Write.{padded, fieldLines, contigLines}
 use Rattle.spec_format.specs.Keeping.{linesKept, headerKept}
 use Rattle.spec_loops.specs.Loops.{many0-more, many0-stop}
 use Rattle.spec_loops.specs.Shrinks.{further-small}
+use Rattle.spec_location.specs.Bytes.{locates-visible}
 use Rattle.spec_texts_back.specs.Tests.{and-left, and-right, all-head, all-tail, all-left, all-right, all-imp}
 use Rattle.spec_texts_back.specs.Pieces.{tag-back, spaces-back, noEnd, visible-noEnd, visible-but}
 use Rattle.spec_texts_back.specs.WrapKept.{laid, wrapped-kept}
@@ -198,7 +200,7 @@ commas-none : (W indent used : ℕ) (t rest : List ℕ) → commaLines 0 W inden
 unfolding commaLines
 commas-none W indent used t rest = append-assoc t (10 ∷ []) rest
 
-line-starts : (u x : List ℕ) → all visible u ≡ true → starts (but 32) (u ++ 10 ∷ x) ≡ true
+pub line-starts : (u x : List ℕ) → all visible u ≡ true → starts (but 32) (u ++ 10 ∷ x) ≡ true
 line-starts [] x h = refl
 line-starts (b ∷ u) x h = visible-but b (all-head visible b u h)
 
@@ -218,6 +220,9 @@ commas-starts W (suc n) used t rest h = go (leb (used + length t) W) refl
         let k : ℕ = breakAt (W - used) t in
         rw (commas-long W 12 n used t rest p)
         (line-starts (take k t) (spaces 12 ++ (commaLines n W 12 12 (drop k t) ++ rest)) (all-take visible k t h))
+
+contig-steps : (s t r : List ℕ) → fieldBytes 0 (bytes "CONTIG") false s ≡ Got t r → locates true t ≡ true → contig s ≡ Got (contigOf t) r
+contig-steps s t r e h = rw (e, h)
 
 module _ (W : ℕ) (rest : List ℕ) (stops : tag (spaces 12) rest ≡ No) where
   line-alone : (t : List ℕ) → all visible t ≡ true → Lines 12 false (t ++ 10 ∷ rest) t rest
@@ -241,10 +246,14 @@ module _ (W : ℕ) (rest : List ℕ) (stops : tag (spaces 12) rest ≡ No) where
           (all-imp visible noEnd visible-noEnd (take k t) (all-take visible k t h))
           (text-line 12 false (commaLines n W 12 12 (drop k t) ++ rest) (drop k t) rest l)))
 
-  -- CONTIG is read as it was written
-  pub contig-back : (t : List ℕ) → locationText t ≡ true → contig (contigLines W (is t) ++ rest) ≡ Got t rest
+  -- CONTIG is read as it was written, with the rows of its text
+  pub contig-back : (c : Contig) → locates true (c .text) ≡ true → c .rows ≡ rowsIn true (c .text) → contig (contigLines W (is c) ++ rest) ≡ Got c rest
   unfolding wrapLocation
-  contig-back t h =
-      let v : all visible t ≡ true = and-right (some t) _ h in
+  contig-back c h e =
+      let t : List ℕ = c .text in
+      let v : all visible t ≡ true = locates-visible true t h in
       let x : List ℕ = commaLines (length t) W 12 12 t ++ rest in
-      rw (bytes-steps 0 5 (bytes "CONTIG") x t rest false refl (commas-starts W (length t) 12 t rest v) (commas-back (length t) 12 t v), h)
+      let o : contigOf t ≡ c = rw e in
+      rw o at
+      (contig-steps (bytes "CONTIG      " ++ x) t rest
+      (bytes-steps 0 5 (bytes "CONTIG") x t rest false refl (commas-starts W (length t) 12 t rest v) (commas-back (length t) 12 t v)) h)

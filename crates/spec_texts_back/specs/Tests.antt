@@ -1,30 +1,16 @@
 -- Facts out of tests that passed: conjunctions, and tests of each byte.
 use Prim.Native.Nat.{ℕ, _<_}
 use native.Mathlib.Omega.{arith}
-use mathlib.Core.Bool.{Bool, true, false, _&&_}
+use mathlib.Core.Bool.{Bool, true, _&&_}
 use mathlib.Core.Path.{_≡_, refl}
 use mathlib.Core.List.{List, [], _∷_, _++_}
 use lib.ListN.{length}
 use Rattle.spec_format.specs.Bytes.{some, starts, all}
 use Rattle.spec_format.specs.Impossible.{impossible}
-
-pub and-left : (x y : Bool) → (x && y) ≡ true → x ≡ true
-and-left true y e = refl
-and-left false y e = e
-
-pub and-right : (x y : Bool) → (x && y) ≡ true → y ≡ true
-and-right true y e = e
-and-right false true e = refl
-and-right false false e = e
+pub use Rattle.spec_location.specs.Tests.{and-left, and-right, all-head, all-tail, all-append, all-imp}
 
 pub and-both : (x y : Bool) → x ≡ true → y ≡ true → (x && y) ≡ true
 and-both x y e f = cc
-
-pub all-head : {A : Type 0} (p : A → Bool) (b : A) (t : List A) → all p (b ∷ t) ≡ true → p b ≡ true
-all-head p b t h = and-left (p b) (all p t) h
-
-pub all-tail : {A : Type 0} (p : A → Bool) (b : A) (t : List A) → all p (b ∷ t) ≡ true → all p t ≡ true
-all-tail p b t h = and-right (p b) (all p t) h
 
 pub all-left : (p : ℕ → Bool) (s t : List ℕ) → all p (s ++ t) ≡ true → all p s ≡ true
 all-left p [] t h = refl
@@ -33,14 +19,6 @@ all-left p (b ∷ s) t h = cc (all-head p b (s ++ t) h, all-left p s t (all-tail
 pub all-right : (p : ℕ → Bool) (s t : List ℕ) → all p (s ++ t) ≡ true → all p t ≡ true
 all-right p [] t h = h
 all-right p (b ∷ s) t h = all-right p s t (all-tail p b (s ++ t) h)
-
-pub all-append : (p : ℕ → Bool) (s t : List ℕ) → all p s ≡ true → all p t ≡ true → all p (s ++ t) ≡ true
-all-append p [] t h k = k
-all-append p (b ∷ s) t h k = cc (all-head p b s h, all-append p s t (all-tail p b s h) k)
-
-pub all-imp : (p q : ℕ → Bool) → ((b : ℕ) → p b ≡ true → q b ≡ true) → (t : List ℕ) → all p t ≡ true → all q t ≡ true
-all-imp p q f [] h = refl
-all-imp p q f (b ∷ t) h = cc (f b (all-head p b t h), all-imp p q f t (all-tail p b t h))
 
 pub all-and : (p q r : ℕ → Bool) → ((b : ℕ) → p b ≡ true → q b ≡ true → r b ≡ true) → (t : List ℕ) → all p t ≡ true → all q t ≡ true → all r t ≡ true
 all-and p q r f [] h k = refl

@@ -1,4 +1,5 @@
 // Runs the stored answers of the files in data/ again, and prints how many there are of each kind and how many differ. oracle/README.md says how each file was made.
+mod location;
 mod reading;
 mod stored;
 mod writing;
@@ -19,9 +20,15 @@ fn replay_rust(counts: &mut [usize]) {
 
 fn replay_vectors(counts: &mut [usize]) {
     replay_file(b"vectors-read.txt", counts);
-    replay_file(b"vectors-write-1.txt", counts);
-    replay_file(b"vectors-write-2.txt", counts);
+    replay_file(b"vectors-write.txt", counts);
     test_stored_lines::say_source(b"vectors", counts);
+}
+
+fn replay_ticket1(counts: &mut [usize]) {
+    replay_file(b"ticket1-locations.txt", counts);
+    replay_file(b"ticket1-read.txt", counts);
+    replay_file(b"ticket1-write.txt", counts);
+    test_stored_lines::say_source(b"vectors of ticket 1", counts);
 }
 
 fn replay_numbers(counts: &mut [usize]) {
@@ -39,6 +46,7 @@ fn main() {
     let mut counts = [0usize; 32];
     replay_rust(&mut counts);
     replay_vectors(&mut counts);
+    replay_ticket1(&mut counts);
     replay_numbers(&mut counts);
     replay_cases(&mut counts);
     test_stored_lines::say_counts(&counts);

@@ -46,6 +46,7 @@ fn rooms_as_stored(
     comments: &[usize],
     features: &[usize],
     qualifiers: &[usize],
+    locations: &[usize],
     letters: &[u8],
 ) -> Checked {
     let a = text_as_stored(s, so_far, texts);
@@ -53,26 +54,27 @@ fn rooms_as_stored(
     let c = numbers_as_stored(s, b, comments);
     let d = numbers_as_stored(s, c, features);
     let e = numbers_as_stored(s, d, qualifiers);
-    text_as_stored(s, e, letters)
+    let f = numbers_as_stored(s, e, locations);
+    text_as_stored(s, f, letters)
 }
 
 // Of `count` stored numbers, those behind the first are the head's.
-fn head_as_stored(stored: &[usize], count: usize, head: [usize; 31]) -> bool {
-    if count != 32 {
+fn head_as_stored(stored: &[usize], count: usize, head: [usize; 33]) -> bool {
+    if count != 34 {
         return false;
     }
-    if stored.len() < 32 {
+    if stored.len() < 34 {
         return false;
     }
-    same_numbers(&stored[1..32], &head)
+    same_numbers(&stored[1..34], &head)
 }
 
 // Of `count` stored numbers, those behind the first are the sizes.
 fn sizes_as_stored(stored: &[usize], count: usize, n: Sizes) -> bool {
-    if count != 7 {
+    if count != 8 {
         return false;
     }
-    if stored.len() < 7 {
+    if stored.len() < 8 {
         return false;
     }
     let sizes = [
@@ -81,9 +83,10 @@ fn sizes_as_stored(stored: &[usize], count: usize, n: Sizes) -> bool {
         n.comments,
         n.features,
         n.qualifiers,
+        n.locations,
         n.letters,
     ];
-    same_numbers(&stored[1..7], &sizes)
+    same_numbers(&stored[1..8], &sizes)
 }
 
 // What is told with the number: the place, and behind it with 0 the head, with 6 the sizes.
@@ -130,6 +133,7 @@ fn read_lent(
     comments: &mut [usize],
     features: &mut [usize],
     qualifiers: &mut [usize],
+    locations: &mut [usize],
     letters: &mut [u8],
 ) -> Reading {
     let a = lent(call, n, 1, texts.len());
@@ -137,7 +141,8 @@ fn read_lent(
     let c = lent(call, n, 3, comments.len());
     let d = lent(call, n, 4, features.len());
     let e = lent(call, n, 5, qualifiers.len());
-    let f = lent(call, n, 6, letters.len());
+    let f = lent(call, n, 6, locations.len());
+    let g = lent(call, n, 7, letters.len());
     let at = number_at(call, 0);
     let answer = test_rows::read(
         input,
@@ -147,7 +152,8 @@ fn read_lent(
         &mut comments[0..c],
         &mut features[0..d],
         &mut qualifiers[0..e],
-        &mut letters[0..f],
+        &mut locations[0..f],
+        &mut letters[0..g],
     );
     reading_of(at, answer)
 }
@@ -166,6 +172,7 @@ fn read_input(
     let mut comments = number_room();
     let mut features = number_room();
     let mut qualifiers = number_room();
+    let mut locations = number_room();
     let mut letters = io::buffer();
     let answer = read_lent(
         input,
@@ -176,6 +183,7 @@ fn read_input(
         &mut comments,
         &mut features,
         &mut qualifiers,
+        &mut locations,
         &mut letters,
     );
     let answered = answer_as_stored(s, at, answer, counts);
@@ -187,6 +195,7 @@ fn read_input(
         &comments,
         &features,
         &qualifiers,
+        &locations,
         &letters,
     )
 }

@@ -1,9 +1,11 @@
 // Stored answers, run again and counted. A line of a file is one answer, `R` a reading and `W` a writing; oracle/README.md has its fields. Lines that
 // begin `#` say how the file was made, and what a case shows.
+use crate::location::replay_location;
 use crate::reading::replay_reading;
 use crate::writing::replay_writing;
 use test_stored_lines::Checked;
 use test_stored_lines::DIFFER;
+use test_stored_lines::LOCATIONS;
 use test_stored_lines::NOT_UNDERSTOOD;
 use test_stored_lines::READINGS;
 use test_stored_lines::WRITINGS;
@@ -26,6 +28,10 @@ fn replay_kind(s: &[u8], at: usize, kind: u8, counts: &mut [usize]) -> Checked {
     if kind == b'W' {
         count_one(counts, WRITINGS);
         return replay_writing(s, at, counts);
+    }
+    if kind == b'L' {
+        count_one(counts, LOCATIONS);
+        return replay_location(s, at, counts);
     }
     Checked {
         next: at,

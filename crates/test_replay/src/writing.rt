@@ -60,6 +60,7 @@ fn write_lent(
     comments: &[usize],
     features: &[usize],
     qualifiers: &[usize],
+    locations: &[usize],
     letters: &[u8],
     head: Head,
     call: &[usize],
@@ -73,6 +74,7 @@ fn write_lent(
         comments,
         features,
         qualifiers,
+        locations,
         letters,
         head,
         how_asked(call, keeping),
@@ -89,6 +91,7 @@ fn written_as_stored(
     comments: &[usize],
     features: &[usize],
     qualifiers: &[usize],
+    locations: &[usize],
     letters: &[u8],
     head: Head,
     call: &[usize],
@@ -105,6 +108,7 @@ fn written_as_stored(
         comments,
         features,
         qualifiers,
+        locations,
         letters,
         head,
         call,
@@ -120,6 +124,7 @@ fn both_as_stored(
     comments: &[usize],
     features: &[usize],
     qualifiers: &[usize],
+    locations: &[usize],
     letters: &[u8],
     head: Head,
     call: &[usize],
@@ -135,6 +140,7 @@ fn both_as_stored(
         comments,
         features,
         qualifiers,
+        locations,
         letters,
         head,
         call,
@@ -150,6 +156,7 @@ fn both_as_stored(
         comments,
         features,
         qualifiers,
+        locations,
         letters,
         head,
         call,
@@ -167,6 +174,7 @@ fn lent_as_stored(
     comments: &[usize],
     features: &[usize],
     qualifiers: &[usize],
+    locations: &[usize],
     letters: &[u8],
     head: &[usize],
     call: &[usize],
@@ -179,14 +187,16 @@ fn lent_as_stored(
     let c = lent(call, n, 6, comments.len());
     let d = lent(call, n, 7, features.len());
     let e = lent(call, n, 8, qualifiers.len());
-    let f = lent(call, n, 9, letters.len());
+    let f = lent(call, n, 9, locations.len());
+    let g = lent(call, n, 10, letters.len());
     both_as_stored(
         &texts[0..a],
         &references[0..b],
         &comments[0..c],
         &features[0..d],
         &qualifiers[0..e],
-        &letters[0..f],
+        &locations[0..f],
+        &letters[0..g],
         head_from(head),
         call,
         n,
@@ -204,6 +214,7 @@ fn write_table(
     comments: &[usize],
     features: &[usize],
     qualifiers: &[usize],
+    locations: &[usize],
     letters: &[u8],
     counts: &mut [usize],
 ) -> Checked {
@@ -223,6 +234,7 @@ fn write_table(
         comments,
         features,
         qualifiers,
+        locations,
         letters,
         &head,
         &call,
@@ -236,29 +248,45 @@ fn write_table(
     }
 }
 
+// The same from the qualifiers on.
+fn write_rest(
+    s: &[u8],
+    at: usize,
+    texts: &[u8],
+    references: &[usize],
+    comments: &[usize],
+    features: &[usize],
+    counts: &mut [usize],
+) -> Checked {
+    let mut qualifiers = number_room();
+    let mut locations = number_room();
+    let mut letters = io::buffer();
+    let a = take_numbers(s, at, &mut qualifiers);
+    let b = take_numbers(s, a.next, &mut locations);
+    let c = take_text(s, b.next, &mut letters);
+    write_table(
+        s,
+        c.next,
+        texts,
+        references,
+        comments,
+        features,
+        &qualifiers,
+        &locations,
+        &letters,
+        counts,
+    )
+}
+
 // The writing whose fields start there.
 pub fn replay_writing(s: &[u8], at: usize, counts: &mut [usize]) -> Checked {
     let mut texts = io::buffer();
     let mut references = number_room();
     let mut comments = number_room();
     let mut features = number_room();
-    let mut qualifiers = number_room();
-    let mut letters = io::buffer();
     let a = take_text(s, at, &mut texts);
     let b = take_numbers(s, a.next, &mut references);
     let c = take_numbers(s, b.next, &mut comments);
     let d = take_numbers(s, c.next, &mut features);
-    let e = take_numbers(s, d.next, &mut qualifiers);
-    let f = take_text(s, e.next, &mut letters);
-    write_table(
-        s,
-        f.next,
-        &texts,
-        &references,
-        &comments,
-        &features,
-        &qualifiers,
-        &letters,
-        counts,
-    )
+    write_rest(s, d.next, &texts, &references, &comments, &features, counts)
 }

@@ -11,21 +11,25 @@ use Rattle.base_rows.specs.declared.Feature.{Feature}
 use Rattle.base_rows.specs.Rows.{numbers, flat}
 use Rattle.base_rows.specs.Flat.{flat-length}
 
--- ---- the six numbers at a place
+-- ---- the eight numbers at a place
 
-six-first : (t : List ℕ) → 5 < length t → getD t 0 0 ∷ getD t 1 0 ∷ getD t 2 0 ∷ getD t 3 0 ∷ getD t 4 0 ∷ getD t 5 0 ∷ [] ≡ take 6 t
-six-first [] h = absurd (omega arith)
-six-first (a ∷ []) h = absurd (omega arith)
-six-first (a ∷ b ∷ []) h = absurd (omega arith)
-six-first (a ∷ b ∷ c ∷ []) h = absurd (omega arith)
-six-first (a ∷ b ∷ c ∷ d ∷ []) h = absurd (omega arith)
-six-first (a ∷ b ∷ c ∷ d ∷ e ∷ []) h = absurd (omega arith)
-six-first (a ∷ b ∷ c ∷ d ∷ e ∷ f ∷ t) h = refl
+eight-first : (t : List ℕ) → 7 < length t → getD t 0 0 ∷ getD t 1 0 ∷ getD t 2 0 ∷ getD t 3 0 ∷ getD t 4 0 ∷ getD t 5 0 ∷ getD t 6 0 ∷ getD t 7 0 ∷ [] ≡ take 8 t
+eight-first [] h = absurd (omega arith)
+eight-first (a ∷ []) h = absurd (omega arith)
+eight-first (a ∷ b ∷ []) h = absurd (omega arith)
+eight-first (a ∷ b ∷ c ∷ []) h = absurd (omega arith)
+eight-first (a ∷ b ∷ c ∷ d ∷ []) h = absurd (omega arith)
+eight-first (a ∷ b ∷ c ∷ d ∷ e ∷ []) h = absurd (omega arith)
+eight-first (a ∷ b ∷ c ∷ d ∷ e ∷ f ∷ []) h = absurd (omega arith)
+eight-first (a ∷ b ∷ c ∷ d ∷ e ∷ f ∷ g ∷ []) h = absurd (omega arith)
+eight-first (a ∷ b ∷ c ∷ d ∷ e ∷ f ∷ g ∷ h ∷ t) k = refl
 
-pub six-at : (t : List ℕ) (i : ℕ) → i + 5 < length t → getD t i 0 ∷ getD t (i + 1) 0 ∷ getD t (i + 2) 0 ∷ getD t (i + 3) 0 ∷ getD t (i + 4) 0 ∷ getD t (i + 5) 0 ∷ [] ≡ take 6 (drop i t)
-six-at [] i h = absurd (omega arith)
-six-at (x ∷ t) zero h = six-first (x ∷ t) (omega arith)
-six-at (x ∷ t) (suc i) h = rw (suc-add i 1, suc-add i 2, suc-add i 3, suc-add i 4, suc-add i 5) (six-at t i (omega arith))
+pub eight-at : (t : List ℕ) (i : ℕ) → i + 7 < length t →
+    getD t i 0 ∷ getD t (i + 1) 0 ∷ getD t (i + 2) 0 ∷ getD t (i + 3) 0 ∷ getD t (i + 4) 0 ∷ getD t (i + 5) 0 ∷ getD t (i + 6) 0 ∷ getD t (i + 7) 0 ∷ []
+    ≡ take 8 (drop i t)
+eight-at [] i h = absurd (omega arith)
+eight-at (x ∷ t) zero h = eight-first (x ∷ t) (omega arith)
+eight-at (x ∷ t) (suc i) h = rw (suc-add i 1, suc-add i 2, suc-add i 3, suc-add i 4, suc-add i 5, suc-add i 6, suc-add i 7) (eight-at t i (omega arith))
 
 -- ---- fetched, row by row
 
@@ -43,20 +47,20 @@ take-stored [] i f h = absurd (not-suc-le-zero h)
 take-stored (x ∷ rows) zero f h = refl
 take-stored (x ∷ rows) (suc i) f h = ap (λ (l : List Feature). x ∷ l) (take-stored rows i f (le-of-suc-le-suc h))
 
-six-more : (i : ℕ) → 6 * (i + 1) ≡ 6 * i + 6
-six-more i = omega arith
+eight-more : (i : ℕ) → 8 * (i + 1) ≡ 8 * i + 8
+eight-more i = omega arith
 
 pub fetched-on : (rows : List Feature) (i : ℕ) (f : Feature) (t : List ℕ) → i < length rows
-    → flat (take i rows) ≡ take (6 * i) t → numbers f ≡ take 6 (drop (6 * i) t) → flat (take (i + 1) (set rows i f)) ≡ take (6 * (i + 1)) t
+    → flat (take i rows) ≡ take (8 * i) t → numbers f ≡ take 8 (drop (8 * i) t) → flat (take (i + 1) (set rows i f)) ≡ take (8 * (i + 1)) t
 fetched-on rows i f t h e q =
     let z : i + 1 ≡ suc i = omega arith in
-    rw z (ap flat (take-stored rows i f h)) ∙ flat-append (take i rows) (f ∷ []) ∙ rw (flat-one f, e, q, six-more i) (sym (take-add (6 * i) 6 t))
+    rw z (ap flat (take-stored rows i f h)) ∙ flat-append (take i rows) (f ∷ []) ∙ rw (flat-one f, e, q, eight-more i) (sym (take-add (8 * i) 8 t))
 
 pub flat-none : flat [] ≡ []
 unfolding flat
 flat-none = refl
 
-pub fetched-all : (rows : List Feature) (i n : ℕ) (t : List ℕ) → flat (take i rows) ≡ take (6 * i) t → i ≡ n → flat (take n rows) ≡ take (6 * n) t
+pub fetched-all : (rows : List Feature) (i n : ℕ) (t : List ℕ) → flat (take i rows) ≡ take (8 * i) t → i ≡ n → flat (take n rows) ≡ take (8 * n) t
 fetched-all rows i n t e q = rw q at e
 
 -- ---- put, row by row
@@ -87,5 +91,5 @@ pub put-done : (l m : List ℕ) (j n : ℕ) (rows : List Feature) (i : ℕ)
 put-done l m j n rows i p h k s =
     let e : length (take n rows) ≡ n = length-take-le n rows k in
     let z : flat (drop i (take n rows)) ≡ [] = none-left (take n rows) i (omega (arith, e)) in
-    let q : length (flat (take n rows)) ≡ 6 * length (take n rows) = flat-length (take n rows) in
+    let q : length (flat (take n rows)) ≡ 8 * length (take n rows) = flat-length (take n rows) in
     left-end (left-as z p) .fit (omega (arith, q, e)) .is

@@ -1,4 +1,4 @@
-// The entry points that ship, as the tests call them: with a feature's row as six numbers of a flat room, so that stored answers and cases say what they lend and expect in numbers. The numbers are
+// The entry points that ship, as the tests call them: with a feature's row as eight numbers of a flat room, so that stored answers and cases say what they lend and expect in numbers. The numbers are
 // made rows of structs, exactly as many rows are lent as the flat room has, and what they hold afterwards is put back as numbers.
 use base_rows::Feature;
 use spec_format::Head;
@@ -18,13 +18,13 @@ ghost use Rattle.spec_contracts.specs.Writes.{WriteAnswered};
 ghost use Rattle.spec_format.specs.Rooms.{roomsIn};
 ghost use Rattle.test_rows.specs.Through.{first, Through};
 
-// As many rows as any test lends: the rooms of stored answers have 256 numbers. A flat room of more rows is refused, by 3 in reading and by 10 in writing, so that a test which lends it fails.
-const MOST_ROWS: usize = 42;
+// As many rows as any test lends: the rooms of stored answers have 264 numbers. A flat room of more rows is refused, by 3 in reading and by 10 in writing, so that a test which lends it fails.
+const MOST_ROWS: usize = 33;
 
 // The row at a place of a flat room.
 fn row_at(features: &[usize], at: usize) -> Feature
-    requires { ⌜ at + 5 < length (now features) ⌝ }
-    ensures { λ r. ⌜ numbers r ≡ take 6 (drop at (now (features .entry))) ⌝ }
+    requires { ⌜ at + 7 < length (now features) ⌝ }
+    ensures { λ r. ⌜ numbers r ≡ take 8 (drop at (now (features .entry))) ⌝ }
 {
     Feature {
         kind: Span {
@@ -37,13 +37,15 @@ fn row_at(features: &[usize], at: usize) -> Feature
         },
         first: features[at + 4],
         count: features[at + 5],
+        row: features[at + 6],
+        rows: features[at + 7],
     }
 }
 
 // The first n rows of a flat room.
 fn rows_of(features: &[usize], n: usize) -> [Feature; MOST_ROWS]
-    requires { ⌜ (n ≤ 42) × (6 * n ≤ length (now features)) ⌝ }
-    ensures { λ r. ⌜ flat (take n r) ≡ take (6 * n) (now (features .entry)) ⌝ }
+    requires { ⌜ (n ≤ 33) × (8 * n ≤ length (now features)) ⌝ }
+    ensures { λ r. ⌜ flat (take n r) ≡ take (8 * n) (now (features .entry)) ⌝ }
 {
     let no = Span {
         start: 0,
@@ -54,10 +56,12 @@ fn rows_of(features: &[usize], n: usize) -> [Feature; MOST_ROWS]
         location: no,
         first: 0,
         count: 0,
+        row: 0,
+        rows: 0,
     }; MOST_ROWS];
     let mut i = 0usize;
     while i < n {
-        rows[i] = row_at(features, 6 * i);
+        rows[i] = row_at(features, 8 * i);
         i += 1;
     }
     rows
@@ -76,12 +80,12 @@ fn put_row(features: &mut [usize], at: usize, row: Feature) -> usize
         location.start,
         location.length,
     );
-    base_pen::put_two(features, next, row.first, row.count)
+    base_pen::put_four(features, next, row.first, row.count, row.row, row.rows)
 }
 
 // The first n rows put into a flat room again.
 fn put_rows(rows: [Feature; MOST_ROWS], n: usize, features: &mut [usize])
-    requires { ⌜ n ≤ 42 ⌝ }
+    requires { ⌜ n ≤ 33 ⌝ }
     ensures { λ _. ⌜ now (features .exit) ≡ sets (now (features .entry)) 0 (flat (take n rows)) ⌝ }
 {
     let mut at = 0;
@@ -103,10 +107,11 @@ fn read_lent(
     n: usize,
     features: &mut [usize],
     qualifiers: &mut [usize],
+    locations: &mut [usize],
     letters: &mut [u8],
 ) -> ReadAnswer
-    requires { ⌜ (n ≤ 42) × (6 * n ≤ length (now features)) × (flat (take n rows) ≡ take (6 * n) (now features)) ⌝ }
-    ensures { λ r. ⌜ Through (now (s .entry)) at (6 * n) (roomsIn (now (texts .entry)) (now (references .entry)) (now (comments .entry)) (now (features .entry)) (now (qualifiers .entry)) (now (letters .entry))) (roomsIn (now (texts .exit)) (now (references .exit)) (now (comments .exit)) (now (features .exit)) (now (qualifiers .exit)) (now (letters .exit))) r ⌝ }
+    requires { ⌜ (n ≤ 33) × (8 * n ≤ length (now features)) × (flat (take n rows) ≡ take (8 * n) (now features)) ⌝ }
+    ensures { λ r. ⌜ Through (now (s .entry)) at (8 * n) (roomsIn (now (texts .entry)) (now (references .entry)) (now (comments .entry)) (now (features .entry)) (now (qualifiers .entry)) (now (locations .entry)) (now (letters .entry))) (roomsIn (now (texts .exit)) (now (references .exit)) (now (comments .exit)) (now (features .exit)) (now (qualifiers .exit)) (now (locations .exit)) (now (letters .exit))) r ⌝ }
 {
     let mut lent = rows;
     let answer = read_record::read(
@@ -117,6 +122,7 @@ fn read_lent(
         comments,
         &mut lent[..n],
         qualifiers,
+        locations,
         letters,
     );
     put_rows(lent, n, features);
@@ -132,11 +138,12 @@ pub fn read(
     comments: &mut [usize],
     features: &mut [usize],
     qualifiers: &mut [usize],
+    locations: &mut [usize],
     letters: &mut [u8],
 ) -> ReadAnswer
-    ensures { λ r. ⌜ (length (now (features .entry)) / 6 ≤ 42 → Through (now (s .entry)) at (6 * (length (now (features .entry)) / 6)) (roomsIn (now (texts .entry)) (now (references .entry)) (now (comments .entry)) (now (features .entry)) (now (qualifiers .entry)) (now (letters .entry))) (roomsIn (now (texts .exit)) (now (references .exit)) (now (comments .exit)) (now (features .exit)) (now (qualifiers .exit)) (now (letters .exit))) r) ⌝ }
+    ensures { λ r. ⌜ (length (now (features .entry)) / 8 ≤ 33 → Through (now (s .entry)) at (8 * (length (now (features .entry)) / 8)) (roomsIn (now (texts .entry)) (now (references .entry)) (now (comments .entry)) (now (features .entry)) (now (qualifiers .entry)) (now (locations .entry)) (now (letters .entry))) (roomsIn (now (texts .exit)) (now (references .exit)) (now (comments .exit)) (now (features .exit)) (now (qualifiers .exit)) (now (locations .exit)) (now (letters .exit))) r) ⌝ }
 {
-    let n = features.len() / 6;
+    let n = features.len() / 8;
     if MOST_ROWS < n {
         return ReadAnswer::Refused(Unread::BadPlace);
     }
@@ -151,6 +158,7 @@ pub fn read(
         n,
         features,
         qualifiers,
+        locations,
         letters,
     )
 }
@@ -164,12 +172,13 @@ fn write_lent(
     rows: [Feature; MOST_ROWS],
     n: usize,
     qualifiers: &[usize],
+    locations: &[usize],
     letters: &[u8],
     head: Head,
     how: How,
 ) -> WriteAnswer
-    requires { ⌜ n ≤ 42 ⌝ }
-    ensures { λ r. ⌜ WriteAnswered how (roomsIn (now (texts .entry)) (now (references .entry)) (now (comments .entry)) (flat (take n rows)) (now (qualifiers .entry)) (now (letters .entry))) head (now (out .entry)) (now (out .exit)) r ⌝ }
+    requires { ⌜ n ≤ 33 ⌝ }
+    ensures { λ r. ⌜ WriteAnswered how (roomsIn (now (texts .entry)) (now (references .entry)) (now (comments .entry)) (flat (take n rows)) (now (qualifiers .entry)) (now (locations .entry)) (now (letters .entry))) head (now (out .entry)) (now (out .exit)) r ⌝ }
 {
     let lent = rows;
     write_record::write(
@@ -179,6 +188,7 @@ fn write_lent(
         comments,
         &lent[..n],
         qualifiers,
+        locations,
         letters,
         head,
         how,
@@ -193,13 +203,14 @@ pub fn write(
     comments: &[usize],
     features: &[usize],
     qualifiers: &[usize],
+    locations: &[usize],
     letters: &[u8],
     head: Head,
     how: How,
 ) -> WriteAnswer
-    ensures { λ r. ⌜ (length (now (features .entry)) / 6 ≤ 42 → WriteAnswered how (first (6 * (length (now (features .entry)) / 6)) (roomsIn (now (texts .entry)) (now (references .entry)) (now (comments .entry)) (now (features .entry)) (now (qualifiers .entry)) (now (letters .entry)))) head (now (out .entry)) (now (out .exit)) r) ⌝ }
+    ensures { λ r. ⌜ (length (now (features .entry)) / 8 ≤ 33 → WriteAnswered how (first (8 * (length (now (features .entry)) / 8)) (roomsIn (now (texts .entry)) (now (references .entry)) (now (comments .entry)) (now (features .entry)) (now (qualifiers .entry)) (now (locations .entry)) (now (letters .entry)))) head (now (out .entry)) (now (out .exit)) r) ⌝ }
 {
-    let n = features.len() / 6;
+    let n = features.len() / 8;
     if MOST_ROWS < n {
         return WriteAnswer::Refused(Unwritten::BadRooms);
     }
@@ -212,6 +223,7 @@ pub fn write(
         rows,
         n,
         qualifiers,
+        locations,
         letters,
         head,
         how,

@@ -1,17 +1,19 @@
-// What is counted: 0 to 13 are answers by their number, and these.
-pub const TWO_OR_FOUR: usize = 14;
+// What is counted: 0 to 14 are answers by their number, and these.
+pub const TWO_OR_FOUR: usize = 15;
 
-pub const REFUSED: usize = 15;
+pub const REFUSED: usize = 16;
 // Plus the departure's number; the place itself is "no departure".
-pub const DEPARTURES: usize = 16;
+pub const DEPARTURES: usize = 17;
 
-pub const READINGS: usize = 23;
+pub const READINGS: usize = 24;
 
-pub const WRITINGS: usize = 24;
+pub const WRITINGS: usize = 25;
 
-pub const NOT_UNDERSTOOD: usize = 25;
+pub const LOCATIONS: usize = 26;
 
-pub const DIFFER: usize = 26;
+pub const NOT_UNDERSTOOD: usize = 27;
+
+pub const DIFFER: usize = 28;
 
 // One more at that place, if there is such a place.
 pub fn count_one(counts: &mut [usize], i: usize) {
@@ -67,21 +69,30 @@ fn say_line(word: &[u8], n: usize) {
     io::write_all(1, b"\n");
 }
 
+// None at that place, if there is such a place.
+fn clear(counts: &mut [usize], i: usize) {
+    if i < counts.len() {
+        counts[i] = 0;
+    }
+}
+
 // How many cases of a source there were; the next source is counted from 0.
 pub fn say_source(title: &[u8], counts: &mut [usize]) {
     io::write_all(1, title);
-    if WRITINGS < counts.len() {
+    if LOCATIONS < counts.len() {
         say(b": ", counts[READINGS]);
         say(b" readings, ", counts[WRITINGS]);
-        io::write_all(1, b" writings\n");
-        counts[READINGS] = 0;
-        counts[WRITINGS] = 0;
+        say(b" writings, ", counts[LOCATIONS]);
+        io::write_all(1, b" locations\n");
+        clear(counts, READINGS);
+        clear(counts, WRITINGS);
+        clear(counts, LOCATIONS);
     }
 }
 
 fn say_numbers(counts: &[usize]) {
     let mut n = 0;
-    while n < 14 {
+    while n < 15 {
         if counts.len() <= n {
             return;
         }

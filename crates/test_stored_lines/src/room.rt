@@ -2,8 +2,8 @@
 ghost use lib.ListN.{length};
 ghost use mathlib.Core.Path.{_≡_};
 
-pub fn number_room() -> [usize; 256]
-    ensures { λ r. ⌜ 256 ≡ length r ⌝ }
+pub fn number_room() -> [usize; 264]
+    ensures { λ r. ⌜ 264 ≡ length r ⌝ }
 {
-    [0usize; 256]
+    [0usize; 264]
 }

@@ -1,4 +1,4 @@
-// What the writer does with one feature row: numbers 10, 11 and 13 of it, and its lines. Each makes the row's six numbers and calls the function
+// What the writer does with one feature row: numbers 10, 11 and 13 of it but for its location, and its lines. Each makes the row's eight numbers and calls the function
 // on flat numbers.
 use base_rows::Feature;
 use judge_feature::feature_passes;
@@ -22,7 +22,7 @@ ghost use Rattle.judge_rooms.specs.Parts.{qualifierRooms, featureRooms, feature
 ghost use Rattle.write_feature.specs.Lines.{featureStart};
 ghost use Rattle.write_feature_row.specs.FirstLine.{FirstLineKnown};
 
-fn row_numbers(row: Feature) -> [usize; 6]
+fn row_numbers(row: Feature) -> [usize; 8]
     ensures { λ r. ⌜ r ≡ numbers row ⌝ }
 {
     let kind = row.kind;
@@ -34,23 +34,25 @@ fn row_numbers(row: Feature) -> [usize; 6]
         location.length,
         row.first,
         row.count,
+        row.row,
+        row.rows,
     ]
 }
 
-// Where the qualifiers of the next row may start, or that this one is not in order.
+// Where the qualifiers of the next row may start, or that this one is not in order but for its location rows.
 pub fn row_next(row: Feature, texts: &[u8], qualifiers: &[usize], from: usize) -> Next
     ensures { λ r. ⌜ r ≡ featureNext (featureRooms (now (texts .entry)) (numbers row) (now (qualifiers .entry))) 0 from ⌝ }
 {
-    let six = row_numbers(row);
-    feature_next(texts, &six, qualifiers, 0, from)
+    let flat = row_numbers(row);
+    feature_next(texts, &flat, qualifiers, 0, from)
 }
 
 pub fn row_passes(rule: Rule, row: Feature, texts: &[u8], qualifiers: &[usize]) -> bool
     requires { ⌜ (60 ≤ widthOf rule) × FeatureKnown (now texts) (numbers row) (now qualifiers) 0 ⌝ }
     ensures { λ r. ⌜ r ≡ featureOf rule (featureIn (featureRooms (now (texts .entry)) (numbers row) (now (qualifiers .entry))) 0) ⌝ }
 {
-    let six = row_numbers(row);
-    feature_passes(rule, texts, &six, qualifiers, 0)
+    let flat = row_numbers(row);
+    feature_passes(rule, texts, &flat, qualifiers, 0)
 }
 
 // Number 13 of a row, of which the plain writer asks nothing.
@@ -138,7 +140,7 @@ fn put_first_line(
     put_feature(out, at, &texts[kind..kind_end], &texts[start..end], width)
 }
 
-// The lines of the feature whose six numbers are at a place.
+// The lines of the feature whose eight numbers are at a place.
 fn put_feature_lines(
     out: &mut [u8],
     at: usize,
@@ -171,6 +173,6 @@ pub fn put_row_lines(
     requires { ⌜ FeatureKnown (now texts) (numbers row) (now qualifiers) 0 × (60 ≤ width) × (width ≤ 132) ⌝ }
     ensures { λ r. ⌜ Writes (now (out .entry)) at (featureLines width (featureIn (featureRooms (now (texts .entry)) (numbers row) (now (qualifiers .entry))) 0)) (now (out .exit)) r ⌝ }
 {
-    let six = row_numbers(row);
-    put_feature_lines(out, at, texts, &six, qualifiers, 0, width)
+    let flat = row_numbers(row);
+    put_feature_lines(out, at, texts, &flat, qualifiers, 0, width)
 }

@@ -203,7 +203,7 @@ pub fn put_header(
     width: usize,
 ) -> usize
     requires { ⌜ HeaderKnown (now texts) (now references) (now comments) head × (60 ≤ width) × (width ≤ 132) ⌝ }
-    ensures { λ r. ⌜ Writes (now (out .entry)) at (headerLines width (tableOf (roomsIn (now (texts .entry)) (now (references .entry)) (now (comments .entry)) [] [] []) head)) (now (out .exit)) r ⌝ }
+    ensures { λ r. ⌜ Writes (now (out .entry)) at (headerLines width (tableOf (roomsIn (now (texts .entry)) (now (references .entry)) (now (comments .entry)) [] [] [] []) head)) (now (out .exit)) r ⌝ }
 {
     let source = head.source;
     let a = put_first_texts(out, at, texts, head, width);

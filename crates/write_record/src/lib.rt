@@ -17,11 +17,12 @@ pub fn write(
     comments: &[usize],
     rows: &[Feature],
     qualifiers: &[usize],
+    locations: &[usize],
     letters: &[u8],
     head: Head,
     how: How,
 ) -> WriteAnswer
-    ensures { λ r. ⌜ WriteAnswered how (lent texts references comments rows qualifiers letters) head (now (out .entry)) (now (out .exit)) r ⌝ }
+    ensures { λ r. ⌜ WriteAnswered how (lent texts references comments rows qualifiers locations letters) head (now (out .entry)) (now (out .exit)) r ⌝ }
 {
     let mut s = start(
         rows.len(),
@@ -29,6 +30,7 @@ pub fn write(
         references,
         comments,
         qualifiers,
+        locations,
         letters,
         head,
         how,
@@ -43,6 +45,7 @@ pub fn write(
             references,
             comments,
             qualifiers,
+            locations,
             letters,
             head,
             how,

@@ -1,28 +1,35 @@
 // The last lines of a record, of a table in rooms: CONTIG, ORIGIN and the end.
 use base_pen::put_bytes;
-use spec_format::Text;
+use spec_format::ContigText;
 use write_feature::put_contig;
 use write_origin::put_origin;
-ghost use mathlib.Core.List.{_++_};
+ghost use mathlib.Core.List.{[], _++_};
 ghost use Prim.Native.Nat.{_≤_};
 ghost use lib.ListN.{length, take};
 ghost use Rattle.spec_format.specs.Bytes.{bytes};
-ghost use Rattle.spec_format.specs.Rooms.{mayText};
+ghost use Rattle.spec_format.specs.Rooms.{mayContig};
 ghost use Rattle.spec_format.specs.Write.{contigLines, originLines};
 ghost use Rattle.base_pen.specs.Pen.{Writes};
-ghost use Rattle.judge_rooms.specs.Facts.{TextIn};
+ghost use Rattle.judge_rooms.specs.Parts.{referenceRooms};
+ghost use Rattle.judge_rooms.specs.Facts.{ContigIn};
 ghost use Rattle.spec_format.specs.Record.{most};
 
 // CONTIG; nothing where it is absent.
-pub fn put_contig_text(out: &mut [u8], at: usize, texts: &[u8], contig: Text, width: usize) -> usize
-    requires { ⌜ (length (now texts) ≤ most) × TextIn (now texts) contig × (60 ≤ width) × (width ≤ 132) ⌝ }
-    ensures { λ r. ⌜ Writes (now (out .entry)) at (contigLines width (mayText (now (texts .entry)) contig)) (now (out .exit)) r ⌝ }
+pub fn put_contig_text(
+    out: &mut [u8],
+    at: usize,
+    texts: &[u8],
+    contig: ContigText,
+    width: usize,
+) -> usize
+    requires { ⌜ (length (now texts) ≤ most) × ContigIn (now texts) contig × (60 ≤ width) × (width ≤ 132) ⌝ }
+    ensures { λ r. ⌜ Writes (now (out .entry)) at (contigLines width (mayContig (referenceRooms (now (texts .entry)) []) contig)) (now (out .exit)) r ⌝ }
 {
     match contig {
-        Text::Absent => at,
-        Text::At(s) => {
-            let start = s.start;
-            let end = start + s.length;
+        ContigText::Absent => at,
+        ContigText::At { text, .. } => {
+            let start = text.start;
+            let end = start + text.length;
             put_contig(out, at, &texts[start..end], width)
         }
     }

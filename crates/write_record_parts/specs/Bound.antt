@@ -5,11 +5,11 @@ use mathlib.Core.Path.{_≡_}
 use mathlib.Core.Bool.{Bool, true}
 use mathlib.Core.List.{List}
 use lib.ListN.{length, take, length-take}
-use Rattle.spec_format.specs.Rooms.{Rooms, cut, mayText, featuresFine, roomsFine, tableOf}
+use Rattle.spec_format.specs.Rooms.{Rooms, cut, mayContig, featuresFine, roomsFine, tableOf}
 use Rattle.spec_format.specs.Write.{locusText, contigLines, originLines, written}
 use Rattle.spec_format.specs.declared.Head.{Head}
-use Rattle.spec_format.specs.declared.Text.{Text}
-use Rattle.spec_format.specs.declared.Text.the-variants as text
+use Rattle.spec_format.specs.declared.ContigText.{ContigText}
+use Rattle.spec_format.specs.declared.ContigText.the-variants as contig
 use Rattle.write_feature.specs.Lines.{contig-length}
 use Rattle.write_origin.specs.Origin.{origin-length}
 use Rattle.judge_rooms.specs.Steps.{and-left, and-right}
@@ -22,10 +22,10 @@ use Rattle.spec_format.specs.Record.{most}
 ruleset parts = (and-left, and-right)
 
 -- 23 * 16,777,216 + 13
-contig-most : (W : ℕ) (store : List ℕ) (t : Text) → length store ≤ most → AtMost (contigLines W (mayText store t)) 385875981
-contig-most W store text.Absent h = none-most
-contig-most W store (text.At s) h =
-    record { is = omega (arith, contig-length W (cut store (s .start) (s .length)), cut-most store (s .start) (s .length)) }
+contig-most : (W : ℕ) (r : Rooms) (c : ContigText) → length (r .texts) ≤ most → AtMost (contigLines W (mayContig r c)) 385875981
+contig-most W r contig.Absent h = none-most
+contig-most W r (contig.At s row rows) h =
+    record { is = omega (arith, contig-length W (cut (r .texts) (s .start) (s .length)), cut-most (r .texts) (s .start) (s .length)) }
 
 -- 22 * 16,777,216 + 13
 origin-most : (letters : List ℕ) (n : ℕ) → length letters ≤ most → AtMost (originLines (take n letters)) 369098765
@@ -53,7 +53,7 @@ written-most W truncate escape r h k e =
     (both-most
     (both-most (locus-most truncate escape r h) (header-most W r (k .lengths .texts) h))
     (features-most W r (k .lengths .texts) (h .features) e))
-    (contig-most W (r .texts) (h .contig) (k .lengths .texts)))
+    (contig-most W r (h .contig) (k .lengths .texts)))
     (origin-most (r .letters) (h .letters) (k .lengths .letters)))
     (record { is = omega arith })
 

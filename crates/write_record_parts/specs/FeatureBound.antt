@@ -14,7 +14,7 @@ use Rattle.spec_format.specs.Write.{keyText, qualifierText, qualifierLines, fea
 use Rattle.write_feature.specs.Lines.{featureStart, value-length, feature-length}
 use Rattle.write_header.specs.Bound.{AtMost, none-most, both-most, each-most, cut-most}
 use Rattle.judge_rooms.specs.Parts.{featureNext}
-use Rattle.judge_rooms.specs.Steps.{and-left, and-right, span-within, features-step, afterNext}
+use Rattle.judge_rooms.specs.Steps.{and-left, and-right, span-within, featureLocated, features-step, afterNext}
 use Rattle.judge_rooms.specs.declared.Next.{Next}
 use Rattle.judge_rooms.specs.declared.Next.the-variants as next
 use Rattle.spec_format.specs.Impossible.{impossible}
@@ -76,26 +76,26 @@ module _ (W : ℕ) (r : Rooms) (small : length (r .texts) ≤ most) where
       (each-most (qualifierLines W) (qualifierIn r) 4 (getD (r .features) (at + 4) 0) (getD (r .features) (at + 5) 0) 419430448 qualifier-most)
 
   each-feature-most : (i from n : ℕ) → featuresFine r i from n ≡ true → from ≤ length (r .qualifiers) / 4
-      → AtMost (each (featureLines W) (rowsFrom (featureIn r) 6 i n)) (402653206 * n + 419430448 * (length (r .qualifiers) / 4 - from))
+      → AtMost (each (featureLines W) (rowsFrom (featureIn r) 8 i n)) (402653206 * n + 419430448 * (length (r .qualifiers) / 4 - from))
   unfolding rowsFrom
   each-feature-most i from zero h l = none-most
-  each-feature-most i from (suc n) h l = go (featureNext r (6 * i) from) refl (rw features-step at h) (λ f. each-feature-most (i + 1) f n)
+  each-feature-most i from (suc n) h l = go (featureNext r (8 * i) from) refl (rw features-step at h) (λ f. each-feature-most (i + 1) f n)
     where
-      go : (o : Next) → featureNext r (6 * i) from ≡ o → afterNext r i n (featureNext r (6 * i) from) ≡ true
+      go : (o : Next) → featureNext r (8 * i) from ≡ o → afterNext r i n (featureNext r (8 * i) from) ≡ true
           → ((f : ℕ) → featuresFine r (i + 1) f n ≡ true → f ≤ length (r .qualifiers) / 4
-          → AtMost (each (featureLines W) (rowsFrom (featureIn r) 6 (i + 1) n)) (402653206 * n + 419430448 * (length (r .qualifiers) / 4 - f)))
-          → AtMost (each (featureLines W) (rowsFrom (featureIn r) 6 i (suc n))) (402653206 * suc n + 419430448 * (length (r .qualifiers) / 4 - from))
+          → AtMost (each (featureLines W) (rowsFrom (featureIn r) 8 (i + 1) n)) (402653206 * n + 419430448 * (length (r .qualifiers) / 4 - f)))
+          → AtMost (each (featureLines W) (rowsFrom (featureIn r) 8 i (suc n))) (402653206 * suc n + 419430448 * (length (r .qualifiers) / 4 - from))
       go next.Wrong e g ih = absurd (false≢true (rw e at g))
       go (next.From f) e g ih =
-          let k = next-after r (6 * i) from f e l in
-          let t = feature-most (6 * i) in
-          let u = ih f (rw e at g) (k .1) in
-          record { is = omega (arith, length-append (featureLines W (featureIn r (6 * i))) (each (featureLines W) (rowsFrom (featureIn r) 6 (i + 1) n))) }
+          let k = next-after r (8 * i) from f e l in
+          let t = feature-most (8 * i) in
+          let u = ih f (and-right (featureLocated r (8 * i)) _ (rw e at g)) (k .1) in
+          record { is = omega (arith, length-append (featureLines W (featureIn r (8 * i))) (each (featureLines W) (rowsFrom (featureIn r) 8 (i + 1) n))) }
 
   pub features-most : (n : ℕ) → featuresFine r 0 0 n ≡ true
-      → AtMost (featuresLines W (rowsFrom (featureIn r) 6 0 n)) (41 + 402653206 * n + 419430448 * (length (r .qualifiers) / 4))
+      → AtMost (featuresLines W (rowsFrom (featureIn r) 8 0 n)) (41 + 402653206 * n + 419430448 * (length (r .qualifiers) / 4))
   unfolding rowsFrom featuresLines
   features-most zero h = none-most
   features-most (suc n) h =
       let u = each-feature-most 0 0 (suc n) h (omega arith) in
-      record { is = omega (arith, length-append (bytes "FEATURES             Location/Qualifiers\n") (each (featureLines W) (rowsFrom (featureIn r) 6 0 (suc n)))) }
+      record { is = omega (arith, length-append (bytes "FEATURES             Location/Qualifiers\n") (each (featureLines W) (rowsFrom (featureIn r) 8 0 (suc n)))) }

@@ -5,13 +5,13 @@ use mathlib.Core.List.{List, [], _++_}
 use native.Mathlib.Nat.{le-trans}
 use lib.ListN.{length, take}
 use Rattle.spec_format.specs.Bytes.{bytes}
-use Rattle.spec_format.specs.Rooms.{Rooms, mayText, mayLength, tableOf, roomsIn}
+use Rattle.spec_format.specs.Rooms.{Rooms, mayContig, mayLength, tableOf, roomsIn}
 use Rattle.spec_format.specs.Write.{lengthOr, headerLines, contigLines, originLines}
 use Rattle.spec_format.specs.declared.Head.{Head}
 use Rattle.judge_header.specs.Rules.{HeaderKnown, header-known}
 use Rattle.write_locus.specs.Line.{lineWith}
-use Rattle.judge_rooms.specs.Facts.{HeadIn, TextIn, rooms-in}
-use Rattle.judge_rooms.specs.Parts.{referenceRooms}
+use Rattle.judge_rooms.specs.Facts.{HeadIn, ContigIn, rooms-in}
+use Rattle.judge_rooms.specs.Parts.{referenceRooms, restHead}
 use Rattle.judge_record.specs.Rest.{Passed}
 use Rattle.spec_format.specs.declared.How.{How}
 use Rattle.spec_format.specs.Record.{most}
@@ -32,11 +32,11 @@ title-some (suc n) h = refl
 unfoldable pub beforeParts : List ℕ → List ℕ → List ℕ → Head → ℕ → How → List ℕ
 beforeParts t rf cm h n how =
     lineWith (how .truncate) (how .escape) (lengthOr (mayLength (h .length)) (h .letters)) (tableOf (referenceRooms t []) h) ++
-    headerLines (how .width) (tableOf (roomsIn t rf cm [] [] []) h) ++
+    headerLines (how .width) (tableOf (roomsIn t rf cm [] [] [] []) h) ++
     title n
 
 unfoldable pub afterParts : List ℕ → List ℕ → Head → ℕ → List ℕ
-afterParts t l h W = contigLines W (mayText t (h .contig)) ++ (originLines (take (h .letters) l) ++ bytes "//\n")
+afterParts t l h W = contigLines W (mayContig (referenceRooms t []) (h .contig)) ++ (originLines (take (h .letters) l) ++ bytes "//\n")
 
 -- what is known where they are put
 pub record BeforeKnown (t rf cm : List ℕ) (h : Head) (W : ℕ) : Type 0 where
@@ -49,7 +49,7 @@ pub record BeforeKnown (t rf cm : List ℕ) (h : Head) (W : ℕ) : Type 0 where
 
 pub record AfterKnown (t l : List ℕ) (h : Head) (W : ℕ) : Type 0 where
   pub small : length t ≤ most
-  pub contig : TextIn t (h .contig)
+  pub contig : ContigIn t (h .contig)
   pub narrowest : 60 ≤ W
   pub widest : W ≤ 132
   pub letters : h .letters ≤ length l
@@ -67,12 +67,12 @@ before-known W r h p =
       widest = p .widest;
     }
 
-pub after-known : (W : ℕ) (r : Rooms) (h : Head) → Passed W r h → AfterKnown (r .texts) (r .letters) h W
-after-known W r h p =
-    let k = rooms-in r h (p .rooms) in
+pub after-known : (W : ℕ) (r : Rooms) (h : Head) → Passed W r (restHead h) → ContigIn (r .texts) (h .contig) → AfterKnown (r .texts) (r .letters) h W
+after-known W r h p c =
+    let k = rooms-in r (restHead h) (p .rooms) in
     record {
       small = k .lengths .texts;
-      contig = k .head .contig;
+      contig = c;
       narrowest = p .narrowest;
       widest = p .widest;
       letters = k .counts .letters;

@@ -1,4 +1,4 @@
--- Numbers 11 and 13, in that order: of the features, which `fine` and `kept` say, and of the table without them.
+-- Numbers 11 and 13, in that order: of the features and CONTIG, which `fine` and `kept` say, and of the table without them.
 use Prim.Native.Nat.{ℕ}
 use mathlib.Core.Path.{_≡_, refl, ap, _∙_}
 use mathlib.Core.Bool.{Bool, true, false, _&&_, not}
@@ -17,7 +17,7 @@ use Rattle.judge_record.specs.Rest.{restTable, RestKnown}
 use Rattle.judge_record.specs.Rules.{wellFormedIf, well-formed-is}
 use Rattle.judge_record.specs.declared.Verdict.{Verdict}
 use Rattle.judge_record.specs.declared.Verdict.the-variants as verdict
-use Rattle.judge_rooms.specs.Parts.{referenceRooms, noRows}
+use Rattle.judge_rooms.specs.Parts.{referenceRooms, restHead}
 use Rattle.write_locus.specs.Line.{nameWith, name-is}
 use Rattle.write_locus_name.specs.Names.{nameTest}
 
@@ -41,7 +41,7 @@ module _ (t rf cm l : List ℕ) (h : Head) (k : RestKnown t rf cm l h) (how : Ho
   name-of-rest : nameWith (how .truncate) (how .escape) (lengthOr (mayLength (h .length)) (h .letters)) (tableOf (referenceRooms t []) h) ≡
       printedName (how .truncate) (how .escape) (restTable t rf cm l h)
   unfolding nameWith tableOf
-  name-of-rest = name-is (roomsIn t rf cm [] [] l) (noRows h) (k .letters) (how .truncate) (how .escape)
+  name-of-rest = name-is (roomsIn t rf cm [] [] [] l) (restHead h) (k .letters) (how .truncate) (how .escape)
 
   pub formed-rest : (named b : Bool)
       → named ≡ nameTest (nameWith (how .truncate) (how .escape) (lengthOr (mayLength (h .length)) (h .letters)) (tableOf (referenceRooms t []) h))

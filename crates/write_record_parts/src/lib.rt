@@ -3,6 +3,7 @@ use base_pen::put_bytes;
 use judge_record::Verdict;
 use judge_record::keeps;
 use judge_record::well_formed;
+use spec_format::ContigText;
 use spec_format::Head;
 use spec_format::How;
 use spec_format::Unwritten;
@@ -13,18 +14,46 @@ use write_record_end::put_contig_text;
 use write_record_end::put_end;
 ghost use mathlib.Core.Path.{_≡_};
 ghost use Rattle.base_pen.specs.Pen.{Writes};
-ghost use Rattle.judge_rooms.specs.Parts.{noRows};
+ghost use Rattle.judge_rooms.specs.Parts.{restHead};
 ghost use Rattle.judge_record.specs.Rest.{restTable, RestKnown};
 ghost use Rattle.write_record_parts.specs.Parts.{title, beforeParts, afterParts, BeforeKnown, AfterKnown};
 ghost use Rattle.write_record_parts.specs.RestVerdict.{restVerdict};
 
-// The head of the table without its features.
-pub fn without_rows(head: Head) -> Head
-    ensures { λ r. ⌜ r ≡ noRows head ⌝ }
+// The head of the table without its features and CONTIG.
+pub fn rest_head(head: Head) -> Head
+    ensures { λ r. ⌜ r ≡ restHead head ⌝ }
 {
-    let mut rest = head;
-    rest.features = 0;
-    rest
+    let name = head.name;
+    let length = head.length;
+    let molecule = head.molecule;
+    let division = head.division;
+    let date = head.date;
+    let definition = head.definition;
+    let accession = head.accession;
+    let version = head.version;
+    let dblink = head.dblink;
+    let keywords = head.keywords;
+    let source = head.source;
+    let contig = ContigText::Absent;
+    Head {
+        name,
+        length,
+        molecule,
+        circular: head.circular,
+        division,
+        date,
+        definition,
+        accession,
+        version,
+        dblink,
+        keywords,
+        source,
+        references: head.references,
+        comments: head.comments,
+        features: 0,
+        contig,
+        letters: head.letters,
+    }
 }
 
 // The line of FEATURES; nothing where there are none.
@@ -72,7 +101,7 @@ pub fn put_after(
     put_end(out, a, letters, head.letters)
 }
 
-// Numbers 11 and 13 of the table: of its features `fine` and `kept` say it.
+// Numbers 11 and 13 of the table: of its features and CONTIG `fine` and `kept` say it.
 pub fn rest_verdict(
     fine: bool,
     kept: bool,

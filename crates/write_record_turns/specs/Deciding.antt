@@ -7,23 +7,23 @@ use native.Mathlib.Nat.{sub-zero}
 use native.Mathlib.Omega.{arith}
 use lib.ListN.{length}
 use borrow.Author.Tests.{le-leb}
-use Rattle.judge_feature.specs.Rules.{featureOf}
 use Rattle.spec_format.specs.Answers.{room}
-use Rattle.spec_format.specs.Rooms.{tableOf, featuresFine}
+use Rattle.spec_format.specs.Rooms.{tableOf, rowsFrom, featuresFine}
+use Rattle.spec_format.specs.Bytes.{all}
+use Rattle.spec_format.specs.WellFormed.{featureFine}
 use Rattle.spec_format.specs.declared.Unwritten.{Unwritten}
 use Rattle.spec_format.specs.declared.WriteAnswer.the-variants as answer
-use Rattle.judge_header.specs.declared.Rule.the-variants as rule
 use Rattle.base_pen.specs.Pen.{Writes, left-start, left-step, left-as}
 use Rattle.base_rows.specs.declared.Feature.{Feature}
 use Rattle.write_record_parts.specs.Parts.{beforeParts, afterParts}
-use Rattle.write_record_parts.specs.Split.{fine-split, keeps-split, written-split}
-use Rattle.judge_rooms.specs.Parts.{noRows}
+use Rattle.write_record_parts.specs.Split.{featureAt, fine-split, keeps-split, written-split}
+use Rattle.judge_rooms.specs.Parts.{restHead}
 use Rattle.judge_rooms.specs.Steps.{features-end}
 use Rattle.judge_record.specs.declared.Verdict.{Verdict}
 use Rattle.judge_record.specs.declared.Verdict.the-variants as verdict
 use Rattle.write_record_parts.specs.Bound.{written-small}
 use Rattle.write_record_parts.specs.RestVerdict.{restVerdict, verdictBy, tableFine, tableKept}
-use Rattle.write_record_turns.specs.Answered.{Asking, rowsOf, restTableOf, textOf, answered, textFrom, due, answers, asked-rooms, due-verdict}
+use Rattle.write_record_turns.specs.Answered.{Asking, rowsOf, restTableOf, textOf, answered, textFrom, formed-alike, due, answers, asked-rooms, due-verdict}
 use Rattle.write_record_turns.specs.declared.State.{State}
 use Rattle.write_record_turns.specs.Measured.{too-long}
 use Rattle.write_record_turns.specs.States.{endedState, stagedState, rowKept, pass, Judged, Decides}
@@ -47,7 +47,7 @@ module _ (a : Asking) (s : State) (out : List ℕ) (v : Verdict)
     all-kept q =
         let z : a .head .features - 0 ≡ a .head .features = sub-zero (a .head .features) in
         let judged : pass a rows (rowKept (a .how)) 0 ≡ s .kept = k .kept ∙ (rw (pass-last a rows (s .row) (rowKept (a .how)) last) (and-true (s .kept))) in
-        keeps-split (a .texts) (a .references) (a .comments) (a .qualifiers) (a .letters) rows (a .head) (a .how .width) (a .how .truncate) (a .how .escape) ∙
+        keeps-split (a .texts) (a .references) (a .comments) (a .qualifiers) (a .locations) (a .letters) rows (a .head) (a .how .width) (a .how .truncate) (a .how .escape) ∙
         ap (λ (y : Bool). rest && y) (rw (z, q) at judged)
 
     is-due : due a rows (length old) ≡ answered v (room (length old) (length (textOf a rows)))
@@ -55,8 +55,10 @@ module _ (a : Asking) (s : State) (out : List ℕ) (v : Verdict)
     is-due =
         let z : a .head .features - 0 ≡ a .head .features = sub-zero (a .head .features) in
         due-verdict a rows (k .asked) (length old) _ _ all-fine
-        (fine-split (a .texts) (a .references) (a .comments) (a .qualifiers) (a .letters) rows (a .head) (a .how .width) (a .how .truncate) (a .how .escape) ∙
-        ap (λ (y : Bool). formed && y) ((rw z at (k .fine)) ∙ (rw (pass-last a rows (s .row) (featureOf (rule.Fine (a .how .width))) last) (and-true (s .fine)))))
+        (fine-split (a .texts) (a .references) (a .comments) (a .qualifiers) (a .locations) (a .letters) rows (a .head) (a .how .width) (a .how .truncate) (a .how .escape) ∙
+        ap (λ (y : Bool). formed && y)
+        (ap (λ (y : Bool). y && all (featureFine (a .how .width)) (rowsFrom (featureAt (a .texts) (a .qualifiers) rows) 8 0 (a .head .features))) (formed-alike a rows) ∙
+        (rw z at (k .fine)) ∙ (rw (pass-last a rows (s .row) (featureFine (a .how .width)) last) (and-true (s .fine)))))
         refl ∙
         ap (λ (y : Verdict). answered y (room (length old) (length (textOf a rows)))) (by-writer (a .how .keeping) refl ∙ sym e)
       where
@@ -68,7 +70,7 @@ module _ (a : Asking) (s : State) (out : List ℕ) (v : Verdict)
     small : length (textOf a rows) < 2 ^ 64
     small = written-small (a .how .width) (a .how .truncate) (a .how .escape) (rowsOf a rows) (a .head) (asked-rooms a rows (k .asked) all-fine)
 
-    whole : {x : List ℕ} {m : ℕ} → Writes [] (s .at) (afterParts (a .texts) (a .letters) (noRows (a .head)) (a .how .width)) x m → Writes [] 0 (textOf a rows) x m
+    whole : {x : List ℕ} {m : ℕ} → Writes [] (s .at) (afterParts (a .texts) (a .letters) (a .head) (a .how .width)) x m → Writes [] 0 (textOf a rows) x m
     whole {x} {m} w = left-as (text-last a rows (s .row) last) (k .left) .by x m w
 
   pub decide-refused : (why : Unwritten) → v ≡ verdict.Not why → Decides a s out (endedState (answer.Refused why)) out
@@ -81,7 +83,7 @@ module _ (a : Asking) (s : State) (out : List ℕ) (v : Verdict)
             };
       }
 
-  module _ {x : List ℕ} {m : ℕ} (f : v ≡ verdict.Fine) (w : Writes [] (s .at) (afterParts (a .texts) (a .letters) (noRows (a .head)) (a .how .width)) x m) where
+  module _ {x : List ℕ} {m : ℕ} (f : v ≡ verdict.Fine) (w : Writes [] (s .at) (afterParts (a .texts) (a .letters) (a .head) (a .how .width)) x m) where
     pub decide-room : length out < m → Decides a s out (endedState (answer.Room m)) out
     decide-room l =
         record {
@@ -94,7 +96,7 @@ module _ (a : Asking) (s : State) (out : List ℕ) (v : Verdict)
         }
 
     pub decide-puts : {new : List ℕ} {j : ℕ} → m ≤ length out
-        → Writes out 0 (beforeParts (a .texts) (a .references) (a .comments) (noRows (a .head)) (a .head .features) (a .how)) new j
+        → Writes out 0 (beforeParts (a .texts) (a .references) (a .comments) (restHead (a .head)) (a .head .features) (a .how)) new j
         → Decides a s out (stagedState true 0 j 0 true true) new
     unfolding textFrom
     decide-puts {new} {j} l b =
@@ -116,9 +118,9 @@ module _ (a : Asking) (s : State) (out : List ℕ) (v : Verdict)
                           rw z
                           (left-step
                           (left-as
-                          (written-split (a .texts) (a .references) (a .comments) (a .qualifiers) (a .letters) rows (a .head) (a .how) (k .asked .passed .rooms))
+                          (written-split (a .texts) (a .references) (a .comments) (a .qualifiers) (a .locations) (a .letters) rows (a .head) (a .how) (k .asked .passed .rooms))
                           left-start)
-                          (subst (λ (y : List ℕ). Writes y 0 (beforeParts (a .texts) (a .references) (a .comments) (noRows (a .head)) (a .head .features) (a .how)) new j) (k .same) b));
+                          (subst (λ (y : List ℕ). Writes y 0 (beforeParts (a .texts) (a .references) (a .comments) (restHead (a .head)) (a .head .features) (a .how)) new j) (k .same) b));
                     };
                 nearer = rw (g, p) (omega arith);
               };

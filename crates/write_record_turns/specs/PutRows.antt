@@ -19,7 +19,7 @@ use Rattle.base_rows.specs.declared.Fetched.the-variants as fetched
 use Rattle.write_record_parts.specs.Parts.{afterParts}
 use Rattle.write_record_parts.specs.Split.{featureAt}
 use Rattle.spec_format.specs.declared.How.{How}
-use Rattle.judge_rooms.specs.Parts.{featureRooms, noRows}
+use Rattle.judge_rooms.specs.Parts.{featureRooms}
 use Rattle.write_record_parts.specs.Bound.{written-small}
 use Rattle.write_record_turns.specs.Answered.{Asking, asking, rowsOf, textOf, answers, asked-rooms}
 use Rattle.write_record_turns.specs.declared.State.{State}
@@ -33,7 +33,7 @@ module _ (t q : List ℕ) (how : How) (s : State) (out : List ℕ) where
   pub put-outside : Puts t q how s fetched.Outside out (endedState (answer.Refused unwritten.BadRooms)) out
   put-outside =
       record {
-        by = λ rf cm l h rows old e less g p k.
+        by = λ rf cm lo l h rows old e less g p k.
             let m : length rows ≤ s .row = fetched-outside rows (s .row) (sym e) in
             absurd (omega (arith, k .asked .enough));
       }
@@ -42,9 +42,9 @@ module _ (t q : List ℕ) (how : How) (s : State) (out : List ℕ) where
       → Puts t q how s (fetched.Row f) out (stagedState true (s .row + 1) w 0 true true) new
   put-goes f {new} {w} wr =
       record {
-        by = λ rf cm l h rows old e less g p k.
-            let a : Asking = asking t rf cm q l h how in
-            let v : featureIn (featureRooms t (numbers f) q) 0 ≡ featureAt t q rows (6 * s .row) = feature-of-row t q rows (s .row) f (sym e) in
+        by = λ rf cm lo l h rows old e less g p k.
+            let a : Asking = asking t rf cm q lo l h how in
+            let v : featureIn (featureRooms t (numbers f) q) 0 ≡ featureAt t q rows (8 * s .row) = feature-of-row t q rows (s .row) f (sym e) in
             record {
               held =
                   record {
@@ -62,11 +62,11 @@ module _ (t q : List ℕ) (how : How) (s : State) (out : List ℕ) where
 -- ---- the record is ended
 
 pub ends-done : (t l : List ℕ) (h : Head) (how : How) (s : State) (out : List ℕ) {new : List ℕ} {m : ℕ}
-    → Writes out (s .at) (afterParts t l (noRows h) (how .width)) new m → Ends t l h how s out (endedState (answer.Done m)) new
+    → Writes out (s .at) (afterParts t l h (how .width)) new m → Ends t l h how s out (endedState (answer.Done m)) new
 ends-done t l h how s out {new} {m} w =
     record {
-      by = λ rf cm q rows old last g p k.
-          let a : Asking = asking t rf cm q l h how in
+      by = λ rf cm q lo rows old last g p k.
+          let a : Asking = asking t rf cm q lo l h how in
           let y : Writes old 0 (textOf a rows) new m = left-as (text-last a rows (s .row) last) (k .left) .by new m w in
           let small : length (textOf a rows) < 2 ^ 64 =
           written-small (how .width) (how .truncate) (how .escape) (rowsOf a rows) h (asked-rooms a rows (k .asked) (k .rooms)) in

@@ -1,13 +1,14 @@
 -- What a state of the writer says, and what each turn does with it: the contracts of the turns.
-use Prim.Native.Nat.{ℕ, _+_, _-_, _≤_, _<_}
+use Prim.Native.Nat.{ℕ, _+_, _-_, _/_, _≤_, _<_}
 use mathlib.Core.Path.{_≡_}
 use mathlib.Core.Bool.{Bool, true, false, _&&_, _||_, not}
 use mathlib.Core.List.{List, []}
 use lib.ListN.{length}
 use Rattle.judge_feature.specs.Rules.{featureOf, FeatureKnown}
 use Rattle.spec_format.specs.Bytes.{all}
-use Rattle.spec_format.specs.Rooms.{rowsFrom, featuresFine}
+use Rattle.spec_format.specs.Rooms.{spanText, rowsFrom, featuresFine, roomsIn}
 use Rattle.spec_format.specs.Table.{Feature as Described}
+use Rattle.spec_format.specs.WellFormed.{featureFine}
 use Rattle.spec_format.specs.declared.Head.{Head}
 use Rattle.spec_format.specs.declared.WriteAnswer.{WriteAnswer}
 use Rattle.spec_format.specs.declared.WriteAnswer.the-variants as answer
@@ -19,9 +20,14 @@ use Rattle.base_rows.specs.declared.Fetched.{Fetched}
 use Rattle.base_rows.specs.declared.Fetched.the-variants as fetched
 use Rattle.write_record_parts.specs.Split.{featureAt}
 use Rattle.spec_format.specs.declared.How.{How}
-use Rattle.judge_rooms.specs.Parts.{noRows}
+use Rattle.judge_location.specs.Told.{locationTold, contigTold}
+use Rattle.judge_location.specs.declared.Located.{Located}
+use Rattle.judge_rooms.specs.Facts.{ContigIn}
+use Rattle.judge_rooms.specs.Parts.{featureRooms, featureNext, restHead}
+use Rattle.judge_rooms.specs.declared.Next.{Next}
+use Rattle.judge_rooms.specs.declared.Next.the-variants as next
 use Rattle.judge_record.specs.Rest.{Passed}
-use Rattle.write_record_turns.specs.Answered.{Asking, asking, rowsOf, restOf, textOf, textFrom, due, Ended, Asked}
+use Rattle.write_record_turns.specs.Answered.{Asking, asking, rowsOf, restOf, contigFormed, textOf, textFrom, due, Ended, Asked}
 use Rattle.write_record_turns.specs.declared.State.{State}
 use Rattle.spec_format.specs.Record.{most}
 
@@ -38,17 +44,17 @@ stagedState putting row at from fine kept =
 abbrev pub rowKept : How → Described → Bool
 rowKept how f = not (how .keeping) || featureOf (rule.Kept (how .width)) f
 
--- the features from row i on pass a test
+-- the features from row i on pass a test, which asks nothing of location rows
 abbrev pub pass : Asking → List Feature → (Described → Bool) → ℕ → Bool
-pass a rows p i = all p (rowsFrom (featureAt (a .texts) (a .qualifiers) rows) 6 i (a .head .features - i))
+pass a rows p i = all p (rowsFrom (featureAt (a .texts) (a .qualifiers) rows) 8 i (a .head .features - i))
 
--- the rows up to the next one are judged, and measured on no room
+-- CONTIG and the rows up to the next one are judged, and measured on no room
 pub record Judged (a : Asking) (rows : List Feature) (old : List ℕ) (s : State) (out : List ℕ) : Type 0 where
   pub asked : Asked a rows
   pub same : out ≡ old
   pub order : s .row ≤ a .head .features
   pub rooms : featuresFine (rowsOf a rows) 0 0 (a .head .features) ≡ featuresFine (rowsOf a rows) (s .row) (s .from) (a .head .features - s .row)
-  pub fine : pass a rows (featureOf (rule.Fine (a .how .width))) 0 ≡ (s .fine && pass a rows (featureOf (rule.Fine (a .how .width))) (s .row))
+  pub fine : (contigFormed a && pass a rows (featureFine (a .how .width)) 0) ≡ (s .fine && pass a rows (featureFine (a .how .width)) (s .row))
   pub kept : pass a rows (rowKept (a .how)) 0 ≡ (s .kept && pass a rows (rowKept (a .how)) (s .row))
   pub left : Left [] 0 (textOf a rows) [] (s .at) (textFrom a rows (s .row))
 
@@ -85,27 +91,43 @@ pub record Went (a : Asking) (rows : List Feature) (old : List ℕ) (s r : State
 
 -- ---- the contracts
 
+-- where locations are judged: a text in the store and a row have numbers that the reader of locations takes
+pub record Small (t lo : List ℕ) : Type 0 where
+  pub texts : length t ≤ most
+  pub locations : length lo / 7 ≤ most
+
 pub record Starts (n : ℕ) (a : Asking) (r : State) : Type 0 where
   pub by : (rows : List Feature) (old : List ℕ) → n ≡ length rows → Held a rows old r old
 
-pub record Judges (t q : List ℕ) (how : How) (s : State) (f : Fetched) (r : State) : Type 0 where
+-- a start that got past 12 and past 10 of all but CONTIG and the rows, where `told` is what CONTIG's location told
+pub record Begins (told : Located) (t rf cm : List ℕ) (h : Head) (how : How) (r : State) : Type 0 where
+  pub by : (q lo l : List ℕ) (n : ℕ) → told ≡ contigTold t lo (h .contig) → Passed (how .width) (roomsIn t rf cm [] q lo l) (restHead h) → n ≤ most →
+      h .features ≤ n → Starts n (asking t rf cm q lo l h how) r
+
+pub record Judges (t q lo : List ℕ) (how : How) (s : State) (f : Fetched) (r : State) : Type 0 where
   pub by : (rf cm l : List ℕ) (h : Head) (rows : List Feature) (old out : List ℕ) → f ≡ rowAt rows (s .row) → s .row < h .features →
-      s .going ≡ true → s .putting ≡ false → Judged (asking t rf cm q l h how) rows old s out → Went (asking t rf cm q l h how) rows old s r out
+      s .going ≡ true → s .putting ≡ false → Judged (asking t rf cm q lo l h how) rows old s out → Went (asking t rf cm q lo l h how) rows old s r out
+
+-- a row that lies in its rooms, where `told` is what its location told and its qualifiers end at m
+pub record JudgesTold (t q : List ℕ) (how : How) (s : State) (f : Feature) (m : ℕ) (told : Located) (r : State) : Type 0 where
+  pub by : (lo : List ℕ) (o : Next) → o ≡ featureNext (featureRooms t (numbers f) q) 0 (s .from) → o ≡ next.From m →
+      told ≡ locationTold false lo (spanText t (f .location)) (f .row) (f .rows) → Judges t q lo how s (fetched.Row f) r
 
 pub record Decides (a : Asking) (s : State) (out : List ℕ) (r : State) (new : List ℕ) : Type 0 where
   pub by : (rows : List Feature) (old : List ℕ) → a .head .features ≤ s .row → s .going ≡ true → s .putting ≡ false → Judged a rows old s out → Went a rows old s r new
 
 pub record Puts (t q : List ℕ) (how : How) (s : State) (f : Fetched) (out : List ℕ) (r : State) (new : List ℕ) : Type 0 where
-  pub by : (rf cm l : List ℕ) (h : Head) (rows : List Feature) (old : List ℕ) → f ≡ rowAt rows (s .row) → s .row < h .features →
-      s .going ≡ true → s .putting ≡ true → Putting (asking t rf cm q l h how) rows old s out → Went (asking t rf cm q l h how) rows old s r new
+  pub by : (rf cm lo l : List ℕ) (h : Head) (rows : List Feature) (old : List ℕ) → f ≡ rowAt rows (s .row) → s .row < h .features →
+      s .going ≡ true → s .putting ≡ true → Putting (asking t rf cm q lo l h how) rows old s out → Went (asking t rf cm q lo l h how) rows old s r new
 
 pub record Ends (t l : List ℕ) (h : Head) (how : How) (s : State) (out : List ℕ) (r : State) (new : List ℕ) : Type 0 where
-  pub by : (rf cm q : List ℕ) (rows : List Feature) (old : List ℕ) → h .features ≤ s .row → s .going ≡ true → s .putting ≡ true →
-      Putting (asking t rf cm q l h how) rows old s out → Went (asking t rf cm q l h how) rows old s r new
+  pub by : (rf cm q lo : List ℕ) (rows : List Feature) (old : List ℕ) → h .features ≤ s .row → s .going ≡ true → s .putting ≡ true →
+      Putting (asking t rf cm q lo l h how) rows old s out → Went (asking t rf cm q lo l h how) rows old s r new
 
--- what a turn asks: that the rest of the table passed, and of a row that is put that it lies in its rooms
+-- what a turn asks: that the rest of the table passed, that CONTIG lies in the store, and of a row that is put that it lies in its rooms
 pub record Steady (a : Asking) (s : State) (f : Fetched) : Type 0 where
-  pub passed : Passed (a .how .width) (restOf a) (noRows (a .head))
+  pub passed : Passed (a .how .width) (restOf a) (restHead (a .head))
+  pub contig : ContigIn (a .texts) (a .head .contig)
   pub few : s .row ≤ most
   pub row : s .putting ≡ true → s .row < a .head .features → (x : Feature) → f ≡ fetched.Row x → FeatureKnown (a .texts) (numbers x) (a .qualifiers) 0
 

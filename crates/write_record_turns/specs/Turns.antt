@@ -9,8 +9,8 @@ use Rattle.spec_format.specs.Rooms.{featuresFine}
 use Rattle.base_rows.specs.Rows.{rowAt}
 use Rattle.base_rows.specs.declared.Feature.{Feature}
 use Rattle.base_rows.specs.declared.Fetched.{Fetched}
-use Rattle.judge_rooms.specs.Facts.{features-each, rooms-in}
-use Rattle.judge_rooms.specs.Parts.{noRows}
+use Rattle.judge_rooms.specs.Facts.{contig-in, features-each, rooms-in}
+use Rattle.judge_rooms.specs.Parts.{restHead}
 use Rattle.write_record_turns.specs.Answered.{Asking, rowsOf, restOf, Asked, ended-well}
 use Rattle.write_record_turns.specs.declared.State.{State}
 use Rattle.spec_format.specs.Impossible.{impossible}
@@ -28,18 +28,18 @@ module _ (a : Asking) (rows : List Feature) (old : List ℕ) (s : State) (out : 
   putting-of p = subst (λ (b : Bool). HeldBy true b a rows old s out) p on-by
 
 module _ (a : Asking) (s : State) (f : Fetched) (out : List ℕ) (r : State) (new : List ℕ) where
-  pub step-judges : s .row < a .head .features → s .putting ≡ false → new ≡ out → Judges (a .texts) (a .qualifiers) (a .how) s f r → Steps a s f out r new
+  pub step-judges : s .row < a .head .features → s .putting ≡ false → new ≡ out → Judges (a .texts) (a .qualifiers) (a .locations) (a .how) s f r → Steps a s f out r new
   step-judges less p same j =
       record { by = λ rows old e g k. rw same (j .by (a .references) (a .comments) (a .letters) (a .head) rows old out e less g p (judged-of a rows old s out g k p)) }
 
   pub step-puts : s .row < a .head .features → s .putting ≡ true → Puts (a .texts) (a .qualifiers) (a .how) s f out r new → Steps a s f out r new
-  step-puts less p j = record { by = λ rows old e g k. j .by (a .references) (a .comments) (a .letters) (a .head) rows old e less g p (putting-of a rows old s out g k p) }
+  step-puts less p j = record { by = λ rows old e g k. j .by (a .references) (a .comments) (a .locations) (a .letters) (a .head) rows old e less g p (putting-of a rows old s out g k p) }
 
   pub step-decides : a .head .features ≤ s .row → s .putting ≡ false → Decides a s out r new → Steps a s f out r new
   step-decides last p j = record { by = λ rows old e g k. j .by rows old last g p (judged-of a rows old s out g k p) }
 
   pub step-ends : a .head .features ≤ s .row → s .putting ≡ true → Ends (a .texts) (a .letters) (a .head) (a .how) s out r new → Steps a s f out r new
-  step-ends last p j = record { by = λ rows old e g k. j .by (a .references) (a .comments) (a .qualifiers) rows old last g p (putting-of a rows old s out g k p) }
+  step-ends last p j = record { by = λ rows old e g k. j .by (a .references) (a .comments) (a .qualifiers) (a .locations) rows old last g p (putting-of a rows old s out g k p) }
 
 -- what a state says is what the turn asks
 asked-steady : (a : Asking) (rows : List Feature) (s : State) (f : Fetched) → Asked a rows → s .row ≤ a .head .features
@@ -47,11 +47,12 @@ asked-steady : (a : Asking) (rows : List Feature) (s : State) (f : Fetched) → 
 asked-steady a rows s f k o i e =
     record {
       passed = k .passed;
+      contig = contig-in (restOf a) (a .head .contig) (k .lies);
       few = omega (arith, k .few, k .enough);
       row = λ p less x y.
           let m = features-each (rowsOf a rows) 0 0 (a .head .features) (s .row) (i p) (omega arith) (omega arith) in
           row-known (a .texts) (a .qualifiers) rows (s .row) x (sym e ∙ y)
-          (rooms-in (restOf a) (noRows (a .head)) (k .passed .rooms) .lengths .texts)
+          (rooms-in (restOf a) (restHead (a .head)) (k .passed .rooms) .lengths .texts)
           (record { kind = m .kind; location = m .location; qualifiers = m .qualifiers });
     }
 

@@ -1,4 +1,5 @@
 //! Answers of the Rust gb-io: one request a line, one reply a line. See README.md.
+mod location;
 mod table;
 
 mod asis {
@@ -53,7 +54,8 @@ fn answer(line: &[u8]) -> Result<String, Bad> {
     match t.next()? {
         b"R" => read(&mut t),
         b"W" => write(&mut t),
-        _ => Err(Bad::Form("not R or W")),
+        b"L" => locate(&mut t),
+        _ => Err(Bad::Form("not R, W or L")),
     }
 }
 
@@ -86,6 +88,12 @@ fn read(t: &mut Tokens) -> Result<String, Bad> {
             departed::read(bytes, at)
         }
     })
+}
+
+fn locate(t: &mut Tokens) -> Result<String, Bad> {
+    let text = t.bytes()?;
+    t.end()?;
+    Ok(location::read(&text))
 }
 
 fn write(t: &mut Tokens) -> Result<String, Bad> {

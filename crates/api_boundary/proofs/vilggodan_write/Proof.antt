@@ -96,7 +96,10 @@ stayed = (
           stay-dropped (shrSliceOf (4 ∷ []) tt (plain (λ _. Feature-is.the-row))) yes,
           (
             stay-dropped (shrSliceOf (5 ∷ []) tt (plain (λ _. usize))) yes,
-            (stay-dropped (shrSliceOf (6 ∷ []) tt (plain (λ _. u8))) yes, (stay-dropped (shrSliceOf (7 ∷ []) tt (plain (λ _. usize))) yes, (stay-dropped (plain (λ _. usize)) yes, (stay-dropped (plain (λ _. bool)) yes, (stay-dropped (plain (λ _. bool)) yes, (stay-dropped (plain (λ _. bool)) yes, tt)))))),
+            (
+              stay-dropped (shrSliceOf (6 ∷ []) tt (plain (λ _. usize))) yes,
+              (stay-dropped (shrSliceOf (7 ∷ []) tt (plain (λ _. u8))) yes, (stay-dropped (shrSliceOf (8 ∷ []) tt (plain (λ _. usize))) yes, (stay-dropped (plain (λ _. usize)) yes, (stay-dropped (plain (λ _. bool)) yes, (stay-dropped (plain (λ _. bool)) yes, (stay-dropped (plain (λ _. bool)) yes, tt)))))),
+            ),
           ),
         ),
       ),
@@ -134,18 +137,18 @@ module _ {M : Type 1} (𝓤 : URA M) (H : Heap 𝓤) (A : Atoms 𝓤) (mem : Mem
   abbrev writing-of-contract : Contract 𝓤
   writing-of-contract = tripleOf 𝓤 H A writing-of.signature (writing-of.spec 𝓤 H A mem run)
 
-module _ {M : Type 1} (𝓤 : URA M) (H : Heap 𝓤) (A : Atoms 𝓤) (W : Given 𝓤 H A) (mem : Memory → SProp 𝓤) (run : Routine → Fun 𝓤) (κ₀ κ₁ κ₂ κ₃ κ₄ κ₅ κ₆ κ₇ : Lft) (q₀ q₁ q₂ q₃ q₄ q₅ q₆ q₇ : Share) (out : RefT (List ℕ)) (texts : RefT (List ℕ)) (references : RefT (List ℕ)) (comments : RefT (List ℕ)) (features : RefT (List Feature))
-    (qualifiers : RefT (List ℕ)) (letters : RefT (List ℕ)) (head : RefT (List ℕ)) (width : ℕ) (keep : Bool) (truncate : Bool) (escape : Bool) (out-room : Room u8 (length (out .now))) (texts-room : Room u8 (length (texts .now))) (references-room : Room usize (length (references .now))) (comments-room : Room usize (length (comments .now)))
-    (features-room : Room Feature-is.the-row (length (features .now))) (qualifiers-room : Room usize (length (qualifiers .now))) (letters-room : Room u8 (length (letters .now))) (head-room : Room usize (length (head .now))) (width-is : Is usize width ((vint w64 width) ∷ [])) (keep-is : Is bool keep ((vbool keep) ∷ []))
-    (truncate-is : Is bool truncate ((vbool truncate) ∷ [])) (escape-is : Is bool escape ((vbool escape) ∷ [])) where
-  abbrev a : (RefT (List ℕ)) × ((RefT (List ℕ)) × ((RefT (List ℕ)) × ((RefT (List ℕ)) × ((RefT (List Feature)) × ((RefT (List ℕ)) × ((RefT (List ℕ)) × ((RefT (List ℕ)) × (ℕ × (Bool × (Bool × (Bool × Unit {0})))))))))))
-  a = (out, (texts, (references, (comments, (features, (qualifiers, (letters, (head, (width, (keep, (truncate, (escape, tt))))))))))))
+module _ {M : Type 1} (𝓤 : URA M) (H : Heap 𝓤) (A : Atoms 𝓤) (W : Given 𝓤 H A) (mem : Memory → SProp 𝓤) (run : Routine → Fun 𝓤) (κ₀ κ₁ κ₂ κ₃ κ₄ κ₅ κ₆ κ₇ κ₈ : Lft) (q₀ q₁ q₂ q₃ q₄ q₅ q₆ q₇ q₈ : Share) (out : RefT (List ℕ)) (texts : RefT (List ℕ)) (references : RefT (List ℕ)) (comments : RefT (List ℕ)) (features : RefT (List Feature))
+    (qualifiers : RefT (List ℕ)) (locations : RefT (List ℕ)) (letters : RefT (List ℕ)) (head : RefT (List ℕ)) (width : ℕ) (keep : Bool) (truncate : Bool) (escape : Bool) (out-room : Room u8 (length (out .now))) (texts-room : Room u8 (length (texts .now))) (references-room : Room usize (length (references .now)))
+    (comments-room : Room usize (length (comments .now))) (features-room : Room Feature-is.the-row (length (features .now))) (qualifiers-room : Room usize (length (qualifiers .now))) (locations-room : Room usize (length (locations .now))) (letters-room : Room u8 (length (letters .now))) (head-room : Room usize (length (head .now)))
+    (width-is : Is usize width ((vint w64 width) ∷ [])) (keep-is : Is bool keep ((vbool keep) ∷ [])) (truncate-is : Is bool truncate ((vbool truncate) ∷ [])) (escape-is : Is bool escape ((vbool escape) ∷ [])) where
+  abbrev a : (RefT (List ℕ)) × ((RefT (List ℕ)) × ((RefT (List ℕ)) × ((RefT (List ℕ)) × ((RefT (List Feature)) × ((RefT (List ℕ)) × ((RefT (List ℕ)) × ((RefT (List ℕ)) × ((RefT (List ℕ)) × (ℕ × (Bool × (Bool × (Bool × Unit {0}))))))))))))
+  a = (out, (texts, (references, (comments, (features, (qualifiers, (locations, (letters, (head, (width, (keep, (truncate, (escape, tt)))))))))))))
 
-  abbrev at-entry : (List Val) × ((List Val) × ((List Val) × ((List Val) × ((List Val) × ((List Val) × ((List Val) × ((List Val) × ((List Val) × ((List Val) × ((List Val) × ((List Val) × Unit {0})))))))))))
-  at-entry = (v out ∷ [], (v texts ∷ [], (v references ∷ [], (v comments ∷ [], (v features ∷ [], (v qualifiers ∷ [], (v letters ∷ [], (v head ∷ [], ((vint w64 width) ∷ [], ((vbool keep) ∷ [], ((vbool truncate) ∷ [], ((vbool escape) ∷ [], tt))))))))))))
+  abbrev at-entry : (List Val) × ((List Val) × ((List Val) × ((List Val) × ((List Val) × ((List Val) × ((List Val) × ((List Val) × ((List Val) × ((List Val) × ((List Val) × ((List Val) × ((List Val) × Unit {0}))))))))))))
+  at-entry = (v out ∷ [], (v texts ∷ [], (v references ∷ [], (v comments ∷ [], (v features ∷ [], (v qualifiers ∷ [], (v locations ∷ [], (v letters ∷ [], (v head ∷ [], ((vint w64 width) ∷ [], ((vbool keep) ∷ [], ((vbool truncate) ∷ [], ((vbool escape) ∷ [], tt)))))))))))))
 
   abbrev bound : walkOf 𝓤 H A f.ended stayed (f.clauses 𝓤 H A mem run) .Ghost
-  bound = (((κ₀, (κ₁, (κ₂, (κ₃, (κ₄, (κ₅, (κ₆, (κ₇, tt)))))))), (q₀, (q₁, (q₂, (q₃, (q₄, (q₅, (q₆, (q₇, tt)))))))), tt, a, at-entry), tt)
+  bound = (((κ₀, (κ₁, (κ₂, (κ₃, (κ₄, (κ₅, (κ₆, (κ₇, (κ₈, tt))))))))), (q₀, (q₁, (q₂, (q₃, (q₄, (q₅, (q₆, (q₇, (q₈, tt))))))))), tt, a, at-entry), tt)
 
   abbrev Post : Val → SProp 𝓤
   Post = walkOf 𝓤 H A f.ended stayed (f.clauses 𝓤 H A mem run) .post bound
@@ -172,61 +175,65 @@ module _ {M : Type 1} (𝓤 : URA M) (H : Heap 𝓤) (A : Atoms 𝓤) (W : Given
   abbrev qualifiers-own : Fml
   qualifiers-own = ShrSlice (named 5) κ₅ usize .own qualifiers (v qualifiers ∷ [])
 
+  abbrev locations-own : Fml
+  locations-own = ShrSlice (named 6) κ₆ usize .own locations (v locations ∷ [])
+
   abbrev letters-own : Fml
-  letters-own = ShrSlice (named 6) κ₆ u8 .own letters (v letters ∷ [])
+  letters-own = ShrSlice (named 7) κ₇ u8 .own letters (v letters ∷ [])
 
   abbrev head-own : Fml
-  head-own = ShrSlice (named 7) κ₇ usize .own head (v head ∷ [])
+  head-own = ShrSlice (named 8) κ₈ usize .own head (v head ∷ [])
 
   -- what is had at entry
   abbrev Had : List (Item 𝓤) → List (Item 𝓤)
-  Had Γ = (‵ (flft κ₀ q₀) ⊛ ‵ (flft κ₁ q₁) ⊛ ‵ (flft κ₂ q₂) ⊛ ‵ (flft κ₃ q₃) ⊛ ‵ (flft κ₄ q₄) ⊛ ‵ (flft κ₅ q₅) ⊛ ‵ (flft κ₆ q₆) ⊛ ‵ (flft κ₇ q₇) ⊛ ‵ ftrue) ∷ ‵
-      (owns (MutSlice (named 0) κ₀ u8 ∷ ShrSlice (named 1) κ₁ u8 ∷ ShrSlice (named 2) κ₂ usize ∷ ShrSlice (named 3) κ₃ usize ∷ ShrSlice (named 4) κ₄ Feature-is.the-row ∷ ShrSlice (named 5) κ₅ usize ∷ ShrSlice (named 6) κ₆ u8 ∷ ShrSlice (named 7) κ₇ usize ∷ usize ∷ bool ∷ bool ∷ bool ∷ []) a at-entry) ∷ Γ
+  Had Γ = (‵ (flft κ₀ q₀) ⊛ ‵ (flft κ₁ q₁) ⊛ ‵ (flft κ₂ q₂) ⊛ ‵ (flft κ₃ q₃) ⊛ ‵ (flft κ₄ q₄) ⊛ ‵ (flft κ₅ q₅) ⊛ ‵ (flft κ₆ q₆) ⊛ ‵ (flft κ₇ q₇) ⊛ ‵ (flft κ₈ q₈) ⊛ ‵ ftrue) ∷ ‵
+      (owns (MutSlice (named 0) κ₀ u8 ∷ ShrSlice (named 1) κ₁ u8 ∷ ShrSlice (named 2) κ₂ usize ∷ ShrSlice (named 3) κ₃ usize ∷ ShrSlice (named 4) κ₄ Feature-is.the-row ∷ ShrSlice (named 5) κ₅ usize ∷ ShrSlice (named 6) κ₆ usize ∷ ShrSlice (named 7) κ₇ u8 ∷ ShrSlice (named 8) κ₈ usize ∷ usize ∷ bool ∷ bool ∷ bool ∷ []) a at-entry) ∷ Γ
 
   opened : {K : Type 0} {Γ : List (Item 𝓤)} {G : Goal 𝓤 H} → K → Seq K W
-      (‵ (flft κ₀ q₀) ∷ ‵ (flft κ₁ q₁) ∷ ‵ (flft κ₂ q₂) ∷ ‵ (flft κ₃ q₃) ∷ ‵ (flft κ₄ q₄) ∷ ‵ (flft κ₅ q₅) ∷ ‵ (flft κ₆ q₆) ∷ ‵ (flft κ₇ q₇) ∷ ‵ (out-own (out .now)) ∷ ‵ texts-own ∷ ‵ references-own ∷ ‵ comments-own ∷ ‵ features-own ∷ ‵ qualifiers-own ∷ ‵ letters-own ∷ ‵ head-own ∷ Γ) G → Seq K W (Had Γ) G
+      (‵ (flft κ₀ q₀) ∷ ‵ (flft κ₁ q₁) ∷ ‵ (flft κ₂ q₂) ∷ ‵ (flft κ₃ q₃) ∷ ‵ (flft κ₄ q₄) ∷ ‵ (flft κ₅ q₅) ∷ ‵ (flft κ₆ q₆) ∷ ‵ (flft κ₇ q₇) ∷ ‵ (flft κ₈ q₈) ∷ ‵ (out-own (out .now)) ∷ ‵ texts-own ∷ ‵ references-own ∷ ‵ comments-own ∷ ‵ features-own ∷ ‵ qualifiers-own ∷ ‵ locations-own ∷ ‵ letters-own ∷ ‵ head-own ∷ Γ) G → Seq K W (Had Γ) G
   opened t then =
-      splits t (‵ (flft κ₀ q₀) ∷ ‵ (flft κ₁ q₁) ∷ ‵ (flft κ₂ q₂) ∷ ‵ (flft κ₃ q₃) ∷ ‵ (flft κ₄ q₄) ∷ ‵ (flft κ₅ q₅) ∷ ‵ (flft κ₆ q₆) ∷ ‵ (flft κ₇ q₇) ∷ []) (id⊢ 𝓤 _) $
-      move t (8 ∷ []) $
-      splits t (‵ (out-own (out .now)) ∷ ‵ texts-own ∷ ‵ references-own ∷ ‵ comments-own ∷ ‵ features-own ∷ ‵ qualifiers-own ∷ ‵ letters-own ∷ ‵ head-own ∷ ‵ (usize .own width ((vint w64 width) ∷ [])) ∷ ‵ (bool .own keep ((vbool keep) ∷ [])) ∷ ‵ (bool .own truncate ((vbool truncate) ∷ [])) ∷ ‵ (bool .own escape ((vbool escape) ∷ [])) ∷ [])
-      (id⊢ 𝓤 _) $
-      move t (8 ∷ 9 ∷ 10 ∷ 11 ∷ 12 ∷ 13 ∷ 14 ∷ 15 ∷ 16 ∷ 17 ∷ 18 ∷ 19 ∷ 0 ∷ 1 ∷ 2 ∷ 3 ∷ 4 ∷ 5 ∷ 6 ∷ 7 ∷ []) $
+      splits t (‵ (flft κ₀ q₀) ∷ ‵ (flft κ₁ q₁) ∷ ‵ (flft κ₂ q₂) ∷ ‵ (flft κ₃ q₃) ∷ ‵ (flft κ₄ q₄) ∷ ‵ (flft κ₅ q₅) ∷ ‵ (flft κ₆ q₆) ∷ ‵ (flft κ₇ q₇) ∷ ‵ (flft κ₈ q₈) ∷ []) (id⊢ 𝓤 _) $
+      move t (9 ∷ []) $
+      splits t (‵ (out-own (out .now)) ∷ ‵ texts-own ∷ ‵ references-own ∷ ‵ comments-own ∷ ‵ features-own ∷ ‵ qualifiers-own ∷ ‵ locations-own ∷ ‵ letters-own ∷ ‵ head-own ∷ ‵ (usize .own width ((vint w64 width) ∷ [])) ∷ ‵ (bool .own keep ((vbool keep) ∷ [])) ∷ ‵ (bool .own truncate ((vbool truncate) ∷ [])) ∷ ‵
+      (bool .own escape ((vbool escape) ∷ [])) ∷ []) (id⊢ 𝓤 _) $
+      move t (9 ∷ 10 ∷ 11 ∷ 12 ∷ 13 ∷ 14 ∷ 15 ∷ 16 ∷ 17 ∷ 18 ∷ 19 ∷ 20 ∷ 21 ∷ 0 ∷ 1 ∷ 2 ∷ 3 ∷ 4 ∷ 5 ∷ 6 ∷ 7 ∷ 8 ∷ []) $
       drop t $ drop t $ drop t $ drop t $
       then
 
   module _ (C : Calls 𝓤 H) (Λ : Loops 𝓤 H) (fm : FmC 𝓤 H (W .laws) C) (known-head-from : Triple 𝓤 (C #api-head·head-from) (head-from-contract 𝓤 H A mem run)) (known-write : Triple 𝓤 (C #write-record·write) (write-contract 𝓤 H A mem run)) (known-writing-of : Triple 𝓤 (C #api-told·writing-of) (writing-of-contract 𝓤 H A mem run))
-      (l₀ l₁ l₂ l₃ l₄ l₅ l₆ l₇ l₈ l₉ l₁₀ l₁₁ l₁₂ l₁₃ l₁₄ l₁₅ l₁₆ l₁₇ : ℕ) where
+      (l₀ l₁ l₂ l₃ l₄ l₅ l₆ l₇ l₈ l₉ l₁₀ l₁₁ l₁₂ l₁₃ l₁₄ l₁₅ l₁₆ l₁₇ l₁₈ : ℕ) where
     -- the locals, and their entries with what is owed of them
     abbrev E : Env 𝓤 H
     E = (Writing-has.mir, l₀) ∷ (sliceTy (tyRef (named 0) mut (tyInt w8)), l₁) ∷ (sliceTy (tyRef (named 1) imm (tyInt w8)), l₂) ∷ (sliceTy (tyRef (named 2) imm (tyInt w64)), l₃) ∷ (sliceTy (tyRef (named 3) imm (tyInt w64)), l₄) ∷ (sliceTy (tyRef (named 4) imm (pointee (Feature-is.the-row .written))), l₅) ∷
-        (sliceTy (tyRef (named 5) imm (tyInt w64)), l₆) ∷ (sliceTy (tyRef (named 6) imm (tyInt w8)), l₇) ∷ (sliceTy (tyRef (named 7) imm (tyInt w64)), l₈) ∷ (tyInt w64, l₉) ∷ (tyBool, l₁₀) ∷ (tyBool, l₁₁) ∷ (tyBool, l₁₂) ∷ (WriteAnswer-has.mir, l₁₃) ∷ (tyRef erased mut (tyInt w8), l₁₄) ∷ (sliceTy (tyRef erased mut (tyInt w8)), l₁₅) ∷
-        (Head-has.mir, l₁₆) ∷ (How-has.mir, l₁₇) ∷ []
+        (sliceTy (tyRef (named 5) imm (tyInt w64)), l₆) ∷ (sliceTy (tyRef (named 6) imm (tyInt w64)), l₇) ∷ (sliceTy (tyRef (named 7) imm (tyInt w8)), l₈) ∷ (sliceTy (tyRef (named 8) imm (tyInt w64)), l₉) ∷ (tyInt w64, l₁₀) ∷ (tyBool, l₁₁) ∷ (tyBool, l₁₂) ∷ (tyBool, l₁₃) ∷ (WriteAnswer-has.mir, l₁₄) ∷ (tyRef erased mut (tyInt w8), l₁₅) ∷
+        (sliceTy (tyRef erased mut (tyInt w8)), l₁₆) ∷ (Head-has.mir, l₁₇) ∷ (How-has.mir, l₁₈) ∷ []
 
     abbrev standing : List Cell → List (Item 𝓤)
     standing cs = locals 𝓤 H A E cs (raw (Dies 𝓤 H A E) ∷ [])
 
     -- the call of `head_from`
     abbrev lfts-head-from : Lft × Unit {0}
-    lfts-head-from = (κ₇, tt)
+    lfts-head-from = (κ₈, tt)
 
     abbrev args-head-from : (RefT (List ℕ)) × Unit {0}
     args-head-from = (head, tt)
 
     abbrev to-head-from : head-from-contract 𝓤 H A mem run .Ghost
-    to-head-from = ((lfts-head-from, (q₇, tt), tt, args-head-from, ((v head) ∷ [], tt)), tt)
+    to-head-from = ((lfts-head-from, (q₈, tt), tt, args-head-from, ((v head) ∷ [], tt)), tt)
 
-    goes-head-from : ent 𝓤 (⋆ 𝓤 H A (‵ (flft κ₇ q₇) ∷ ‵ head-own ∷ [])) (head-from-contract 𝓤 H A mem run .pre to-head-from)
-    goes-head-from = qed W (‵ (flft κ₇ q₇) ∷ ‵ head-own ∷ []) ∵
+    goes-head-from : ent 𝓤 (⋆ 𝓤 H A (‵ (flft κ₈ q₈) ∷ ‵ head-own ∷ [])) (head-from-contract 𝓤 H A mem run .pre to-head-from)
+    goes-head-from = qed W (‵ (flft κ₈ q₈) ∷ ‵ head-own ∷ []) ∵
         asks-nothing ! $ nothing ! $ nothing ! $
         move ! (2 ∷ 1 ∷ 3 ∷ 0 ∷ []) $
         group ! 2 $
         done !
 
     lends-head-from : {K : Type 0} {Γ : List (Item 𝓤)} {G : Goal 𝓤 H} → K → Soaks G →
-        (Seq K W (raw (head-from-contract 𝓤 H A mem run .pre to-head-from) ∷ ‵ (flft κ₀ q₀) ∷ ‵ (flft κ₁ q₁) ∷ ‵ (flft κ₂ q₂) ∷ ‵ (flft κ₃ q₃) ∷ ‵ (flft κ₄ q₄) ∷ ‵ (flft κ₅ q₅) ∷ ‵ (flft κ₆ q₆) ∷ ‵ (out-own (out .now)) ∷ ‵ texts-own ∷ ‵ references-own ∷ ‵ comments-own ∷ ‵ features-own ∷ ‵ qualifiers-own ∷ ‵ letters-own ∷ Γ) G) → Seq K W
-        (‵ (flft κ₀ q₀) ∷ ‵ (flft κ₁ q₁) ∷ ‵ (flft κ₂ q₂) ∷ ‵ (flft κ₃ q₃) ∷ ‵ (flft κ₄ q₄) ∷ ‵ (flft κ₅ q₅) ∷ ‵ (flft κ₆ q₆) ∷ ‵ (flft κ₇ q₇) ∷ ‵ (out-own (out .now)) ∷ ‵ texts-own ∷ ‵ references-own ∷ ‵ comments-own ∷ ‵ features-own ∷ ‵ qualifiers-own ∷ ‵ letters-own ∷ ‵ head-own ∷ Γ) G
+        (Seq K W (raw (head-from-contract 𝓤 H A mem run .pre to-head-from) ∷ ‵ (flft κ₀ q₀) ∷ ‵ (flft κ₁ q₁) ∷ ‵ (flft κ₂ q₂) ∷ ‵ (flft κ₃ q₃) ∷ ‵ (flft κ₄ q₄) ∷ ‵ (flft κ₅ q₅) ∷ ‵ (flft κ₆ q₆) ∷ ‵ (flft κ₇ q₇) ∷ ‵ (out-own (out .now)) ∷ ‵ texts-own ∷ ‵ references-own ∷ ‵ comments-own ∷ ‵ features-own ∷ ‵ qualifiers-own ∷ ‵ locations-own ∷ ‵
+        letters-own ∷ Γ) G) → Seq K W (‵ (flft κ₀ q₀) ∷ ‵ (flft κ₁ q₁) ∷ ‵ (flft κ₂ q₂) ∷ ‵ (flft κ₃ q₃) ∷ ‵ (flft κ₄ q₄) ∷ ‵ (flft κ₅ q₅) ∷ ‵ (flft κ₆ q₆) ∷ ‵ (flft κ₇ q₇) ∷ ‵ (flft κ₈ q₈) ∷ ‵ (out-own (out .now)) ∷ ‵ texts-own ∷ ‵ references-own ∷ ‵ comments-own ∷ ‵ features-own ∷ ‵ qualifiers-own ∷ ‵ locations-own ∷ ‵ letters-own ∷ ‵
+        head-own ∷ Γ) G
     lends-head-from t z next =
-        move t (7 ∷ 15 ∷ []) $
+        move t (8 ∷ 17 ∷ []) $
         group t 2 $
         use1 W (raw (head-from-contract 𝓤 H A mem run .pre to-head-from)) goes-head-from $
         next
@@ -237,11 +244,12 @@ module _ {M : Type 1} (𝓤 : URA M) (H : Heap 𝓤) (A : Atoms 𝓤) (W : Given
 
     back-head-from : {K : Type 0} {Γ : List (Item 𝓤)} {d : S.Place} {rest : S.Body} {q : Ending 𝓤 H} → K →
         ((r-head-from : Head) (r-head-from-is : Is Head-is.the-row r-head-from ((Head-val r-head-from) ∷ [])) (said-head-from : Said-head-from r-head-from) → Seq K W
-        (‵ (flft κ₀ q₀) ∷ ‵ (flft κ₁ q₁) ∷ ‵ (flft κ₂ q₂) ∷ ‵ (flft κ₃ q₃) ∷ ‵ (flft κ₄ q₄) ∷ ‵ (flft κ₅ q₅) ∷ ‵ (flft κ₆ q₆) ∷ ‵ (flft κ₇ q₇) ∷ ‵ (out-own (out .now)) ∷ ‵ texts-own ∷ ‵ references-own ∷ ‵ comments-own ∷ ‵ features-own ∷ ‵ qualifiers-own ∷ ‵ letters-own ∷ Γ) (lands C Λ E d (Head-val r-head-from) rest q))
-        → (u : Val) → Seq K W (raw (head-from-contract 𝓤 H A mem run .post to-head-from u) ∷ ‵ (flft κ₀ q₀) ∷ ‵ (flft κ₁ q₁) ∷ ‵ (flft κ₂ q₂) ∷ ‵ (flft κ₃ q₃) ∷ ‵ (flft κ₄ q₄) ∷ ‵ (flft κ₅ q₅) ∷ ‵ (flft κ₆ q₆) ∷ ‵ (out-own (out .now)) ∷ ‵ texts-own ∷ ‵ references-own ∷ ‵ comments-own ∷ ‵ features-own ∷ ‵ qualifiers-own ∷ ‵ letters-own ∷ Γ)
-        (lands C Λ E d u rest q)
+        (‵ (flft κ₀ q₀) ∷ ‵ (flft κ₁ q₁) ∷ ‵ (flft κ₂ q₂) ∷ ‵ (flft κ₃ q₃) ∷ ‵ (flft κ₄ q₄) ∷ ‵ (flft κ₅ q₅) ∷ ‵ (flft κ₆ q₆) ∷ ‵ (flft κ₇ q₇) ∷ ‵ (flft κ₈ q₈) ∷ ‵ (out-own (out .now)) ∷ ‵ texts-own ∷ ‵ references-own ∷ ‵ comments-own ∷ ‵ features-own ∷ ‵ qualifiers-own ∷ ‵ locations-own ∷ ‵ letters-own ∷ Γ)
+        (lands C Λ E d (Head-val r-head-from) rest q))
+        → (u : Val) → Seq K W (raw (head-from-contract 𝓤 H A mem run .post to-head-from u) ∷ ‵ (flft κ₀ q₀) ∷ ‵ (flft κ₁ q₁) ∷ ‵ (flft κ₂ q₂) ∷ ‵ (flft κ₃ q₃) ∷ ‵ (flft κ₄ q₄) ∷ ‵ (flft κ₅ q₅) ∷ ‵ (flft κ₆ q₆) ∷ ‵ (flft κ₇ q₇) ∷ ‵ (out-own (out .now)) ∷ ‵ texts-own ∷ ‵ references-own ∷ ‵ comments-own ∷ ‵ features-own ∷ ‵ qualifiers-own ∷ ‵
+        locations-own ∷ ‵ letters-own ∷ Γ) (lands C Λ E d u rest q)
     back-head-from t next u =
-        use1 W (later (some (λ (r-head-from : Head). ((‵ (flft κ₇ q₇) ⊛ ‵ ftrue) ⊛ ‵ (Head-is.the-row .own r-head-from (u ∷ []))) ⊛ raw (ensured 𝓤 H A head-from.ended (head-from.clauses 𝓤 H A mem run) lfts-head-from args-head-from tt r-head-from)))) (id⊢ 𝓤 _) $
+        use1 W (later (some (λ (r-head-from : Head). ((‵ (flft κ₈ q₈) ⊛ ‵ ftrue) ⊛ ‵ (Head-is.the-row .own r-head-from (u ∷ []))) ⊛ raw (ensured 𝓤 H A head-from.ended (head-from.clauses 𝓤 H A mem run) lfts-head-from args-head-from tt r-head-from)))) (id⊢ 𝓤 _) $
         await t tt $ pick t (λ r-head-from. split t $ move t (1 ∷ []) $
         use1 W (some (λ (ws : (Unit {0}) × Unit {0}). (‵ ftrue ⊛ ‵ ftrue) ⊛ raw (fact 𝓤 (Said-head-from r-head-from)))) (id⊢ 𝓤 _) $
         pick t (λ ws.
@@ -249,10 +257,10 @@ module _ {M : Type 1} (𝓤 : URA M) (H : Heap 𝓤) (A : Atoms 𝓤) (W : Given
         splits t (‵ ftrue ∷ []) (id⊢ 𝓤 _) $
         drop t $
         split t $
-        splits t (‵ (flft κ₇ q₇) ∷ []) (id⊢ 𝓤 _) $
+        splits t (‵ (flft κ₈ q₈) ∷ []) (id⊢ 𝓤 _) $
         move t (1 ∷ []) $
         lands-at t Head-is.the-row (LL.vals Head-is.the-type Head-has.the-laws) (LL.tells Head-is.the-type Head-has.the-laws) r-head-from u (λ r-head-from-is.
-        move t (1 ∷ 2 ∷ 3 ∷ 4 ∷ 5 ∷ 6 ∷ 7 ∷ 0 ∷ 8 ∷ 9 ∷ 10 ∷ 11 ∷ 12 ∷ 13 ∷ 14 ∷ []) $
+        move t (1 ∷ 2 ∷ 3 ∷ 4 ∷ 5 ∷ 6 ∷ 7 ∷ 8 ∷ 0 ∷ 9 ∷ 10 ∷ 11 ∷ 12 ∷ 13 ∷ 14 ∷ 15 ∷ 16 ∷ []) $
         next r-head-from r-head-from-is said-head-from))))
 
     module _ (r-head-from : Head) (r-head-from-is : Is Head-is.the-row r-head-from ((Head-val r-head-from) ∷ [])) (said-head-from : Said-head-from r-head-from) where
@@ -263,58 +271,59 @@ module _ {M : Type 1} (𝓤 : URA M) (H : Heap 𝓤) (A : Atoms 𝓤) (W : Given
       made-How-is = LL.owes How-is.the-type How-has.the-laws made-How (keep-is, (width-is, (truncate-is, (escape-is, tt))))
 
       -- the call of `write`
-      abbrev lfts-write : Lft × (Lft × (Lft × (Lft × (Lft × (Lft × (Lft × Unit {0}))))))
-      lfts-write = (κ₀, (κ₁, (κ₂, (κ₃, (κ₄, (κ₅, (κ₆, tt)))))))
+      abbrev lfts-write : Lft × (Lft × (Lft × (Lft × (Lft × (Lft × (Lft × (Lft × Unit {0})))))))
+      lfts-write = (κ₀, (κ₁, (κ₂, (κ₃, (κ₄, (κ₅, (κ₆, (κ₇, tt))))))))
 
-      abbrev args-write : (RefT (List ℕ)) × ((RefT (List ℕ)) × ((RefT (List ℕ)) × ((RefT (List ℕ)) × ((RefT (List Feature)) × ((RefT (List ℕ)) × ((RefT (List ℕ)) × (Head × (How × Unit {0}))))))))
-      args-write = (slice-at u8 out (out .name) (out .now), (texts, (references, (comments, (features, (qualifiers, (letters, (r-head-from, (made-How, tt)))))))))
+      abbrev args-write : (RefT (List ℕ)) × ((RefT (List ℕ)) × ((RefT (List ℕ)) × ((RefT (List ℕ)) × ((RefT (List Feature)) × ((RefT (List ℕ)) × ((RefT (List ℕ)) × ((RefT (List ℕ)) × (Head × (How × Unit {0})))))))))
+      args-write = (slice-at u8 out (out .name) (out .now), (texts, (references, (comments, (features, (qualifiers, (locations, (letters, (r-head-from, (made-How, tt))))))))))
 
       abbrev to-write : write-contract 𝓤 H A mem run .Ghost
-      to-write = ((lfts-write, (q₀, (q₁, (q₂, (q₃, (q₄, (q₅, (q₆, tt))))))), tt, args-write, ((v out) ∷ [], ((v texts) ∷ [], ((v references) ∷ [], ((v comments) ∷ [], ((v features) ∷ [], ((v qualifiers) ∷ [], ((v letters) ∷ [], (((Head-val r-head-from) ∷ []), (((How-val made-How) ∷ []), tt)))))))))), tt)
+      to-write = ((lfts-write, (q₀, (q₁, (q₂, (q₃, (q₄, (q₅, (q₆, (q₇, tt)))))))), tt, args-write, ((v out) ∷ [], ((v texts) ∷ [], ((v references) ∷ [], ((v comments) ∷ [], ((v features) ∷ [], ((v qualifiers) ∷ [], ((v locations) ∷ [], ((v letters) ∷ [], (((Head-val r-head-from) ∷ []), (((How-val made-How) ∷ []), tt))))))))))), tt)
 
-      goes-write : ent 𝓤 (⋆ 𝓤 H A (‵ (flft κ₀ q₀) ∷ ‵ (flft κ₁ q₁) ∷ ‵ (flft κ₂ q₂) ∷ ‵ (flft κ₃ q₃) ∷ ‵ (flft κ₄ q₄) ∷ ‵ (flft κ₅ q₅) ∷ ‵ (flft κ₆ q₆) ∷ ‵ (out-own (out .now)) ∷ ‵ texts-own ∷ ‵ references-own ∷ ‵ comments-own ∷ ‵ features-own ∷ ‵ qualifiers-own ∷ ‵ letters-own ∷ [])) (write-contract 𝓤 H A mem run .pre to-write)
-      goes-write = qed W (‵ (flft κ₀ q₀) ∷ ‵ (flft κ₁ q₁) ∷ ‵ (flft κ₂ q₂) ∷ ‵ (flft κ₃ q₃) ∷ ‵ (flft κ₄ q₄) ∷ ‵ (flft κ₅ q₅) ∷ ‵ (flft κ₆ q₆) ∷ ‵ (out-own (out .now)) ∷ ‵ texts-own ∷ ‵ references-own ∷ ‵ comments-own ∷ ‵ features-own ∷ ‵ qualifiers-own ∷ ‵ letters-own ∷ []) ∵
+      goes-write : ent 𝓤 (⋆ 𝓤 H A (‵ (flft κ₀ q₀) ∷ ‵ (flft κ₁ q₁) ∷ ‵ (flft κ₂ q₂) ∷ ‵ (flft κ₃ q₃) ∷ ‵ (flft κ₄ q₄) ∷ ‵ (flft κ₅ q₅) ∷ ‵ (flft κ₆ q₆) ∷ ‵ (flft κ₇ q₇) ∷ ‵ (out-own (out .now)) ∷ ‵ texts-own ∷ ‵ references-own ∷ ‵ comments-own ∷ ‵ features-own ∷ ‵ qualifiers-own ∷ ‵ locations-own ∷ ‵ letters-own ∷ []))
+          (write-contract 𝓤 H A mem run .pre to-write)
+      goes-write = qed W (‵ (flft κ₀ q₀) ∷ ‵ (flft κ₁ q₁) ∷ ‵ (flft κ₂ q₂) ∷ ‵ (flft κ₃ q₃) ∷ ‵ (flft κ₄ q₄) ∷ ‵ (flft κ₅ q₅) ∷ ‵ (flft κ₆ q₆) ∷ ‵ (flft κ₇ q₇) ∷ ‵ (out-own (out .now)) ∷ ‵ texts-own ∷ ‵ references-own ∷ ‵ comments-own ∷ ‵ features-own ∷ ‵ qualifiers-own ∷ ‵ locations-own ∷ ‵ letters-own ∷ []) ∵
           asks-nothing ! $ nothing ! $ nothing ! $
           owned ! Head-is.the-row (Is Head-is.the-row) (LL.makes Head-is.the-type Head-has.the-plain 𝓤 H A) r-head-from ((Head-val r-head-from) ∷ []) r-head-from-is $
           owned ! How-is.the-row (Is How-is.the-row) (LL.makes How-is.the-type How-has.the-plain 𝓤 H A) made-How ((How-val made-How) ∷ []) made-How-is $
-          move ! (4 ∷ 5 ∷ 6 ∷ 7 ∷ 8 ∷ 9 ∷ 10 ∷ 3 ∷ 11 ∷ 12 ∷ 13 ∷ 14 ∷ 15 ∷ 16 ∷ 17 ∷ 1 ∷ 0 ∷ 2 ∷ []) $
-          group ! 8 $
+          move ! (4 ∷ 5 ∷ 6 ∷ 7 ∷ 8 ∷ 9 ∷ 10 ∷ 11 ∷ 3 ∷ 12 ∷ 13 ∷ 14 ∷ 15 ∷ 16 ∷ 17 ∷ 18 ∷ 19 ∷ 1 ∷ 0 ∷ 2 ∷ []) $
+          group ! 9 $
           done !
 
-      lends-write : {K : Type 0} {Γ : List (Item 𝓤)} {G : Goal 𝓤 H} → K → Soaks G → (Seq K W (raw (write-contract 𝓤 H A mem run .pre to-write) ∷ ‵ (flft κ₇ q₇) ∷ Γ) G) → Seq K W
-          (‵ (flft κ₀ q₀) ∷ ‵ (flft κ₁ q₁) ∷ ‵ (flft κ₂ q₂) ∷ ‵ (flft κ₃ q₃) ∷ ‵ (flft κ₄ q₄) ∷ ‵ (flft κ₅ q₅) ∷ ‵ (flft κ₆ q₆) ∷ ‵ (flft κ₇ q₇) ∷ ‵ (out-own (out .now)) ∷ ‵ texts-own ∷ ‵ references-own ∷ ‵ comments-own ∷ ‵ features-own ∷ ‵ qualifiers-own ∷ ‵ letters-own ∷ Γ) G
+      lends-write : {K : Type 0} {Γ : List (Item 𝓤)} {G : Goal 𝓤 H} → K → Soaks G → (Seq K W (raw (write-contract 𝓤 H A mem run .pre to-write) ∷ ‵ (flft κ₈ q₈) ∷ Γ) G) → Seq K W
+          (‵ (flft κ₀ q₀) ∷ ‵ (flft κ₁ q₁) ∷ ‵ (flft κ₂ q₂) ∷ ‵ (flft κ₃ q₃) ∷ ‵ (flft κ₄ q₄) ∷ ‵ (flft κ₅ q₅) ∷ ‵ (flft κ₆ q₆) ∷ ‵ (flft κ₇ q₇) ∷ ‵ (flft κ₈ q₈) ∷ ‵ (out-own (out .now)) ∷ ‵ texts-own ∷ ‵ references-own ∷ ‵ comments-own ∷ ‵ features-own ∷ ‵ qualifiers-own ∷ ‵ locations-own ∷ ‵ letters-own ∷ Γ) G
       lends-write t z next =
-          move t (0 ∷ 1 ∷ 2 ∷ 3 ∷ 4 ∷ 5 ∷ 6 ∷ 8 ∷ 9 ∷ 10 ∷ 11 ∷ 12 ∷ 13 ∷ 14 ∷ []) $
-          group t 14 $
+          move t (0 ∷ 1 ∷ 2 ∷ 3 ∷ 4 ∷ 5 ∷ 6 ∷ 7 ∷ 9 ∷ 10 ∷ 11 ∷ 12 ∷ 13 ∷ 14 ∷ 15 ∷ 16 ∷ []) $
+          group t 16 $
           use1 W (raw (write-contract 𝓤 H A mem run .pre to-write)) goes-write $
           next
 
       -- what `write` says of its answer and of the lists that it leaves
       abbrev Said-write : WriteAnswer → List ℕ → Type 0
-      Said-write r-write out-write = WriteAnswered made-How (roomsIn (texts .now) (references .now) (comments .now) (flat (features .now)) (qualifiers .now) (letters .now)) r-head-from (out .now) (out-write) r-write
+      Said-write r-write out-write = WriteAnswered made-How (roomsIn (texts .now) (references .now) (comments .now) (flat (features .now)) (qualifiers .now) (locations .now) (letters .now)) r-head-from (out .now) (out-write) r-write
 
       back-write : {K : Type 0} {Γ : List (Item 𝓤)} {d : S.Place} {rest : S.Body} {q : Ending 𝓤 H} → K →
           ((r-write : WriteAnswer) (r-write-is : Is WriteAnswer-is.the-row r-write ((WriteAnswer-val r-write) ∷ [])) (out-write : List ℕ) (out-write-long : length out-write ≡ length (out .now)) (said-write : Said-write r-write out-write) → Seq K W
-          (‵ (flft κ₀ q₀) ∷ ‵ (flft κ₁ q₁) ∷ ‵ (flft κ₂ q₂) ∷ ‵ (flft κ₃ q₃) ∷ ‵ (flft κ₄ q₄) ∷ ‵ (flft κ₅ q₅) ∷ ‵ (flft κ₆ q₆) ∷ ‵ (flft κ₇ q₇) ∷ ‵ (out-last out-write) ∷ Γ) (lands C Λ E d (WriteAnswer-val r-write) rest q))
-          → (u : Val) → Seq K W (raw (write-contract 𝓤 H A mem run .post to-write u) ∷ ‵ (flft κ₇ q₇) ∷ Γ) (lands C Λ E d u rest q)
+          (‵ (flft κ₀ q₀) ∷ ‵ (flft κ₁ q₁) ∷ ‵ (flft κ₂ q₂) ∷ ‵ (flft κ₃ q₃) ∷ ‵ (flft κ₄ q₄) ∷ ‵ (flft κ₅ q₅) ∷ ‵ (flft κ₆ q₆) ∷ ‵ (flft κ₇ q₇) ∷ ‵ (flft κ₈ q₈) ∷ ‵ (out-last out-write) ∷ Γ) (lands C Λ E d (WriteAnswer-val r-write) rest q))
+          → (u : Val) → Seq K W (raw (write-contract 𝓤 H A mem run .post to-write u) ∷ ‵ (flft κ₈ q₈) ∷ Γ) (lands C Λ E d u rest q)
       back-write t next u =
-          use1 W (later (some (λ (r-write : WriteAnswer). ((‵ (flft κ₀ q₀) ⊛ ‵ (flft κ₁ q₁) ⊛ ‵ (flft κ₂ q₂) ⊛ ‵ (flft κ₃ q₃) ⊛ ‵ (flft κ₄ q₄) ⊛ ‵ (flft κ₅ q₅) ⊛ ‵ (flft κ₆ q₆) ⊛ ‵ ftrue) ⊛ ‵ (WriteAnswer-is.the-row .own r-write (u ∷ []))) ⊛ raw (ensured 𝓤 H A write.ended (write.clauses 𝓤 H A mem run) lfts-write args-write tt r-write)))) (id⊢ 𝓤 _)
-          $
+          use1 W (later (some (λ (r-write : WriteAnswer). ((‵ (flft κ₀ q₀) ⊛ ‵ (flft κ₁ q₁) ⊛ ‵ (flft κ₂ q₂) ⊛ ‵ (flft κ₃ q₃) ⊛ ‵ (flft κ₄ q₄) ⊛ ‵ (flft κ₅ q₅) ⊛ ‵ (flft κ₆ q₆) ⊛ ‵ (flft κ₇ q₇) ⊛ ‵ ftrue) ⊛ ‵ (WriteAnswer-is.the-row .own r-write (u ∷ []))) ⊛ raw
+          (ensured 𝓤 H A write.ended (write.clauses 𝓤 H A mem run) lfts-write args-write tt r-write)))) (id⊢ 𝓤 _) $
           await t tt $ pick t (λ r-write. split t $ move t (1 ∷ []) $
-          use1 W (some (λ (ws : (List ℕ) × ((Unit {0}) × ((Unit {0}) × ((Unit {0}) × ((Unit {0}) × ((Unit {0}) × ((Unit {0}) × ((Unit {0}) × ((Unit {0}) × Unit {0}))))))))).
-          ((‵ (finally u8 (out .name) (ws .0)) ⊛ ‵ (feq ℕ (length (ws .0)) (length (out .now)))) ⊛ ‵ ftrue ⊛ ‵ ftrue ⊛ ‵ ftrue ⊛ ‵ ftrue ⊛ ‵ ftrue ⊛ ‵ ftrue ⊛ ‵ ftrue ⊛ ‵ ftrue ⊛ ‵ ftrue) ⊛ raw (fact 𝓤 (Said-write r-write (ws .0))))) (id⊢ 𝓤 _) $
+          use1 W (some (λ (ws : (List ℕ) × ((Unit {0}) × ((Unit {0}) × ((Unit {0}) × ((Unit {0}) × ((Unit {0}) × ((Unit {0}) × ((Unit {0}) × ((Unit {0}) × ((Unit {0}) × Unit {0})))))))))).
+          ((‵ (finally u8 (out .name) (ws .0)) ⊛ ‵ (feq ℕ (length (ws .0)) (length (out .now)))) ⊛ ‵ ftrue ⊛ ‵ ftrue ⊛ ‵ ftrue ⊛ ‵ ftrue ⊛ ‵ ftrue ⊛ ‵ ftrue ⊛ ‵ ftrue ⊛ ‵ ftrue ⊛ ‵ ftrue ⊛ ‵ ftrue) ⊛ raw (fact 𝓤 (Said-write r-write (ws .0))))) (id⊢ 𝓤 _) $
           pick t (λ ws.
           split t $ move t (1 ∷ []) $ heard t (Said-write r-write (ws .0)) (λ said-write.
-          splits t ((‵ (finally u8 (out .name) (ws .0)) ⊛ ‵ (feq ℕ (length (ws .0)) (length (out .now)))) ∷ ‵ ftrue ∷ ‵ ftrue ∷ ‵ ftrue ∷ ‵ ftrue ∷ ‵ ftrue ∷ ‵ ftrue ∷ ‵ ftrue ∷ ‵ ftrue ∷ []) (id⊢ 𝓤 _) $
+          splits t ((‵ (finally u8 (out .name) (ws .0)) ⊛ ‵ (feq ℕ (length (ws .0)) (length (out .now)))) ∷ ‵ ftrue ∷ ‵ ftrue ∷ ‵ ftrue ∷ ‵ ftrue ∷ ‵ ftrue ∷ ‵ ftrue ∷ ‵ ftrue ∷ ‵ ftrue ∷ ‵ ftrue ∷ []) (id⊢ 𝓤 _) $
           split t $ move t (1 ∷ []) $ feqL t (λ out-long.
-          move t (1 ∷ 2 ∷ 3 ∷ 4 ∷ 5 ∷ 6 ∷ 7 ∷ 8 ∷ []) $
-          drop t $ drop t $ drop t $ drop t $ drop t $ drop t $ drop t $ drop t $
+          move t (1 ∷ 2 ∷ 3 ∷ 4 ∷ 5 ∷ 6 ∷ 7 ∷ 8 ∷ 9 ∷ []) $
+          drop t $ drop t $ drop t $ drop t $ drop t $ drop t $ drop t $ drop t $ drop t $
           move t (1 ∷ []) $
           split t $
-          splits t (‵ (flft κ₀ q₀) ∷ ‵ (flft κ₁ q₁) ∷ ‵ (flft κ₂ q₂) ∷ ‵ (flft κ₃ q₃) ∷ ‵ (flft κ₄ q₄) ∷ ‵ (flft κ₅ q₅) ∷ ‵ (flft κ₆ q₆) ∷ []) (id⊢ 𝓤 _) $
-          move t (7 ∷ []) $
+          splits t (‵ (flft κ₀ q₀) ∷ ‵ (flft κ₁ q₁) ∷ ‵ (flft κ₂ q₂) ∷ ‵ (flft κ₃ q₃) ∷ ‵ (flft κ₄ q₄) ∷ ‵ (flft κ₅ q₅) ∷ ‵ (flft κ₆ q₆) ∷ ‵ (flft κ₇ q₇) ∷ []) (id⊢ 𝓤 _) $
+          move t (8 ∷ []) $
           lands-at t WriteAnswer-is.the-row (EL.vals WriteAnswer-is.the-type WriteAnswer-has.the-laws) (EL.tells WriteAnswer-is.the-type WriteAnswer-has.the-laws) r-write u (λ r-write-is.
-          move t (0 ∷ 1 ∷ 2 ∷ 3 ∷ 4 ∷ 5 ∷ 6 ∷ 8 ∷ 7 ∷ []) $
+          move t (0 ∷ 1 ∷ 2 ∷ 3 ∷ 4 ∷ 5 ∷ 6 ∷ 7 ∷ 9 ∷ 8 ∷ []) $
           next r-write r-write-is (ws .0) out-long said-write)))))
 
       module _ (r-write : WriteAnswer) (r-write-is : Is WriteAnswer-is.the-row r-write ((WriteAnswer-val r-write) ∷ [])) (out-write : List ℕ) (out-write-long : length out-write ≡ length (out .now)) (said-write : Said-write r-write out-write) where
@@ -335,8 +344,8 @@ module _ {M : Type 1} (𝓤 : URA M) (H : Heap 𝓤) (A : Atoms 𝓤) (W : Given
             move ! (2 ∷ 0 ∷ 1 ∷ []) $
             done !
 
-        lends-writing-of : {K : Type 0} {Γ : List (Item 𝓤)} {G : Goal 𝓤 H} → K → Soaks G → (Seq K W (raw (writing-of-contract 𝓤 H A mem run .pre to-writing-of) ∷ ‵ (flft κ₀ q₀) ∷ ‵ (flft κ₁ q₁) ∷ ‵ (flft κ₂ q₂) ∷ ‵ (flft κ₃ q₃) ∷ ‵ (flft κ₄ q₄) ∷ ‵ (flft κ₅ q₅) ∷ ‵ (flft κ₆ q₆) ∷ ‵ (flft κ₇ q₇) ∷ ‵ (out-last out-write) ∷ Γ) G) → Seq K W
-            (‵ (flft κ₀ q₀) ∷ ‵ (flft κ₁ q₁) ∷ ‵ (flft κ₂ q₂) ∷ ‵ (flft κ₃ q₃) ∷ ‵ (flft κ₄ q₄) ∷ ‵ (flft κ₅ q₅) ∷ ‵ (flft κ₆ q₆) ∷ ‵ (flft κ₇ q₇) ∷ ‵ (out-last out-write) ∷ Γ) G
+        lends-writing-of : {K : Type 0} {Γ : List (Item 𝓤)} {G : Goal 𝓤 H} → K → Soaks G → (Seq K W (raw (writing-of-contract 𝓤 H A mem run .pre to-writing-of) ∷ ‵ (flft κ₀ q₀) ∷ ‵ (flft κ₁ q₁) ∷ ‵ (flft κ₂ q₂) ∷ ‵ (flft κ₃ q₃) ∷ ‵ (flft κ₄ q₄) ∷ ‵ (flft κ₅ q₅) ∷ ‵ (flft κ₆ q₆) ∷ ‵ (flft κ₇ q₇) ∷ ‵ (flft κ₈ q₈) ∷ ‵ (out-last out-write) ∷ Γ) G) →
+            Seq K W (‵ (flft κ₀ q₀) ∷ ‵ (flft κ₁ q₁) ∷ ‵ (flft κ₂ q₂) ∷ ‵ (flft κ₃ q₃) ∷ ‵ (flft κ₄ q₄) ∷ ‵ (flft κ₅ q₅) ∷ ‵ (flft κ₆ q₆) ∷ ‵ (flft κ₇ q₇) ∷ ‵ (flft κ₈ q₈) ∷ ‵ (out-last out-write) ∷ Γ) G
         lends-writing-of t z next =
             use0 W (raw (writing-of-contract 𝓤 H A mem run .pre to-writing-of)) goes-writing-of $
             next
@@ -346,9 +355,9 @@ module _ {M : Type 1} (𝓤 : URA M) (H : Heap 𝓤) (A : Atoms 𝓤) (W : Given
         Said-writing-of r-writing-of = r-writing-of ≡ writing r-write
 
         back-writing-of : {K : Type 0} {Γ : List (Item 𝓤)} {d : S.Place} {rest : S.Body} {q : Ending 𝓤 H} → K →
-            ((r-writing-of : Writing) (r-writing-of-is : Is Writing-is.the-row r-writing-of ((Writing-val r-writing-of) ∷ [])) (said-writing-of : Said-writing-of r-writing-of) → Seq K W (‵ (flft κ₀ q₀) ∷ ‵ (flft κ₁ q₁) ∷ ‵ (flft κ₂ q₂) ∷ ‵ (flft κ₃ q₃) ∷ ‵ (flft κ₄ q₄) ∷ ‵ (flft κ₅ q₅) ∷ ‵ (flft κ₆ q₆) ∷ ‵ (flft κ₇ q₇) ∷ ‵ (out-last out-write) ∷ Γ)
-            (lands C Λ E d (Writing-val r-writing-of) rest q))
-            → (u : Val) → Seq K W (raw (writing-of-contract 𝓤 H A mem run .post to-writing-of u) ∷ ‵ (flft κ₀ q₀) ∷ ‵ (flft κ₁ q₁) ∷ ‵ (flft κ₂ q₂) ∷ ‵ (flft κ₃ q₃) ∷ ‵ (flft κ₄ q₄) ∷ ‵ (flft κ₅ q₅) ∷ ‵ (flft κ₆ q₆) ∷ ‵ (flft κ₇ q₇) ∷ ‵ (out-last out-write) ∷ Γ) (lands C Λ E d u rest q)
+            ((r-writing-of : Writing) (r-writing-of-is : Is Writing-is.the-row r-writing-of ((Writing-val r-writing-of) ∷ [])) (said-writing-of : Said-writing-of r-writing-of) → Seq K W
+            (‵ (flft κ₀ q₀) ∷ ‵ (flft κ₁ q₁) ∷ ‵ (flft κ₂ q₂) ∷ ‵ (flft κ₃ q₃) ∷ ‵ (flft κ₄ q₄) ∷ ‵ (flft κ₅ q₅) ∷ ‵ (flft κ₆ q₆) ∷ ‵ (flft κ₇ q₇) ∷ ‵ (flft κ₈ q₈) ∷ ‵ (out-last out-write) ∷ Γ) (lands C Λ E d (Writing-val r-writing-of) rest q))
+            → (u : Val) → Seq K W (raw (writing-of-contract 𝓤 H A mem run .post to-writing-of u) ∷ ‵ (flft κ₀ q₀) ∷ ‵ (flft κ₁ q₁) ∷ ‵ (flft κ₂ q₂) ∷ ‵ (flft κ₃ q₃) ∷ ‵ (flft κ₄ q₄) ∷ ‵ (flft κ₅ q₅) ∷ ‵ (flft κ₆ q₆) ∷ ‵ (flft κ₇ q₇) ∷ ‵ (flft κ₈ q₈) ∷ ‵ (out-last out-write) ∷ Γ) (lands C Λ E d u rest q)
         back-writing-of t next u =
             use1 W (later (some (λ (r-writing-of : Writing). ((‵ ftrue) ⊛ ‵ (Writing-is.the-row .own r-writing-of (u ∷ []))) ⊛ raw (ensured 𝓤 H A writing-of.ended (writing-of.clauses 𝓤 H A mem run) lfts-writing-of args-writing-of tt r-writing-of)))) (id⊢ 𝓤 _) $
             await t tt $ pick t (λ r-writing-of. split t $ move t (1 ∷ []) $
@@ -364,107 +373,109 @@ module _ {M : Type 1} (𝓤 : URA M) (H : Heap 𝓤) (A : Atoms 𝓤) (W : Given
 
         module _ (r-writing-of : Writing) (r-writing-of-is : Is Writing-is.the-row r-writing-of ((Writing-val r-writing-of) ∷ [])) (said-writing-of : Said-writing-of r-writing-of) where
           -- the law, and the end
-          ended : WriteTold (howOf keep width truncate escape) (roomsIn (texts .now) (references .now) (comments .now) (flat (features .now)) (qualifiers .now) (letters .now)) (head .now) (out .now) (out-write) r-writing-of
+          ended : WriteTold (howOf keep width truncate escape) (roomsIn (texts .now) (references .now) (comments .now) (flat (features .now)) (qualifiers .now) (locations .now) (letters .now)) (head .now) (out .now) (out-write) r-writing-of
           ended = record { answer = r-write; answered = rw said-head-from at said-write; is = said-writing-of }
 
           abbrev at-last : List (Item 𝓤)
-          at-last = ‵ (flft κ₀ q₀) ∷ ‵ (flft κ₁ q₁) ∷ ‵ (flft κ₂ q₂) ∷ ‵ (flft κ₃ q₃) ∷ ‵ (flft κ₄ q₄) ∷ ‵ (flft κ₅ q₅) ∷ ‵ (flft κ₆ q₆) ∷ ‵ (flft κ₇ q₇) ∷ ‵ (out-last out-write) ∷ []
+          at-last = ‵ (flft κ₀ q₀) ∷ ‵ (flft κ₁ q₁) ∷ ‵ (flft κ₂ q₂) ∷ ‵ (flft κ₃ q₃) ∷ ‵ (flft κ₄ q₄) ∷ ‵ (flft κ₅ q₅) ∷ ‵ (flft κ₆ q₆) ∷ ‵ (flft κ₇ q₇) ∷ ‵ (flft κ₈ q₈) ∷ ‵ (out-last out-write) ∷ []
 
           exits : ent 𝓤 (⋆ 𝓤 H A at-last) (Post (Writing-val r-writing-of))
           exits =
               qed W at-last ∵
-              suffices ! _ (ends-at 𝓤 H A f.ended stayed (f.clauses 𝓤 H A mem run) W bound (Writing-val r-writing-of) r-writing-of (out-write, (tt, (tt, (tt, (tt, (tt, (tt, (tt, (tt, (tt, (tt, (tt, tt)))))))))))) (out-write-long, (tt, (tt, (tt, (tt, (tt, (tt, (tt, (tt, (tt, (tt, (tt, tt))))))))))))) $ says ! ended $
+              suffices ! _ (ends-at 𝓤 H A f.ended stayed (f.clauses 𝓤 H A mem run) W bound (Writing-val r-writing-of) r-writing-of (out-write, (tt, (tt, (tt, (tt, (tt, (tt, (tt, (tt, (tt, (tt, (tt, (tt, tt))))))))))))) (out-write-long, (tt, (tt, (tt, (tt, (tt, (tt, (tt, (tt, (tt, (tt, (tt, (tt, tt)))))))))))))) $ says ! ended $
               owned ! Writing-is.the-row (Is Writing-is.the-row) (LL.makes Writing-is.the-type Writing-has.the-plain 𝓤 H A) r-writing-of ((Writing-val r-writing-of) ∷ []) r-writing-of-is $
-              nothing ! $ nothing ! $ nothing ! $ nothing ! $ nothing ! $ nothing ! $ nothing ! $ nothing ! $ nothing ! $ nothing ! $ nothing ! $ nothing ! $ nothing ! $
-              move ! (14 ∷ 15 ∷ 16 ∷ 17 ∷ 18 ∷ 19 ∷ 20 ∷ 21 ∷ 11 ∷ 22 ∷ 0 ∷ 1 ∷ 2 ∷ 3 ∷ 4 ∷ 5 ∷ 6 ∷ 7 ∷ 8 ∷ 9 ∷ 10 ∷ 12 ∷ 13 ∷ []) $
-              group ! 9 $ frame ! $ group ! 13 $
+              nothing ! $ nothing ! $ nothing ! $ nothing ! $ nothing ! $ nothing ! $ nothing ! $ nothing ! $ nothing ! $ nothing ! $ nothing ! $ nothing ! $ nothing ! $ nothing ! $
+              move ! (15 ∷ 16 ∷ 17 ∷ 18 ∷ 19 ∷ 20 ∷ 21 ∷ 22 ∷ 23 ∷ 12 ∷ 24 ∷ 0 ∷ 1 ∷ 2 ∷ 3 ∷ 4 ∷ 5 ∷ 6 ∷ 7 ∷ 8 ∷ 9 ∷ 10 ∷ 11 ∷ 13 ∷ 14 ∷ []) $
+              group ! 10 $ frame ! $ group ! 14 $
               done !
 
           abbrev part-5-holds : List Cell
-          part-5-holds = holds (Writing-val r-writing-of) ∷ holds (v out) ∷ holds (v texts) ∷ holds (v references) ∷ holds (v comments) ∷ holds (v features) ∷ holds (v qualifiers) ∷ holds (v letters) ∷ holds (v head) ∷ holds (vint w64 width) ∷ holds (vbool keep) ∷ holds (vbool truncate) ∷ holds (vbool escape) ∷ holds (WriteAnswer-val r-write) ∷
-              holds (vptr (out .ptr .0) (out .ptr .1)) ∷ holds (v out) ∷ holds (Head-val r-head-from) ∷ holds (How-val made-How) ∷ []
+          part-5-holds = holds (Writing-val r-writing-of) ∷ holds (v out) ∷ holds (v texts) ∷ holds (v references) ∷ holds (v comments) ∷ holds (v features) ∷ holds (v qualifiers) ∷ holds (v locations) ∷ holds (v letters) ∷ holds (v head) ∷ holds (vint w64 width) ∷ holds (vbool keep) ∷ holds (vbool truncate) ∷ holds (vbool escape) ∷ holds
+              (WriteAnswer-val r-write) ∷ holds (vptr (out .ptr .0) (out .ptr .1)) ∷ holds (v out) ∷ holds (Head-val r-head-from) ∷ holds (How-val made-How) ∷ []
 
-          part-5 : Sq W (‵ (flft κ₀ q₀) ∷ ‵ (flft κ₁ q₁) ∷ ‵ (flft κ₂ q₂) ∷ ‵ (flft κ₃ q₃) ∷ ‵ (flft κ₄ q₄) ∷ ‵ (flft κ₅ q₅) ∷ ‵ (flft κ₆ q₆) ∷ ‵ (flft κ₇ q₇) ∷ ‵ (out-last out-write) ∷ standing part-5-holds) (runs C Λ E body.t-7 (atRet E Post))
+          part-5 : Sq W (‵ (flft κ₀ q₀) ∷ ‵ (flft κ₁ q₁) ∷ ‵ (flft κ₂ q₂) ∷ ‵ (flft κ₃ q₃) ∷ ‵ (flft κ₄ q₄) ∷ ‵ (flft κ₅ q₅) ∷ ‵ (flft κ₆ q₆) ∷ ‵ (flft κ₇ q₇) ∷ ‵ (flft κ₈ q₈) ∷ ‵ (out-last out-write) ∷ standing part-5-holds) (runs C Λ E body.t-7 (atRet E Post))
           part-5 =
-              returns ! (look ! 9 refl) $ frees-all ! at-last
-              (holds (Writing-val r-writing-of) ∷ holds (v out) ∷ holds (v texts) ∷ holds (v references) ∷ holds (v comments) ∷ holds (v features) ∷ holds (v qualifiers) ∷ holds (v letters) ∷ holds (v head) ∷ holds (vint w64 width) ∷ holds (vbool keep) ∷ holds (vbool truncate) ∷ holds (vbool escape) ∷ holds (WriteAnswer-val r-write) ∷ holds
-              (vptr (out .ptr .0) (out .ptr .1)) ∷ holds (v out) ∷ holds (Head-val r-head-from) ∷ holds (How-val made-How) ∷ []) tt exits
+              returns ! (look ! 10 refl) $ frees-all ! at-last
+              (holds (Writing-val r-writing-of) ∷ holds (v out) ∷ holds (v texts) ∷ holds (v references) ∷ holds (v comments) ∷ holds (v features) ∷ holds (v qualifiers) ∷ holds (v locations) ∷ holds (v letters) ∷ holds (v head) ∷ holds (vint w64 width) ∷ holds (vbool keep) ∷ holds (vbool truncate) ∷ holds (vbool escape) ∷ holds
+              (WriteAnswer-val r-write) ∷ holds (vptr (out .ptr .0) (out .ptr .1)) ∷ holds (v out) ∷ holds (Head-val r-head-from) ∷ holds (How-val made-How) ∷ []) tt exits
 
         abbrev part-4-holds : List Cell
-        part-4-holds = vacant ∷ holds (v out) ∷ holds (v texts) ∷ holds (v references) ∷ holds (v comments) ∷ holds (v features) ∷ holds (v qualifiers) ∷ holds (v letters) ∷ holds (v head) ∷ holds (vint w64 width) ∷ holds (vbool keep) ∷ holds (vbool truncate) ∷ holds (vbool escape) ∷ holds (WriteAnswer-val r-write) ∷ holds
+        part-4-holds = vacant ∷ holds (v out) ∷ holds (v texts) ∷ holds (v references) ∷ holds (v comments) ∷ holds (v features) ∷ holds (v qualifiers) ∷ holds (v locations) ∷ holds (v letters) ∷ holds (v head) ∷ holds (vint w64 width) ∷ holds (vbool keep) ∷ holds (vbool truncate) ∷ holds (vbool escape) ∷ holds (WriteAnswer-val r-write) ∷ holds
             (vptr (out .ptr .0) (out .ptr .1)) ∷ holds (v out) ∷ holds (Head-val r-head-from) ∷ holds (How-val made-How) ∷ []
 
-        part-4 : Sq W (‵ (flft κ₀ q₀) ∷ ‵ (flft κ₁ q₁) ∷ ‵ (flft κ₂ q₂) ∷ ‵ (flft κ₃ q₃) ∷ ‵ (flft κ₄ q₄) ∷ ‵ (flft κ₅ q₅) ∷ ‵ (flft κ₆ q₆) ∷ ‵ (flft κ₇ q₇) ∷ ‵ (out-last out-write) ∷ standing part-4-holds) (runs C Λ E body.t-6 (atRet E Post))
+        part-4 : Sq W (‵ (flft κ₀ q₀) ∷ ‵ (flft κ₁ q₁) ∷ ‵ (flft κ₂ q₂) ∷ ‵ (flft κ₃ q₃) ∷ ‵ (flft κ₄ q₄) ∷ ‵ (flft κ₅ q₅) ∷ ‵ (flft κ₆ q₆) ∷ ‵ (flft κ₇ q₇) ∷ ‵ (flft κ₈ q₈) ∷ ‵ (out-last out-write) ∷ standing part-4-holds) (runs C Λ E body.t-6 (atRet E Post))
         part-4 =
             lends-writing-of ! tt (
-            calls-at ! fm (writing-of-contract 𝓤 H A mem run) known-writing-of to-writing-of (and-then ! (load ! (from ! (stop !)) (look ! 23 refl)) (no-more !))
+            calls-at ! fm (writing-of-contract 𝓤 H A mem run) known-writing-of to-writing-of (and-then ! (load ! (from ! (stop !)) (look ! 25 refl)) (no-more !))
             (back-writing-of ! (λ r-writing-of r-writing-of-is said-writing-of.
-            land ! (from ! (stop !)) (init ! 9 refl (LL.lawful Writing-is.the-type Writing-has.the-laws 𝓤 H A W .typed r-writing-of ((Writing-val r-writing-of) ∷ []) r-writing-of-is .0)) $
+            land ! (from ! (stop !)) (init ! 10 refl (LL.lawful Writing-is.the-type Writing-has.the-laws 𝓤 H A W .typed r-writing-of ((Writing-val r-writing-of) ∷ []) r-writing-of-is .0)) $
             part-5 r-writing-of r-writing-of-is said-writing-of)))
 
       abbrev part-3-holds : List Cell
-      part-3-holds = vacant ∷ holds (v out) ∷ holds (v texts) ∷ holds (v references) ∷ holds (v comments) ∷ holds (v features) ∷ holds (v qualifiers) ∷ holds (v letters) ∷ holds (v head) ∷ holds (vint w64 width) ∷ holds (vbool keep) ∷ holds (vbool truncate) ∷ holds (vbool escape) ∷ vacant ∷ holds (vptr (out .ptr .0) (out .ptr .1)) ∷ holds (v out) ∷
-          holds (Head-val r-head-from) ∷ vacant ∷ []
+      part-3-holds = vacant ∷ holds (v out) ∷ holds (v texts) ∷ holds (v references) ∷ holds (v comments) ∷ holds (v features) ∷ holds (v qualifiers) ∷ holds (v locations) ∷ holds (v letters) ∷ holds (v head) ∷ holds (vint w64 width) ∷ holds (vbool keep) ∷ holds (vbool truncate) ∷ holds (vbool escape) ∷ vacant ∷ holds
+          (vptr (out .ptr .0) (out .ptr .1)) ∷ holds (v out) ∷ holds (Head-val r-head-from) ∷ vacant ∷ []
 
-      part-3 : Sq W (‵ (flft κ₀ q₀) ∷ ‵ (flft κ₁ q₁) ∷ ‵ (flft κ₂ q₂) ∷ ‵ (flft κ₃ q₃) ∷ ‵ (flft κ₄ q₄) ∷ ‵ (flft κ₅ q₅) ∷ ‵ (flft κ₆ q₆) ∷ ‵ (flft κ₇ q₇) ∷ ‵ (out-own (out .now)) ∷ ‵ texts-own ∷ ‵ references-own ∷ ‵ comments-own ∷ ‵ features-own ∷ ‵ qualifiers-own ∷ ‵ letters-own ∷ standing part-3-holds) (runs C Λ E body.t-4 (atRet E Post))
+      part-3 : Sq W (‵ (flft κ₀ q₀) ∷ ‵ (flft κ₁ q₁) ∷ ‵ (flft κ₂ q₂) ∷ ‵ (flft κ₃ q₃) ∷ ‵ (flft κ₄ q₄) ∷ ‵ (flft κ₅ q₅) ∷ ‵ (flft κ₆ q₆) ∷ ‵ (flft κ₇ q₇) ∷ ‵ (flft κ₈ q₈) ∷ ‵ (out-own (out .now)) ∷ ‵ texts-own ∷ ‵ references-own ∷ ‵ comments-own ∷ ‵ features-own ∷ ‵ qualifiers-own ∷ ‵ locations-own ∷ ‵ letters-own ∷ standing part-3-holds)
+          (runs C Λ E body.t-4 (atRet E Post))
       part-3 =
-          assigns ! (agg ! (and-then ! (load ! (from ! (stop !)) (look ! 25 refl)) (and-then ! (load ! (from ! (stop !)) (look ! 24 refl)) (and-then ! (load ! (from ! (stop !)) (look ! 26 refl)) (and-then ! (load ! (from ! (stop !)) (look ! 27 refl)) (no-more !)))))) (from ! (stop !))
-          (init ! 32 refl (LL.lawful How-is.the-type How-has.the-laws 𝓤 H A W .typed made-How ((How-val made-How) ∷ []) made-How-is .0)) $
+          assigns ! (agg ! (and-then ! (load ! (from ! (stop !)) (look ! 28 refl)) (and-then ! (load ! (from ! (stop !)) (look ! 27 refl)) (and-then ! (load ! (from ! (stop !)) (look ! 29 refl)) (and-then ! (load ! (from ! (stop !)) (look ! 30 refl)) (no-more !)))))) (from ! (stop !))
+          (init ! 35 refl (LL.lawful How-is.the-type How-has.the-laws 𝓤 H A W .typed made-How ((How-val made-How) ∷ []) made-How-is .0)) $
           lends-write ! tt (
           calls-at ! fm (write-contract 𝓤 H A mem run) known-write to-write
-          (and-then ! (load ! (from ! (stop !)) (look ! 17 refl))
+          (and-then ! (load ! (from ! (stop !)) (look ! 18 refl))
           (and-then ! (load ! (from ! (stop !)) (look ! 4 refl))
           (and-then ! (load ! (from ! (stop !)) (look ! 5 refl))
           (and-then ! (load ! (from ! (stop !)) (look ! 6 refl))
-          (and-then ! (load ! (from ! (stop !)) (look ! 7 refl)) (and-then ! (load ! (from ! (stop !)) (look ! 8 refl)) (and-then ! (load ! (from ! (stop !)) (look ! 9 refl)) (and-then ! (load ! (from ! (stop !)) (look ! 18 refl)) (and-then ! (load ! (from ! (stop !)) (look ! 19 refl)) (no-more !))))))))))
+          (and-then ! (load ! (from ! (stop !)) (look ! 7 refl))
+          (and-then ! (load ! (from ! (stop !)) (look ! 8 refl)) (and-then ! (load ! (from ! (stop !)) (look ! 9 refl)) (and-then ! (load ! (from ! (stop !)) (look ! 10 refl)) (and-then ! (load ! (from ! (stop !)) (look ! 19 refl)) (and-then ! (load ! (from ! (stop !)) (look ! 20 refl)) (no-more !)))))))))))
           (back-write ! (λ r-write r-write-is out-write out-write-long said-write.
-          land ! (from ! (stop !)) (init ! 22 refl (EL.lawful WriteAnswer-is.the-type WriteAnswer-has.the-laws 𝓤 H A W tt .typed r-write ((WriteAnswer-val r-write) ∷ []) r-write-is .0)) $
+          land ! (from ! (stop !)) (init ! 24 refl (EL.lawful WriteAnswer-is.the-type WriteAnswer-has.the-laws 𝓤 H A W tt .typed r-write ((WriteAnswer-val r-write) ∷ []) r-write-is .0)) $
           part-4 r-write r-write-is out-write out-write-long said-write)))
 
     abbrev part-2-holds : List Cell
-    part-2-holds = vacant ∷ holds (v out) ∷ holds (v texts) ∷ holds (v references) ∷ holds (v comments) ∷ holds (v features) ∷ holds (v qualifiers) ∷ holds (v letters) ∷ holds (v head) ∷ holds (vint w64 width) ∷ holds (vbool keep) ∷ holds (vbool truncate) ∷ holds (vbool escape) ∷ vacant ∷ holds (vptr (out .ptr .0) (out .ptr .1)) ∷ holds (v out) ∷
-        vacant ∷ vacant ∷ []
+    part-2-holds = vacant ∷ holds (v out) ∷ holds (v texts) ∷ holds (v references) ∷ holds (v comments) ∷ holds (v features) ∷ holds (v qualifiers) ∷ holds (v locations) ∷ holds (v letters) ∷ holds (v head) ∷ holds (vint w64 width) ∷ holds (vbool keep) ∷ holds (vbool truncate) ∷ holds (vbool escape) ∷ vacant ∷ holds
+        (vptr (out .ptr .0) (out .ptr .1)) ∷ holds (v out) ∷ vacant ∷ vacant ∷ []
 
-    part-2 : Sq W (‵ (flft κ₀ q₀) ∷ ‵ (flft κ₁ q₁) ∷ ‵ (flft κ₂ q₂) ∷ ‵ (flft κ₃ q₃) ∷ ‵ (flft κ₄ q₄) ∷ ‵ (flft κ₅ q₅) ∷ ‵ (flft κ₆ q₆) ∷ ‵ (flft κ₇ q₇) ∷ ‵ (out-own (out .now)) ∷ ‵ texts-own ∷ ‵ references-own ∷ ‵ comments-own ∷ ‵ features-own ∷ ‵ qualifiers-own ∷ ‵ letters-own ∷ ‵ head-own ∷ standing part-2-holds)
-        (runs C Λ E body.t-3 (atRet E Post))
+    part-2 : Sq W (‵ (flft κ₀ q₀) ∷ ‵ (flft κ₁ q₁) ∷ ‵ (flft κ₂ q₂) ∷ ‵ (flft κ₃ q₃) ∷ ‵ (flft κ₄ q₄) ∷ ‵ (flft κ₅ q₅) ∷ ‵ (flft κ₆ q₆) ∷ ‵ (flft κ₇ q₇) ∷ ‵ (flft κ₈ q₈) ∷ ‵ (out-own (out .now)) ∷ ‵ texts-own ∷ ‵ references-own ∷ ‵ comments-own ∷ ‵ features-own ∷ ‵ qualifiers-own ∷ ‵ locations-own ∷ ‵ letters-own ∷ ‵ head-own ∷ standing
+        part-2-holds) (runs C Λ E body.t-3 (atRet E Post))
     part-2 =
         lends-head-from ! tt (
-        calls-at ! fm (head-from-contract 𝓤 H A mem run) known-head-from to-head-from (and-then ! (load ! (from ! (stop !)) (look ! 23 refl)) (no-more !))
+        calls-at ! fm (head-from-contract 𝓤 H A mem run) known-head-from to-head-from (and-then ! (load ! (from ! (stop !)) (look ! 26 refl)) (no-more !))
         (back-head-from ! (λ r-head-from r-head-from-is said-head-from.
-        land ! (from ! (stop !)) (init ! 31 refl (LL.lawful Head-is.the-type Head-has.the-laws 𝓤 H A W .typed r-head-from ((Head-val r-head-from) ∷ []) r-head-from-is .0)) $
+        land ! (from ! (stop !)) (init ! 34 refl (LL.lawful Head-is.the-type Head-has.the-laws 𝓤 H A W .typed r-head-from ((Head-val r-head-from) ∷ []) r-head-from-is .0)) $
         part-3 r-head-from r-head-from-is said-head-from)))
 
     abbrev part-1-holds : List Cell
-    part-1-holds = vacant ∷ holds (v out) ∷ holds (v texts) ∷ holds (v references) ∷ holds (v comments) ∷ holds (v features) ∷ holds (v qualifiers) ∷ holds (v letters) ∷ holds (v head) ∷ holds (vint w64 width) ∷ holds (vbool keep) ∷ holds (vbool truncate) ∷ holds (vbool escape) ∷ vacant ∷ vacant ∷ vacant ∷ vacant ∷ vacant ∷ []
+    part-1-holds = vacant ∷ holds (v out) ∷ holds (v texts) ∷ holds (v references) ∷ holds (v comments) ∷ holds (v features) ∷ holds (v qualifiers) ∷ holds (v locations) ∷ holds (v letters) ∷ holds (v head) ∷ holds (vint w64 width) ∷ holds (vbool keep) ∷ holds (vbool truncate) ∷ holds (vbool escape) ∷ vacant ∷ vacant ∷ vacant ∷ vacant ∷ vacant ∷ []
 
-    part-1 : Sq W (‵ (flft κ₀ q₀) ∷ ‵ (flft κ₁ q₁) ∷ ‵ (flft κ₂ q₂) ∷ ‵ (flft κ₃ q₃) ∷ ‵ (flft κ₄ q₄) ∷ ‵ (flft κ₅ q₅) ∷ ‵ (flft κ₆ q₆) ∷ ‵ (flft κ₇ q₇) ∷ ‵ (out-own (out .now)) ∷ ‵ texts-own ∷ ‵ references-own ∷ ‵ comments-own ∷ ‵ features-own ∷ ‵ qualifiers-own ∷ ‵ letters-own ∷ ‵ head-own ∷ standing part-1-holds)
-        (runs C Λ E body.t-1 (atRet E Post))
+    part-1 : Sq W (‵ (flft κ₀ q₀) ∷ ‵ (flft κ₁ q₁) ∷ ‵ (flft κ₂ q₂) ∷ ‵ (flft κ₃ q₃) ∷ ‵ (flft κ₄ q₄) ∷ ‵ (flft κ₅ q₅) ∷ ‵ (flft κ₆ q₆) ∷ ‵ (flft κ₇ q₇) ∷ ‵ (flft κ₈ q₈) ∷ ‵ (out-own (out .now)) ∷ ‵ texts-own ∷ ‵ references-own ∷ ‵ comments-own ∷ ‵ features-own ∷ ‵ qualifiers-own ∷ ‵ locations-own ∷ ‵ letters-own ∷ ‵ head-own ∷ standing
+        part-1-holds) (runs C Λ E body.t-1 (atRet E Post))
     part-1 =
-        assigns ! (addr ! (from ! (fld ! refl (hop ! (look-in ! 17 (sub ! 0 refl (whole !))) (stop !))))) (from ! (stop !)) (init ! 30 refl (tt, tt)) $
-        assigns ! (agg ! (and-then ! (load ! (from ! (stop !)) (look ! 30 refl)) (and-then ! (load ! (from ! (fld ! refl (stop !))) (look-in ! 17 (sub ! 1 refl (whole !)))) (no-more !)))) (from ! (stop !)) (init ! 31 refl (tt, (tt, (record { fits = out-room .0 }, tt)))) $
+        assigns ! (addr ! (from ! (fld ! refl (hop ! (look-in ! 19 (sub ! 0 refl (whole !))) (stop !))))) (from ! (stop !)) (init ! 33 refl (tt, tt)) $
+        assigns ! (agg ! (and-then ! (load ! (from ! (stop !)) (look ! 33 refl)) (and-then ! (load ! (from ! (fld ! refl (stop !))) (look-in ! 19 (sub ! 1 refl (whole !)))) (no-more !)))) (from ! (stop !)) (init ! 34 refl (tt, (tt, (record { fits = out-room .0 }, tt)))) $
         part-2
 
-    begins : Sq W (locals 𝓤 H A E (vacant ∷ vacant ∷ vacant ∷ vacant ∷ vacant ∷ vacant ∷ vacant ∷ vacant ∷ vacant ∷ vacant ∷ vacant ∷ vacant ∷ vacant ∷ vacant ∷ vacant ∷ vacant ∷ vacant ∷ vacant ∷ []) (raw (Dies 𝓤 H A E) ∷ Had []))
-        (params′ E ((v out) ∷ (v texts) ∷ (v references) ∷ (v comments) ∷ (v features) ∷ (v qualifiers) ∷ (v letters) ∷ (v head) ∷ (vint w64 width) ∷ (vbool keep) ∷ (vbool truncate) ∷ (vbool escape) ∷ []) (runs C Λ E body.t-1 (atRet E Post)))
+    begins : Sq W (locals 𝓤 H A E (vacant ∷ vacant ∷ vacant ∷ vacant ∷ vacant ∷ vacant ∷ vacant ∷ vacant ∷ vacant ∷ vacant ∷ vacant ∷ vacant ∷ vacant ∷ vacant ∷ vacant ∷ vacant ∷ vacant ∷ vacant ∷ vacant ∷ []) (raw (Dies 𝓤 H A E) ∷ Had []))
+        (params′ E ((v out) ∷ (v texts) ∷ (v references) ∷ (v comments) ∷ (v features) ∷ (v qualifiers) ∷ (v locations) ∷ (v letters) ∷ (v head) ∷ (vint w64 width) ∷ (vbool keep) ∷ (vbool truncate) ∷ (vbool escape) ∷ []) (runs C Λ E body.t-1 (atRet E Post)))
     begins =
         params1 ! $ pass1 ! (init ! 1 refl (tt, (tt, (record { fits = out-room .0 }, tt)))) $ pass1 ! (init ! 2 refl (tt, (tt, (record { fits = texts-room .0 }, tt)))) $ pass1 ! (init ! 3 refl (tt, (tt, (record { fits = references-room .0 }, tt)))) $ pass1 ! (init ! 4 refl (tt, (tt, (record { fits = comments-room .0 }, tt)))) $ pass1 !
-        (init ! 5 refl (tt, (tt, (record { fits = features-room .0 }, tt)))) $ pass1 ! (init ! 6 refl (tt, (tt, (record { fits = qualifiers-room .0 }, tt)))) $ pass1 ! (init ! 7 refl (tt, (tt, (record { fits = letters-room .0 }, tt)))) $ pass1 ! (init ! 8 refl (tt, (tt, (record { fits = head-room .0 }, tt)))) $ pass1 !
-        (init ! 9 refl (uint-lawful 𝓤 H A W w64 .typed width ((vint w64 width) ∷ []) width-is .0)) $ pass1 ! (init ! 10 refl (bool-lawful 𝓤 H A W .typed keep ((vbool keep) ∷ []) keep-is .0)) $ pass1 ! (init ! 11 refl (bool-lawful 𝓤 H A W .typed truncate ((vbool truncate) ∷ []) truncate-is .0)) $ pass1 !
-        (init ! 12 refl (bool-lawful 𝓤 H A W .typed escape ((vbool escape) ∷ []) escape-is .0)) $ pass0 ! $
-        move ! (19 ∷ 20 ∷ []) $ opened ! part-1
+        (init ! 5 refl (tt, (tt, (record { fits = features-room .0 }, tt)))) $ pass1 ! (init ! 6 refl (tt, (tt, (record { fits = qualifiers-room .0 }, tt)))) $ pass1 ! (init ! 7 refl (tt, (tt, (record { fits = locations-room .0 }, tt)))) $ pass1 ! (init ! 8 refl (tt, (tt, (record { fits = letters-room .0 }, tt)))) $ pass1 !
+        (init ! 9 refl (tt, (tt, (record { fits = head-room .0 }, tt)))) $ pass1 ! (init ! 10 refl (uint-lawful 𝓤 H A W w64 .typed width ((vint w64 width) ∷ []) width-is .0)) $ pass1 ! (init ! 11 refl (bool-lawful 𝓤 H A W .typed keep ((vbool keep) ∷ []) keep-is .0)) $ pass1 !
+        (init ! 12 refl (bool-lawful 𝓤 H A W .typed truncate ((vbool truncate) ∷ []) truncate-is .0)) $ pass1 ! (init ! 13 refl (bool-lawful 𝓤 H A W .typed escape ((vbool escape) ∷ []) escape-is .0)) $ pass0 ! $
+        move ! (20 ∷ 21 ∷ []) $ opened ! part-1
 
   walk : (C : Calls 𝓤 H) (Λ : Loops 𝓤 H) (fm : FmC 𝓤 H (W .laws) C) (known-head-from : Triple 𝓤 (C #api-head·head-from) (head-from-contract 𝓤 H A mem run)) (known-write : Triple 𝓤 (C #write-record·write) (write-contract 𝓤 H A mem run)) (known-writing-of : Triple 𝓤 (C #api-told·writing-of) (writing-of-contract 𝓤 H A mem run)) → ent 𝓤
-      (onEntry 𝓤 H A f.signature (κ₀, (κ₁, (κ₂, (κ₃, (κ₄, (κ₅, (κ₆, (κ₇, tt)))))))) (q₀, (q₁, (q₂, (q₃, (q₄, (q₅, (q₆, (q₇, tt)))))))) a at-entry)
-      (WpFn 𝓤 H C Λ code.function ((v out) ∷ (v texts) ∷ (v references) ∷ (v comments) ∷ (v features) ∷ (v qualifiers) ∷ (v letters) ∷ (v head) ∷ (vint w64 width) ∷ (vbool keep) ∷ (vbool truncate) ∷ (vbool escape) ∷ []) Post)
+      (onEntry 𝓤 H A f.signature (κ₀, (κ₁, (κ₂, (κ₃, (κ₄, (κ₅, (κ₆, (κ₇, (κ₈, tt))))))))) (q₀, (q₁, (q₂, (q₃, (q₄, (q₅, (q₆, (q₇, (q₈, tt))))))))) a at-entry)
+      (WpFn 𝓤 H C Λ code.function ((v out) ∷ (v texts) ∷ (v references) ∷ (v comments) ∷ (v features) ∷ (v qualifiers) ∷ (v locations) ∷ (v letters) ∷ (v head) ∷ (vint w64 width) ∷ (vbool keep) ∷ (vbool truncate) ∷ (vbool escape) ∷ []) Post)
   walk C Λ fm known-head-from known-write known-writing-of =
-      qed W (Had []) ∵ enter ! C Λ code.function ((v out) ∷ (v texts) ∷ (v references) ∷ (v comments) ∷ (v features) ∷ (v qualifiers) ∷ (v letters) ∷ (v head) ∷ (vint w64 width) ∷ (vbool keep) ∷ (vbool truncate) ∷ (vbool escape) ∷ []) _ $
-      allocs-all ! (λ l₀ l₁ l₂ l₃ l₄ l₅ l₆ l₇ l₈ l₉ l₁₀ l₁₁ l₁₂ l₁₃ l₁₄ l₁₅ l₁₆ l₁₇. begins C Λ fm known-head-from known-write known-writing-of l₀ l₁ l₂ l₃ l₄ l₅ l₆ l₇ l₈ l₉ l₁₀ l₁₁ l₁₂ l₁₃ l₁₄ l₁₅ l₁₆ l₁₇)
+      qed W (Had []) ∵ enter ! C Λ code.function ((v out) ∷ (v texts) ∷ (v references) ∷ (v comments) ∷ (v features) ∷ (v qualifiers) ∷ (v locations) ∷ (v letters) ∷ (v head) ∷ (vint w64 width) ∷ (vbool keep) ∷ (vbool truncate) ∷ (vbool escape) ∷ []) _ $
+      allocs-all ! (λ l₀ l₁ l₂ l₃ l₄ l₅ l₆ l₇ l₈ l₉ l₁₀ l₁₁ l₁₂ l₁₃ l₁₄ l₁₅ l₁₆ l₁₇ l₁₈. begins C Λ fm known-head-from known-write known-writing-of l₀ l₁ l₂ l₃ l₄ l₅ l₆ l₇ l₈ l₉ l₁₀ l₁₁ l₁₂ l₁₃ l₁₄ l₁₅ l₁₆ l₁₇ l₁₈)
 
 module _ {M : Type 1} (𝓤 : URA M) (H : Heap 𝓤) (A : Atoms 𝓤) (W : Given 𝓤 H A) (mem : Memory → SProp 𝓤) (run : Routine → Fun 𝓤) (𝓣 : Tables 𝓤 H) (known-head-from : Triple 𝓤 (𝓣 .C #api-head·head-from) (head-from-contract 𝓤 H A mem run)) (known-write : Triple 𝓤 (𝓣 .C #write-record·write) (write-contract 𝓤 H A mem run))
     (known-writing-of : Triple 𝓤 (𝓣 .C #api-told·writing-of) (writing-of-contract 𝓤 H A mem run)) where
   vilggodan-write-walks : Walks 𝓤 H A f.ended stayed (WpFn 𝓤 H (𝓣 .C) (𝓣 .Λ) code.function) (f.clauses 𝓤 H A mem run)
   vilggodan-write-walks = walked 𝓤 H A f.ended stayed (f.clauses 𝓤 H A mem run) (WpFn 𝓤 H (𝓣 .C) (𝓣 .Λ) code.function)
-      (λ κs. (slice-vals, (slice-vals, (slice-vals, (slice-vals, (slice-vals, (slice-vals, (slice-vals, (slice-vals, (uint-vals w64, (bool-vals, (bool-vals, (bool-vals, tt)))))))))))))
+      (λ κs. (slice-vals, (slice-vals, (slice-vals, (slice-vals, (slice-vals, (slice-vals, (slice-vals, (slice-vals, (slice-vals, (uint-vals w64, (bool-vals, (bool-vals, (bool-vals, tt))))))))))))))
       (λ κs. (
         mut-slice-tells (named 0) (κs .0) u8,
         (
@@ -473,35 +484,41 @@ module _ {M : Type 1} (𝓤 : URA M) (H : Heap 𝓤) (A : Atoms 𝓤) (W : Given
             shr-slice-tells (named 2) (κs .1 .1 .0) usize,
             (
               shr-slice-tells (named 3) (κs .1 .1 .1 .0) usize,
-              (shr-slice-tells (named 4) (κs .1 .1 .1 .1 .0) Feature-is.the-row, (shr-slice-tells (named 5) (κs .1 .1 .1 .1 .1 .0) usize, (shr-slice-tells (named 6) (κs .1 .1 .1 .1 .1 .1 .0) u8, (shr-slice-tells (named 7) (κs .1 .1 .1 .1 .1 .1 .1 .0) usize, (uint-tells w64, (bool-tells, (bool-tells, (bool-tells, tt)))))))),
+              (
+                shr-slice-tells (named 4) (κs .1 .1 .1 .1 .0) Feature-is.the-row,
+                (shr-slice-tells (named 5) (κs .1 .1 .1 .1 .1 .0) usize, (shr-slice-tells (named 6) (κs .1 .1 .1 .1 .1 .1 .0) usize, (shr-slice-tells (named 7) (κs .1 .1 .1 .1 .1 .1 .1 .0) u8, (shr-slice-tells (named 8) (κs .1 .1 .1 .1 .1 .1 .1 .1 .0) usize, (uint-tells w64, (bool-tells, (bool-tells, (bool-tells, tt)))))))),
+              ),
             ),
           ),
         ),
       ))
       (λ κs qs bounds a g are. via 𝓤 _ (fst∗ 𝓤 _ (emp 𝓤))
-      (walk 𝓤 H A W mem run (κs .0) (κs .1 .0) (κs .1 .1 .0) (κs .1 .1 .1 .0) (κs .1 .1 .1 .1 .0) (κs .1 .1 .1 .1 .1 .0) (κs .1 .1 .1 .1 .1 .1 .0) (κs .1 .1 .1 .1 .1 .1 .1 .0) (qs .0) (qs .1 .0) (qs .1 .1 .0) (qs .1 .1 .1 .0) (qs .1 .1 .1 .1 .0) (qs .1 .1 .1 .1 .1 .0) (qs .1 .1 .1 .1 .1 .1 .0) (qs .1 .1 .1 .1 .1 .1 .1 .0) (a .0) (a .1 .0)
-      (a .1 .1 .0) (a .1 .1 .1 .0) (a .1 .1 .1 .1 .0) (a .1 .1 .1 .1 .1 .0) (a .1 .1 .1 .1 .1 .1 .0) (a .1 .1 .1 .1 .1 .1 .1 .0) (a .1 .1 .1 .1 .1 .1 .1 .1 .0) (a .1 .1 .1 .1 .1 .1 .1 .1 .1 .0) (a .1 .1 .1 .1 .1 .1 .1 .1 .1 .1 .0) (a .1 .1 .1 .1 .1 .1 .1 .1 .1 .1 .1 .0) (are .0 .0 .1) (are .1 .0 .0 .1) (are .1 .1 .0 .0 .1)
-      (are .1 .1 .1 .0 .0 .1) (are .1 .1 .1 .1 .0 .0 .1) (are .1 .1 .1 .1 .1 .0 .0 .1) (are .1 .1 .1 .1 .1 .1 .0 .0 .1) (are .1 .1 .1 .1 .1 .1 .1 .0 .0 .1) (are .1 .1 .1 .1 .1 .1 .1 .1 .0) (are .1 .1 .1 .1 .1 .1 .1 .1 .1 .0) (are .1 .1 .1 .1 .1 .1 .1 .1 .1 .1 .0) (are .1 .1 .1 .1 .1 .1 .1 .1 .1 .1 .1 .0) (𝓣 .C) (𝓣 .Λ)
-      (fmOf 𝓤 H (W .laws) 𝓣) known-head-from known-write known-writing-of))
+      (walk 𝓤 H A W mem run (κs .0) (κs .1 .0) (κs .1 .1 .0) (κs .1 .1 .1 .0) (κs .1 .1 .1 .1 .0) (κs .1 .1 .1 .1 .1 .0) (κs .1 .1 .1 .1 .1 .1 .0) (κs .1 .1 .1 .1 .1 .1 .1 .0) (κs .1 .1 .1 .1 .1 .1 .1 .1 .0) (qs .0) (qs .1 .0) (qs .1 .1 .0) (qs .1 .1 .1 .0) (qs .1 .1 .1 .1 .0) (qs .1 .1 .1 .1 .1 .0) (qs .1 .1 .1 .1 .1 .1 .0)
+      (qs .1 .1 .1 .1 .1 .1 .1 .0) (qs .1 .1 .1 .1 .1 .1 .1 .1 .0) (a .0) (a .1 .0) (a .1 .1 .0) (a .1 .1 .1 .0) (a .1 .1 .1 .1 .0) (a .1 .1 .1 .1 .1 .0) (a .1 .1 .1 .1 .1 .1 .0) (a .1 .1 .1 .1 .1 .1 .1 .0) (a .1 .1 .1 .1 .1 .1 .1 .1 .0) (a .1 .1 .1 .1 .1 .1 .1 .1 .1 .0) (a .1 .1 .1 .1 .1 .1 .1 .1 .1 .1 .0)
+      (a .1 .1 .1 .1 .1 .1 .1 .1 .1 .1 .1 .0) (a .1 .1 .1 .1 .1 .1 .1 .1 .1 .1 .1 .1 .0) (are .0 .0 .1) (are .1 .0 .0 .1) (are .1 .1 .0 .0 .1) (are .1 .1 .1 .0 .0 .1) (are .1 .1 .1 .1 .0 .0 .1) (are .1 .1 .1 .1 .1 .0 .0 .1) (are .1 .1 .1 .1 .1 .1 .0 .0 .1) (are .1 .1 .1 .1 .1 .1 .1 .0 .0 .1) (are .1 .1 .1 .1 .1 .1 .1 .1 .0 .0 .1)
+      (are .1 .1 .1 .1 .1 .1 .1 .1 .1 .0) (are .1 .1 .1 .1 .1 .1 .1 .1 .1 .1 .0) (are .1 .1 .1 .1 .1 .1 .1 .1 .1 .1 .1 .0) (are .1 .1 .1 .1 .1 .1 .1 .1 .1 .1 .1 .1 .0) (𝓣 .C) (𝓣 .Λ) (fmOf 𝓤 H (W .laws) 𝓣) known-head-from known-write known-writing-of))
 
   vilggodan-write-meets : Meets 𝓤 H A f.signature (WpFn 𝓤 H (𝓣 .C) (𝓣 .Λ) code.function) (f.spec 𝓤 H A mem run)
   vilggodan-write-meets = walk-meets 𝓤 H A f.ended stayed W (
-    goes-gave-slice 𝓤 H A W 8 0 tt (plain (λ _. u8)),
+    goes-gave-slice 𝓤 H A W 9 0 tt (plain (λ _. u8)),
     (
-      goes-dropped 𝓤 H A W 8 (shrSliceOf (1 ∷ []) tt (plain (λ _. u8))) yes (λ κs x f. refl),
+      goes-dropped 𝓤 H A W 9 (shrSliceOf (1 ∷ []) tt (plain (λ _. u8))) yes (λ κs x f. refl),
       (
-        goes-dropped 𝓤 H A W 8 (shrSliceOf (2 ∷ []) tt (plain (λ _. usize))) yes (λ κs x f. refl),
+        goes-dropped 𝓤 H A W 9 (shrSliceOf (2 ∷ []) tt (plain (λ _. usize))) yes (λ κs x f. refl),
         (
-          goes-dropped 𝓤 H A W 8 (shrSliceOf (3 ∷ []) tt (plain (λ _. usize))) yes (λ κs x f. refl),
+          goes-dropped 𝓤 H A W 9 (shrSliceOf (3 ∷ []) tt (plain (λ _. usize))) yes (λ κs x f. refl),
           (
-            goes-dropped 𝓤 H A W 8 (shrSliceOf (4 ∷ []) tt (plain (λ _. Feature-is.the-row))) yes (λ κs x f. refl),
+            goes-dropped 𝓤 H A W 9 (shrSliceOf (4 ∷ []) tt (plain (λ _. Feature-is.the-row))) yes (λ κs x f. refl),
             (
-              goes-dropped 𝓤 H A W 8 (shrSliceOf (5 ∷ []) tt (plain (λ _. usize))) yes (λ κs x f. refl),
+              goes-dropped 𝓤 H A W 9 (shrSliceOf (5 ∷ []) tt (plain (λ _. usize))) yes (λ κs x f. refl),
               (
-                goes-dropped 𝓤 H A W 8 (shrSliceOf (6 ∷ []) tt (plain (λ _. u8))) yes (λ κs x f. refl),
+                goes-dropped 𝓤 H A W 9 (shrSliceOf (6 ∷ []) tt (plain (λ _. usize))) yes (λ κs x f. refl),
                 (
-                  goes-dropped 𝓤 H A W 8 (shrSliceOf (7 ∷ []) tt (plain (λ _. usize))) yes (λ κs x f. refl),
-                  (goes-dropped 𝓤 H A W 8 (plain (λ _. usize)) yes (λ κs x f. refl), (goes-dropped 𝓤 H A W 8 (plain (λ _. bool)) yes (λ κs x f. refl), (goes-dropped 𝓤 H A W 8 (plain (λ _. bool)) yes (λ κs x f. refl), (goes-dropped 𝓤 H A W 8 (plain (λ _. bool)) yes (λ κs x f. refl), tt)))),
+                  goes-dropped 𝓤 H A W 9 (shrSliceOf (7 ∷ []) tt (plain (λ _. u8))) yes (λ κs x f. refl),
+                  (
+                    goes-dropped 𝓤 H A W 9 (shrSliceOf (8 ∷ []) tt (plain (λ _. usize))) yes (λ κs x f. refl),
+                    (goes-dropped 𝓤 H A W 9 (plain (λ _. usize)) yes (λ κs x f. refl), (goes-dropped 𝓤 H A W 9 (plain (λ _. bool)) yes (λ κs x f. refl), (goes-dropped 𝓤 H A W 9 (plain (λ _. bool)) yes (λ κs x f. refl), (goes-dropped 𝓤 H A W 9 (plain (λ _. bool)) yes (λ κs x f. refl), tt)))),
+                  ),
                 ),
               ),
             ),

@@ -46,8 +46,8 @@ number-at-requires-3 c κs = search needs
 number-at-requires-4 : tie.Need-number-at-requires-4
 number-at-requires-4 c κs = search needs
 
-text-at-requires-8 : tie.Need-text-at-requires-8
-text-at-requires-8 c κs = search needs
+contig-at-requires : tie.Need-contig-at-requires
+contig-at-requires c κs = search needs
 
 number-at-requires-5 : tie.Need-number-at-requires-5
 number-at-requires-5 c κs = search needs
@@ -70,7 +70,7 @@ returns c =
     let c17 = c15 .before .before in
     head-is _ _ _ _ _ _ _ _ _ _ _ _ _ _ _ _ _ _ (c17 .pre) (c15 .text-at .ensures) (c14 .text-at2 .ensures) (c13 .number-at .ensures) (c12 .span-at .ensures) (c11 .date-at .ensures) (c10 .text-at3 .ensures)
     (c9 .text-at4 .ensures) (c8 .text-at5 .ensures) (c7 .text-at6 .ensures) (c6 .text-at7 .ensures) (c5 .source-at .ensures) (c4 .number-at2 .ensures)
-    (c3 .number-at3 .ensures) (c .before .before .number-at4 .ensures) (c .before .text-at8 .ensures) (c .number-at5 .ensures)
+    (c3 .number-at3 .ensures) (c .before .before .number-at4 .ensures) (c .before .contig-at .ensures) (c .number-at5 .ensures)
 
 pub head-in-spec : {M : Type 1} → statement M
 head-in-spec =
@@ -90,6 +90,6 @@ head-in-spec =
     number-at-requires-2
     number-at-requires-3
     number-at-requires-4
-    text-at-requires-8
+    contig-at-requires
     number-at-requires-5
     returns)

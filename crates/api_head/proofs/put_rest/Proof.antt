@@ -11,8 +11,8 @@ put-two-requires c κs = search needs
 put-number-requires : tie.Need-put-number-requires
 put-number-requires c κs = search needs
 
-put-text-requires : tie.Need-put-text-requires
-put-text-requires c κs = search needs
+put-contig-requires : tie.Need-put-contig-requires
+put-contig-requires c κs = search needs
 
 put-number-requires-2 : tie.Need-put-number-requires-2
 put-number-requires-2 c κs = search needs
@@ -26,7 +26,7 @@ returns c =
     let c6 = c .before .before .before .before .before .before in
     let c10 = c6 .before .before .before .before in
     let c14 = c10 .before .before .before .before in
-    writes-append (writes-append (writes-append (c14 .put-two .ensures) (c10 .put-number .ensures)) (c6 .put-text .ensures)) (c .before .before .put-number2 .ensures)
+    writes-append (writes-append (writes-append (c14 .put-two .ensures) (c10 .put-number .ensures)) (c6 .put-contig .ensures)) (c .before .before .put-number2 .ensures)
 
 pub put-rest-spec : {M : Type 1} → statement M
 put-rest-spec =
@@ -34,7 +34,7 @@ put-rest-spec =
     (tie.spec
     put-two-requires
     put-number-requires
-    put-text-requires
+    put-contig-requires
     put-number-requires-2
     same-length
     returns)

@@ -75,7 +75,7 @@ abbrev wrapping : Body
 wrapping = assign (place 5 []) (aggregate (int w8 0 ∷ copy (place 8 []) ∷ []))
 
 abbrev copying : Body
-copying = seq (assign (place 6 []) (op2 (mul unsigned) (copy (place 2 [])) (int w64 48)))
+copying = seq (assign (place 6 []) (op2 (mul unsigned) (copy (place 2 [])) (int w64 64)))
     (seq (assign (place 7 []) (op2 offset (copy (place 1 (field 0 ∷ []))) (copy (place 6 []))))
     (seq (assign (place 8 []) (rvOpd (copy (place 7 (deref T′.mir ∷ []))))) wrapping))
 
@@ -84,7 +84,7 @@ made {x} g = EL.owes S.the-type S′.the-laws (Row x) (g, tt)
 
 -- a row, which stands for what lies past the list's end
 none : Feature
-none = record { kind = record { start = 0; length = 0 }; location = record { start = 0; length = 0 }; first = 0; count = 0 }
+none = record { kind = record { start = 0; length = 0 }; location = record { start = 0; length = 0 }; first = 0; count = 0; row = 0; rows = 0 }
 
 module _ {M : Type 1} (𝓤 : URA M) (H : Heap 𝓤) (A : Atoms 𝓤) (W : Given 𝓤 H A) (mem : Memory → SProp 𝓤) (run : Routine → Fun 𝓤) (κ : Lft) (q : Share) (s : RefT (List Feature)) (i : ℕ) where
   abbrev ys : List Feature
@@ -118,7 +118,7 @@ module _ {M : Type 1} (𝓤 : URA M) (H : Heap 𝓤) (A : Atoms 𝓤) (W : Given
       nothing ! $ move ! (1 ∷ 0 ∷ []) $ join ! $ nothing ! $ move ! (3 ∷ 0 ∷ []) $ fjoin ! $ move ! (2 ∷ 0 ∷ []) $ fjoin ! $ move ! (1 ∷ 0 ∷ []) $
       frame ! $ frame ! $ owned ! S.the-row (Is S.the-row) (EL.makes S.the-type S′.the-plain 𝓤 H A) r _ is $ done !
 
-  scaled : Room T.the-row (length ys) → i < length ys → i * 48 < 2 ^ 64
+  scaled : Room T.the-row (length ys) → i < length ys → i * 64 < 2 ^ 64
   scaled room l = omega (arith, room .1, l)
 
   module _ (C : Calls 𝓤 H) (Λ : Loops 𝓤 H) (l₀ l₁ l₂ l₃ l₄ l₅ l₆ l₇ l₈ : ℕ) where
@@ -162,7 +162,7 @@ module _ {M : Type 1} (𝓤 : URA M) (H : Heap 𝓤) (A : Atoms 𝓤) (W : Given
     within t room l =
         assigns ! (bin ! (load ! (from ! (stop !)) (look ! 16 refl)) (lit ! tt) (record { fits = scaled room l })) (from ! (stop !)) (init ! 8 refl (tt, record { fits = scaled room l })) $
         assigns ! (bin ! (load ! (from ! (fld ! refl (stop !))) (look-in ! 18 (sub ! 0 refl (whole !)))) (load ! (from ! (stop !)) (look ! 8 refl)) tt) (from ! (stop !)) (init ! 6 refl (tt, tt)) $
-        rewrite ! 6 (λ (p : ℕ). ‵ (fat fullShare tyPtr l₇ 0 (vptr b p))) (sym (place-is 48 o i)) refl $
+        rewrite ! 6 (λ (p : ℕ). ‵ (fat fullShare tyPtr l₇ 0 (vptr b p))) (sym (place-is 64 o i)) refl $
         -- of the slice's second copy the fractured borrow is kept
         fsplit ! $ drop ! $ fsplit ! $ drop ! $ move ! (0 ∷ 1 ∷ []) $
         looks-slice ! tt T.the-row (Is T.the-row) (shows 𝓤 H A T.the-row) vals (LL.tells T.the-type T′.the-laws) (LL.copy T.the-type T′.the-copy 𝓤 H A W) ys b o (λ q′.

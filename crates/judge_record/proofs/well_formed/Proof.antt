@@ -1,6 +1,6 @@
 -- The tests of the definition, in its order.
 use Rattle.judge_record.proofs.Laws.{with-first, formed-is}
-use Rattle.judge_rooms.specs.Steps.{both-is, held, failed}
+use Rattle.judge_rooms.specs.Steps.{held, failed}
 use borrow.Author.Needs.{needs}
 use denote.Ref.{now}
 use mathlib.Core.Path.{_∙_}
@@ -28,20 +28,14 @@ returns-2 c =
     held _ _ _ _ (with-first (a .named) _ _ _ (c .before .before .before .both .ensures) (c .before .before .before .before .locus-prints .ensures)) (c .before .before .if1 .left) (failed _ _ _ (c .before .header-passes .ensures) (c .if2 .taken)) ∙
     formed-is (now (a .texts)) (now (a .references)) (now (a .comments)) (now (a .letters)) (a .head) (a .named) (a .width)
 
-text-passes-requires : tie.Need-text-passes-requires
-text-passes-requires c κs = c .before .before .before .before .before .before .before .before .before .pre .head .contig
-
 first-letters-fine-requires : tie.Need-first-letters-fine-requires
-first-letters-fine-requires c κs = c .before .before .before .before .before .before .before .before .before .before .pre .letters
-
-both-requires-2 : tie.Need-both-requires-2
-both-requires-2 c κs = search needs
+first-letters-fine-requires c κs = c .before .before .before .before .before .before .before .before .before .pre .letters
 
 returns-3 : tie.Need-returns-3
 returns-3 c =
-    let a = c .before .before .before .before .before .before .before .before .before .before .before .before .args in
-    held _ _ _ _ (with-first (a .named) _ _ _ (c .before .before .before .before .before .before .both .ensures) (c .before .before .before .before .before .before .before .locus-prints .ensures)) (c .before .before .before .before .before .if1 .left)
-    (held _ _ _ _ (c .before .before .before .before .header-passes .ensures) (c .before .before .before .if2 .left) (both-is _ _ _ _ _ (c .both2 .ensures) (c .before .before .text-passes .ensures) (c .before .first-letters-fine .ensures))) ∙
+    let a = c .before .before .before .before .before .before .before .before .before .before .args in
+    held _ _ _ _ (with-first (a .named) _ _ _ (c .before .before .before .before .both .ensures) (c .before .before .before .before .before .locus-prints .ensures)) (c .before .before .before .if1 .left)
+    (held _ _ _ _ (c .before .before .header-passes .ensures) (c .before .if2 .left) (c .first-letters-fine .ensures)) ∙
     formed-is (now (a .texts)) (now (a .references)) (now (a .comments)) (now (a .letters)) (a .head) (a .named) (a .width)
 
 pub well-formed-spec : {M : Type 1} → statement M
@@ -53,7 +47,5 @@ well-formed-spec =
     returns
     header-passes-requires
     returns-2
-    text-passes-requires
     first-letters-fine-requires
-    both-requires-2
     returns-3)

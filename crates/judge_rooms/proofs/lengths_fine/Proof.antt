@@ -1,7 +1,7 @@
--- The five rooms, joined from the last to the first.
+-- The six rooms, joined from the last to the first.
 use Rattle.spec_format.specs.Rooms.{lengthsFine}
-use Rattle.judge_rooms.specs.Steps.{both-is}
 use borrow.Author.Needs.{needs}
+use mathlib.Core.Path.{_∙_}
 use Rattle.judge_rooms.proofs.lengths_fine.Statement.{statement}
 use Rattle.judge_rooms.proofs.lengths_fine.Tie as tie
 
@@ -17,9 +17,12 @@ both-requires-3 c κs = search needs
 both-requires-4 : tie.Need-both-requires-4
 both-requires-4 c κs = search needs
 
+both-requires-5 : tie.Need-both-requires-5
+both-requires-5 c κs = search needs
+
 returns : tie.Need-returns
 unfolding lengthsFine
-returns c = search (both-is, needs) depth 20 fits 20000
+returns c = c .both5 .ensures ∙ rw (c .before .both4 .ensures, c .before .before .both3 .ensures, c .before .before .before .both2 .ensures, c .before .before .before .before .both .ensures)
 
 pub lengths-fine-spec : {M : Type 1} → statement M
 lengths-fine-spec =
@@ -29,4 +32,5 @@ lengths-fine-spec =
     both-requires-2
     both-requires-3
     both-requires-4
+    both-requires-5
     returns)

@@ -1,7 +1,7 @@
 -- The five tests of the definition that are not of features, in its order.
 use Rattle.spec_format.specs.Rooms.{roomsFine, headFine, countsFine, referenceRowFine, commentRowFine, featuresFine, roomsIn}
 use Rattle.judge_rooms.proofs.Laws.{counts-held, last}
-use Rattle.judge_rooms.specs.Parts.{noRows}
+use Rattle.judge_rooms.specs.Parts.{restHead}
 use Rattle.judge_rooms.specs.Steps.{held, failed}
 use borrow.Author.Needs.{needs}
 use denote.Ref.{now}
@@ -31,7 +31,7 @@ unfolding roomsFine headFine countsFine
 returns-3 c = held _ _ _ _ (c .before .before .before .before .before .lengths-fine .ensures) (c .before .before .before .before .if1 .left) (held _ _ _ _ (c .before .before .before .head-fine .ensures) (c .before .before .if2 .left) (failed _ _ _ (c .before .counts-fine .ensures) (c .if3 .taken)))
 
 references-fine-requires : tie.Need-references-fine-requires
-references-fine-requires c κs = let a = c .before .before .before .before .before .before .before .before .before .before .before .args in counts-held (roomsIn [] (now (a .references)) (now (a .comments)) [] [] (now (a .letters))) (noRows (a .head)) _ (c .before .counts-fine .ensures) (c .if3 .left) .references
+references-fine-requires c κs = let a = c .before .before .before .before .before .before .before .before .before .before .before .before .args in counts-held (roomsIn [] (now (a .references)) (now (a .comments)) [] [] [] (now (a .letters))) (restHead (a .head)) _ (c .before .counts-fine .ensures) (c .if3 .left) .references
 
 returns-4 : tie.Need-returns-4
 unfolding roomsFine headFine countsFine referenceRowFine
@@ -40,7 +40,7 @@ returns-4 c =
     held _ _ _ _ (d .before .before .before .before .lengths-fine .ensures) (d .before .before .before .if1 .left) (held _ _ _ _ (d .before .before .head-fine .ensures) (d .before .if2 .left) (held _ _ _ _ (d .counts-fine .ensures) (c .before .before .if3 .left) (failed _ _ _ (c .before .references-fine .ensures) (c .if4 .taken))))
 
 comments-fine-requires : tie.Need-comments-fine-requires
-comments-fine-requires c κs = let a = c .before .before .before .before .before .before .before .before .before .before .before .before .before .args in counts-held (roomsIn [] (now (a .references)) (now (a .comments)) [] [] (now (a .letters))) (noRows (a .head)) _ (c .before .before .before .counts-fine .ensures) (c .before .before .if3 .left) .comments
+comments-fine-requires c κs = let a = c .before .before .before .before .before .before .before .before .before .before .before .before .before .before .args in counts-held (roomsIn [] (now (a .references)) (now (a .comments)) [] [] [] (now (a .letters))) (restHead (a .head)) _ (c .before .before .before .counts-fine .ensures) (c .before .before .if3 .left) .comments
 
 returns-5 : tie.Need-returns-5
 unfolding roomsFine headFine countsFine referenceRowFine commentRowFine featuresFine

@@ -11,11 +11,11 @@ line-at-requires c κs = search (sequence, firsts, needs)
 enum-known-end : tie.Need-enum-known-end
 enum-known-end c = search (sequence, firsts, needs)
 
-visible-on-requires : tie.Need-visible-on-requires
-visible-on-requires c κs = search (sequence, firsts, needs)
+started-requires : tie.Need-started-requires
+started-requires c κs = search (sequence, firsts, needs)
 
-line-state-requires : tie.Need-line-state-requires
-line-state-requires c κs = search (sequence, firsts, needs)
+utf8-on-requires : tie.Need-utf8-on-requires
+utf8-on-requires c κs = search (sequence, firsts, needs)
 
 sub-further-lines : tie.Need-sub-further-lines
 sub-further-lines c = search (sequence, firsts, needs)
@@ -44,8 +44,8 @@ bare-at-spec =
     (tie.spec
     line-at-requires
     enum-known-end
-    visible-on-requires
-    line-state-requires
+    started-requires
+    utf8-on-requires
     sub-further-lines
     further-lines-requires
     enum-told

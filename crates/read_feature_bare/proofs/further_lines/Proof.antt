@@ -8,10 +8,10 @@ use Rattle.read_feature_bare.proofs.further_lines.Statement.{statement}
 use Rattle.read_feature_bare.proofs.further_lines.Tie as tie
 
 abbrev Inv-loop : tie.InvT-loop
-Inv-loop s at indent first seen i₀ n₀ visible₀ state₀ i n visible state = Going s at indent first seen state₀ i n visible state
+Inv-loop s at indent first i₀ n₀ state₀ i n state = Going s at indent first state₀ i n state
 
 abbrev μ-loop : tie.MeasureT-loop
-μ-loop s at indent first seen i₀ n₀ visible₀ state₀ i n visible state = length s - i
+μ-loop s at indent first i₀ n₀ state₀ i n state = length s - i
 
 loop-holds : tie.Need-loop-holds Inv-loop μ-loop
 loop-holds c = search (goings, needs)
@@ -28,14 +28,11 @@ sub-length c = omega (arith, further-places (c .before .before .before .further-
 add-length : tie.Need-add-length Inv-loop μ-loop
 add-length c = omega (arith, further-places (c .before .before .before .further-at .ensures) (c .before .from .given .1))
 
-visible-on-requires : tie.Need-visible-on-requires Inv-loop μ-loop
-visible-on-requires c κs = let p = further-places (c .before .before .before .further-at .ensures) (c .before .from .given .1) in search needs
-
 utf8-on-requires : tie.Need-utf8-on-requires Inv-loop μ-loop
-utf8-on-requires c κs = let p = further-places (c .before .before .before .before .further-at .ensures) (c .before .before .from .given .1) in search needs
+utf8-on-requires c κs = let p = further-places (c .before .before .before .further-at .ensures) (c .before .from .given .1) in search needs
 
 loop-less : tie.Need-loop-less Inv-loop μ-loop
-loop-less c = omega (arith, further-places (c .before .before .before .before .before .further-at .ensures) (c .before .before .before .from .given .1))
+loop-less c = omega (arith, further-places (c .before .before .before .before .further-at .ensures) (c .before .before .from .given .1))
 
 loop-again : tie.Need-loop-again Inv-loop μ-loop
 loop-again c = search (goings, needs)
@@ -69,7 +66,6 @@ further-lines-spec =
     enum-known-from
     sub-length
     add-length
-    visible-on-requires
     utf8-on-requires
     loop-less
     loop-again

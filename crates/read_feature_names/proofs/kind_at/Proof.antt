@@ -1,6 +1,5 @@
 -- `read_feature_names::kind_at` meets its contract. Assumes nothing.
 use Rattle.scan_bytes.specs.Parts.{length-part}
-use Rattle.spec_format.specs.Features.{feature}
 use Rattle.spec_format.specs.Bytes.{but}
 use Rattle.spec_format.specs.Readers.{until}
 use Rattle.scan_bytes.specs.Sequence.{text-no, text-cut, text-is, text-some, text-places}
@@ -30,15 +29,12 @@ kind-from-requires c κs =
     (text-some (until (but 32) (drop (c5 .args .at) (now (c5 .args .s)))) (c3 .spaces1 .ensures) (c .before .first .given .1), text-places (c3 .spaces1 .ensures) (c .before .first .given .1) .1)
 
 returns : tie.Need-returns
-unfolding feature
 returns c = record { is = text-no _ _ _ _ _ (c .before .before .spaces1 .ensures) (c .enum-told .given .1); place = tt }
 
 returns-2 : tie.Need-returns-2
-unfolding feature
 returns-2 c = record { is = text-cut _ _ _ _ _ (c .before .before .spaces1 .ensures) (c .enum-told2 .given .1); place = tt }
 
 returns-3 : tie.Need-returns-3
-unfolding feature
 returns-3 c = let w = text-places (c .before .before .before .before .spaces1 .ensures) (c .before .before .first .given .1) in rw (text-is (c .before .before .before .before .spaces1 .ensures) (c .before .before .first .given .1), length-part _ _ _ (w .0) (w .1)) (c .kind-from .ensures)
 
 pub kind-at-spec : {M : Type 1} → statement M

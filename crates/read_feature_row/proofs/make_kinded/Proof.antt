@@ -4,11 +4,11 @@ use Rattle.read_feature_row.proofs.Laws.{placing}
 use Rattle.read_feature_row.proofs.make_kinded.Statement.{statement}
 use Rattle.read_feature_row.proofs.make_kinded.Tie as tie
 
-sub-location-at : tie.Need-sub-location-at
-sub-location-at c = search needs
+sub-indent : tie.Need-sub-indent
+sub-indent c = search needs
 
-location-at-requires : tie.Need-location-at-requires
-location-at-requires c κs = search needs
+put-location-requires : tie.Need-put-location-requires
+put-location-requires c κs = search needs
 
 enum-known-length : tie.Need-enum-known-length
 enum-known-length c = search needs
@@ -34,11 +34,20 @@ same-length c = search needs
 same-length-2 : tie.Need-same-length-2
 same-length-2 c = search needs
 
+same-length-3 : tie.Need-same-length-3
+same-length-3 c = search needs
+
 returns : tie.Need-returns
 returns c = search (placing, needs)
 
+same-length-4 : tie.Need-same-length-4
+same-length-4 c = search needs
+
 returns-2 : tie.Need-returns-2
 returns-2 c = search (placing, needs)
+
+same-length-5 : tie.Need-same-length-5
+same-length-5 c = search needs
 
 returns-3 : tie.Need-returns-3
 returns-3 c = search (placing, needs)
@@ -47,8 +56,8 @@ pub make-kinded-spec : {M : Type 1} → statement M
 make-kinded-spec =
     tie.close
     (tie.spec
-    sub-location-at
-    location-at-requires
+    sub-indent
+    put-location-requires
     enum-known-length
     make-located-requires
     enum-told
@@ -57,6 +66,9 @@ make-kinded-spec =
     no-row-requires-2
     same-length
     same-length-2
+    same-length-3
     returns
+    same-length-4
     returns-2
+    same-length-5
     returns-3)

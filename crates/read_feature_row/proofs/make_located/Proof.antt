@@ -1,7 +1,7 @@
 -- `make_located`: kind, location and qualifiers one after the other are the feature.
 use native.Mathlib.Omega.{arith}
 use borrow.Author.Needs.{needs}
-use Rattle.read_feature_row.proofs.Laws.{count-fits, located-made}
+use Rattle.read_feature_row.proofs.Laws.{count-fits, rows-fit, located-made}
 use Rattle.read_feature_row.proofs.make_located.Statement.{statement}
 use Rattle.read_feature_row.proofs.make_located.Tie as tie
 
@@ -17,19 +17,22 @@ put-bare-requires c κs = search needs
 put-qualifiers-requires : tie.Need-put-qualifiers-requires
 put-qualifiers-requires c κs = search needs
 
-sub-t26 : tie.Need-sub-t26
-sub-t26 c = search needs
+sub-t27 : tie.Need-sub-t27
+sub-t27 c = search needs
 
-add-t26 : tie.Need-add-t26
-add-t26 c = omega (arith, c .before .before .before .before .before .before .before .before .before .before .before .before .before .before .before .before .before .before .before .before .pre .0 .next)
+add-t27 : tie.Need-add-t27
+add-t27 c = let start = c .before .before .before .before .before .before .before .before .before .before .before .before .before .before .before .before .before .before .before .before in omega (arith, start .pre .0 .next)
 
-add-t29 : tie.Need-add-t29
-add-t29 c =
-    let good = c .before .before .before .before .before .before .before .before .before .before .before .before .before .before .before .before .before .before .before .before .before .good in
-    let fits = c .before .before .before .before .before .before .before .before .before .before .before .before .before .before .before .before .before .before .before .before .before .fits in
-    let pre = c .before .before .before .before .before .before .before .before .before .before .before .before .before .before .before .before .before .before .before .before .before .pre in
+add-t30 : tie.Need-add-t30
+add-t30 c =
+    let start = c .before .before .before .before .before .before .before .before .before .before .before .before .before .before .before .before .before .before .before .before .before in
     let put-qualifiers = c .before .before .before .before .before .before .put-qualifiers .ensures in
-    omega (arith, good, fits, count-fits _ _ _ _ _ _ _ (pre .0) (pre .1) put-qualifiers)
+    omega (arith, start .good, start .fits, count-fits _ _ _ _ _ _ _ _ (start .pre .0) (start .pre .1) put-qualifiers)
+
+add-t31 : tie.Need-add-t31
+add-t31 c =
+    let start = c .before .before .before .before .before .before .before .before .before .before .before .before .before .before .before .before .before .before .before .before .before .before in
+    omega (arith, start .good, start .fits, rows-fit _ _ _ _ _ _ _ _ (start .pre .0) (start .pre .1))
 
 same-length : tie.Need-same-length
 same-length c = search needs
@@ -39,11 +42,11 @@ same-length-2 c = search needs
 
 returns : tie.Need-returns
 returns c =
-    let pre = c .before .before .before .before .before .before .before .before .before .before .before .before .before .before .before .before .before .before .before .before .before .pre in
-    let put-part = c .before .before .before .before .before .before .before .before .before .before .before .before .before .before .before .put-part .ensures in
-    let put-bare = c .before .before .before .before .before .before .before .before .before .before .before .put-bare .ensures in
-    let put-qualifiers = c .before .before .before .before .before .before .put-qualifiers .ensures in
-    located-made _ _ _ _ _ _ _ (pre .0) (pre .1) _ _ _ _ _ _ _ _ _ put-part put-bare put-qualifiers
+    let pre = c .before .before .before .before .before .before .before .before .before .before .before .before .before .before .before .before .before .before .before .before .before .before .pre in
+    let put-part = c .before .before .before .before .before .before .before .before .before .before .before .before .before .before .before .before .put-part .ensures in
+    let put-bare = c .before .before .before .before .before .before .before .before .before .before .before .before .put-bare .ensures in
+    let put-qualifiers = c .before .before .before .before .before .before .before .put-qualifiers .ensures in
+    located-made _ _ _ _ _ _ _ _ (pre .0) (pre .1) _ _ _ _ _ _ _ _ _ put-part put-bare put-qualifiers
 
 pub make-located-spec : {M : Type 1} → statement M
 make-located-spec =
@@ -53,9 +56,10 @@ make-located-spec =
     put-part-requires
     put-bare-requires
     put-qualifiers-requires
-    sub-t26
-    add-t26
-    add-t29
+    sub-t27
+    add-t27
+    add-t30
+    add-t31
     same-length
     same-length-2
     returns)

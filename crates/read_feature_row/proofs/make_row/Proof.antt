@@ -31,6 +31,9 @@ same-length c = search needs
 same-length-2 : tie.Need-same-length-2
 same-length-2 c = search needs
 
+same-length-3 : tie.Need-same-length-3
+same-length-3 c = search needs
+
 returns : tie.Need-returns
 returns c = search (naming, needs)
 
@@ -53,6 +56,7 @@ make-row-spec =
     no-row-requires-2
     same-length
     same-length-2
+    same-length-3
     returns
     returns-2
     returns-3)

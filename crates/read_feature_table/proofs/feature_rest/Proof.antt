@@ -14,16 +14,16 @@ qualifiers-at-requires c κs = search needs
 enum-known-count : tie.Need-enum-known-count
 enum-known-count c = search needs
 
-sub-t14 : tie.Need-sub-t14
-sub-t14 c = search needs
-
-add-t15 : tie.Need-add-t15
-add-t15 c = search needs
+sub-t15 : tie.Need-sub-t15
+sub-t15 c = search needs
 
 add-t16 : tie.Need-add-t16
-add-t16 c =
+add-t16 c = search needs
+
+add-t17 : tie.Need-add-t17
+add-t17 c =
     omega
-    (arith, rest-fits _ _ _ _ _ _ _ _ (c .before .before .before .before .before .pre) (c .before .before .before .qualifiers-at .ensures) _ _ _ (c .before .count .given .1))
+    (arith, rest-fits _ _ _ _ _ _ _ _ _ (c .before .before .before .before .before .pre) (c .before .before .before .qualifiers-at .ensures) _ _ _ (c .before .count .given .1))
 
 enum-told : tie.Need-enum-told
 enum-told c = search needs
@@ -41,9 +41,9 @@ feature-rest-spec =
     sub-qualifiers-at
     qualifiers-at-requires
     enum-known-count
-    sub-t14
-    add-t15
+    sub-t15
     add-t16
+    add-t17
     enum-told
     returns
     returns-2)

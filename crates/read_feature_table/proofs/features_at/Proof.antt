@@ -3,15 +3,15 @@ use Prim.Native.Nat.{_-_}
 use lib.ListN.{length}
 use native.Mathlib.Omega.{arith}
 use borrow.Author.Needs.{needs}
-use Rattle.read_feature_table.proofs.Laws.{Counted, qualifiers-fit, bytes-fit, counting}
+use Rattle.read_feature_table.proofs.Laws.{Counted, qualifiers-fit, rows-fit, bytes-fit, counting}
 use Rattle.read_feature_table.proofs.features_at.Statement.{statement}
 use Rattle.read_feature_table.proofs.features_at.Tie as tie
 
 abbrev Inv-loop : tie.InvT-loop
-Inv-loop s at i₀ count₀ all₀ total₀ i count all total = Counted s at i count all total
+Inv-loop s at i₀ count₀ all₀ parts₀ total₀ i count all parts total = Counted s at i count all parts total
 
 abbrev μ-loop : tie.MeasureT-loop
-μ-loop s at i₀ count₀ all₀ total₀ i count all total = length s - i
+μ-loop s at i₀ count₀ all₀ parts₀ total₀ i count all parts total = length s - i
 
 loop-holds : tie.Need-loop-holds Inv-loop μ-loop
 loop-holds c = search (counting, needs)
@@ -28,12 +28,17 @@ add-count c = search (counting, needs)
 add-all : tie.Need-add-all Inv-loop μ-loop
 add-all c =
     omega
-    (arith, qualifiers-fit _ _ _ _ _ _ _ (c .before .before .before .before .loop .inv) (c .before .before .before .feature-at .ensures) _ _ _ (c .before .qualifiers .given .1))
+    (arith, qualifiers-fit _ _ _ _ _ _ _ _ (c .before .before .before .before .loop .inv) (c .before .before .before .feature-at .ensures) _ _ _ _ (c .before .qualifiers .given .1))
+
+add-parts : tie.Need-add-parts Inv-loop μ-loop
+add-parts c =
+    omega
+    (arith, rows-fit _ _ _ _ _ _ _ _ (c .before .before .before .before .loop .inv) (c .before .before .before .feature-at .ensures) _ _ _ _ (c .before .qualifiers .given .1))
 
 add-total : tie.Need-add-total Inv-loop μ-loop
 add-total c =
     omega
-    (arith, bytes-fit _ _ _ _ _ _ _ (c .before .before .before .before .loop .inv) (c .before .before .before .feature-at .ensures) _ _ _ (c .before .qualifiers .given .1))
+    (arith, bytes-fit _ _ _ _ _ _ _ _ (c .before .before .before .before .loop .inv) (c .before .before .before .feature-at .ensures) _ _ _ _ (c .before .qualifiers .given .1))
 
 loop-less : tie.Need-loop-less Inv-loop μ-loop
 loop-less c = search (counting, needs)
@@ -64,6 +69,7 @@ features-at-spec =
     enum-known-qualifiers
     add-count
     add-all
+    add-parts
     add-total
     loop-less
     loop-again

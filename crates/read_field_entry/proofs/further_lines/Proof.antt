@@ -12,11 +12,11 @@ use Rattle.read_field_entry.proofs.further_lines.Statement.{statement}
 use Rattle.read_field_entry.proofs.further_lines.Tie as tie
 
 abbrev Inv-loop : tie.InvT-loop
-Inv-loop s at columns keep front i₀ size₀ judge₀ i size judge =
-    (at ≤ i) × (i ≤ length s) × (size + at ≤ front + i) × Reading (further columns keep (drop at s)) (further columns keep (drop i s)) judge₀ judge front size
+Inv-loop s at columns keep front i₀ size₀ state₀ i size state =
+    (at ≤ i) × (i ≤ length s) × (size + at ≤ front + i) × Reading (further columns keep (drop at s)) (further columns keep (drop i s)) state₀ state front size
 
 abbrev μ-loop : tie.MeasureT-loop
-μ-loop s at columns keep front i₀ size₀ judge₀ i size judge = length s - i
+μ-loop s at columns keep front i₀ size₀ state₀ i size state = length s - i
 
 loop-holds : tie.Need-loop-holds Inv-loop μ-loop
 loop-holds c = (omega arith, omega arith, omega arith, reading-start _ _ _)
@@ -46,8 +46,8 @@ returns-2 c =
 enum-known-from : tie.Need-enum-known-from Inv-loop μ-loop
 enum-known-from c = search needs
 
-judge-line-requires : tie.Need-judge-line-requires Inv-loop μ-loop
-judge-line-requires c κs = let p = piece-places (c .before .before .before .further-line .ensures) (c .before .from .given .1) in search needs
+line-state-requires : tie.Need-line-state-requires Inv-loop μ-loop
+line-state-requires c κs = let p = piece-places (c .before .before .before .further-line .ensures) (c .before .from .given .1) in search needs
 
 sub-grown : tie.Need-sub-grown Inv-loop μ-loop
 sub-grown c = let p = piece-places (c .before .before .before .before .further-line .ensures) (c .before .before .from .given .1) in search needs
@@ -70,7 +70,7 @@ loop-again c =
       omega arith,
       omega arith,
       grown-small (c8 .args .keep) (now (c8 .args .s)) _ _ _ _ _ _ _ _ p (v .2) g,
-      reading-more (c8 .args .columns) (c8 .args .keep) _ _ _ _ _ (drop (c5 .before .loop .i) (now (c8 .args .s))) (v .3) _ _ _ _ _ (piece-is (c5 .further-line .ensures) (c3 .from .given .1)) (c .before .judge-line .ensures) k g,
+      reading-more (c8 .args .columns) (c8 .args .keep) _ _ _ _ _ (drop (c5 .before .loop .i) (now (c8 .args .s))) (v .3) _ _ _ _ _ (piece-is (c5 .further-line .ensures) (c3 .from .given .1)) (c .before .line-state .ensures) k g,
     )
 
 pub further-lines-spec : {M : Type 1} → statement M
@@ -86,7 +86,7 @@ further-lines-spec =
     enum-told-2
     returns-2
     enum-known-from
-    judge-line-requires
+    line-state-requires
     sub-grown
     grown-requires
     loop-less

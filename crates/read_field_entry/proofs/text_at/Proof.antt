@@ -18,11 +18,11 @@ enum-told-2 c = search needs
 enum-known-end : tie.Need-enum-known-end
 enum-known-end c = search needs
 
-unjudged-requires : tie.Need-unjudged-requires
-unjudged-requires c κs = search needs
+started-requires : tie.Need-started-requires
+started-requires c κs = search needs
 
-judge-part-requires : tie.Need-judge-part-requires
-judge-part-requires c κs = let p = line-places (c .before .before .before .before .line-at .ensures) (c .before .before .end .given .1) in search needs
+utf8-on-requires : tie.Need-utf8-on-requires
+utf8-on-requires c κs = let p = line-places (c .before .before .before .before .line-at .ensures) (c .before .before .end .given .1) in search needs
 
 sub-further-lines : tie.Need-sub-further-lines
 sub-further-lines c = let p = line-places (c .before .before .before .before .before .line-at .ensures) (c .before .before .before .end .given .1) in search needs
@@ -43,7 +43,7 @@ returns-3 c =
     let c6 = c4 .before .before in
     let c8 = c6 .before .before in
     text-got (c8 .args .columns) (c8 .args .keep) (now (c8 .args .s)) (c8 .args .at) _ (c6 .line-at .ensures) _ _ _ _ (c4 .end .given .1)
-    (rw (c2 .unjudged .ensures) at (c .before .judge-part .ensures)) (c .further-lines .ensures)
+    (rw (c2 .started .ensures) at (c .before .utf8-on .ensures)) (c .further-lines .ensures)
 
 pub text-at-spec : {M : Type 1} → statement M
 text-at-spec =
@@ -53,8 +53,8 @@ text-at-spec =
     enum-told
     enum-told-2
     enum-known-end
-    unjudged-requires
-    judge-part-requires
+    started-requires
+    utf8-on-requires
     sub-further-lines
     further-lines-requires
     returns

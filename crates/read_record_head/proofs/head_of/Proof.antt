@@ -13,9 +13,6 @@ header-texts-requires c κs = search (heading, needs)
 source-at-requires : tie.Need-source-at-requires
 source-at-requires c κs = search (heading, needs)
 
-entry-at-requires : tie.Need-entry-at-requires
-entry-at-requires c κs = search needs
-
 returns : tie.Need-returns
 returns c = search (heading, needs)
 
@@ -26,5 +23,4 @@ head-of-spec =
     locus-head-requires
     header-texts-requires
     source-at-requires
-    entry-at-requires
     returns)

@@ -10,6 +10,9 @@ middle-at-requires c κs = search needs
 enum-told : tie.Need-enum-told
 enum-told c = search needs
 
+enum-told-2 : tie.Need-enum-told-2
+enum-told-2 c = search needs
+
 enum-known-features-at : tie.Need-enum-known-features-at
 enum-known-features-at c = search needs
 
@@ -31,16 +34,21 @@ returns-2 c = search (resting, needs)
 returns-3 : tie.Need-returns-3
 returns-3 c = search (resting, needs)
 
+returns-4 : tie.Need-returns-4
+returns-4 c = search (resting, needs)
+
 pub rest-at-spec : {M : Type 1} → statement M
 rest-at-spec =
     tie.close
     (tie.spec
     middle-at-requires
     enum-told
+    enum-told-2
     enum-known-features-at
     end-at-requires
     enum-known-why
     enum-known-letters-at
     returns
     returns-2
-    returns-3)
+    returns-3
+    returns-4)

@@ -1,12 +1,12 @@
 -- `planned`: too small a room leaves no feature to be put; else all are left.
 use borrow.Author.Needs.{needs}
-use Rattle.read_record_sizes.specs.Tables.{sizes-bound, contig-bound}
+use Rattle.read_record_sizes.specs.Tables.{sizes-bound, locations-bound, contig-bound}
 use Rattle.read_record_prepared.proofs.Laws.{planned-room, planned-done}
 use Rattle.read_record_prepared.proofs.planned.Statement.{statement}
 use Rattle.read_record_prepared.proofs.planned.Tie as tie
 
 sizes-of-requires : tie.Need-sizes-of-requires
-sizes-of-requires c κs = search (sizes-bound, needs)
+sizes-of-requires c κs = search (sizes-bound, locations-bound, needs)
 
 mul-enough : tie.Need-mul-enough
 mul-enough c = search needs
@@ -38,8 +38,16 @@ same-length-3 c = search needs
 same-length-4 : tie.Need-same-length-4
 same-length-4 c = search needs
 
+same-length-5 : tie.Need-same-length-5
+same-length-5 c = search needs
+
 returns-2 : tie.Need-returns-2
-returns-2 c = search (planned-done, needs)
+returns-2 c =
+    let filled = c .before .before .before .before .before .before .before .before .before .before .before in
+    let other = filled .before .before .before .before .before .before in
+    let sizes = other .before .before in
+    planned-done _ _ (sizes .before .before .before .before .before .before .before .pre .0) _ _ _ _ _ _ _ _ _ (sizes .sizes-of .ensures) (other .before .enough .ensures) _ _ _ _ _ _ _
+    (other .if1 .left) (filled .fill-around .ensures) (c .all-rows .ensures)
 
 pub planned-spec : {M : Type 1} → statement M
 planned-spec =
@@ -56,4 +64,5 @@ planned-spec =
     same-length-2
     same-length-3
     same-length-4
+    same-length-5
     returns-2)

@@ -53,6 +53,9 @@ same-length-3 c = search needs
 same-length-4 : tie.Need-same-length-4
 same-length-4 c = search needs
 
+same-length-5 : tie.Need-same-length-5
+same-length-5 c = search needs
+
 returns-5 : tie.Need-returns-5
 returns-5 c = search (preparing, needs)
 
@@ -76,4 +79,5 @@ prepare-spec =
     same-length-2
     same-length-3
     same-length-4
+    same-length-5
     returns-5)

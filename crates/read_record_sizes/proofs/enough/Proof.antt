@@ -31,5 +31,9 @@ returns-6 : tie.Need-returns-6
 unfolding fitsIn
 returns-6 c = search (tests, needs)
 
+returns-7 : tie.Need-returns-7
+unfolding fitsIn
+returns-7 c = search (tests, needs)
+
 pub enough-spec : {M : Type 1} → statement M
-enough-spec = tie.close (tie.spec returns returns-2 returns-3 returns-4 returns-5 returns-6)
+enough-spec = tie.close (tie.spec returns returns-2 returns-3 returns-4 returns-5 returns-6 returns-7)

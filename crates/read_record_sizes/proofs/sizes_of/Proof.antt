@@ -13,9 +13,12 @@ may-length-requires c κs = search needs
 add-t8 : tie.Need-add-t8
 add-t8 c = search needs
 
+add-t9 : tie.Need-add-t9
+add-t9 c = search needs
+
 returns : tie.Need-returns
 unfolding sizesIn
-returns c = rw (c .before .contig-place .ensures, c .may-length .ensures)
+returns c = rw (c .before .before .before .contig-place .ensures, c .before .before .may-length .ensures)
 
 pub sizes-of-spec : {M : Type 1} → statement M
-sizes-of-spec = tie.close (tie.spec contig-place-requires may-length-requires add-t8 returns)
+sizes-of-spec = tie.close (tie.spec contig-place-requires may-length-requires add-t8 add-t9 returns)

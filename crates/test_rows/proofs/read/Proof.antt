@@ -31,8 +31,11 @@ same-length-5 c = search needs
 same-length-6 : tie.Need-same-length-6
 same-length-6 c = search needs
 
+same-length-7 : tie.Need-same-length-7
+same-length-7 c = search needs
+
 returns-2 : tie.Need-returns-2
-returns-2 c = λ h. c .before .before .before .before .before .before .before .before .before .before .before .before .read-lent .ensures
+returns-2 c = λ h. c .before .before .before .before .before .before .before .before .before .before .before .before .before .before .read-lent .ensures
 
 pub read-spec : {M : Type 1} → statement M
-read-spec = tie.close (tie.spec returns rows-of-requires read-lent-requires same-length same-length-2 same-length-3 same-length-4 same-length-5 same-length-6 returns-2)
+read-spec = tie.close (tie.spec returns rows-of-requires read-lent-requires same-length same-length-2 same-length-3 same-length-4 same-length-5 same-length-6 same-length-7 returns-2)

@@ -1,6 +1,6 @@
--- The six numbers from a place on.
+-- The eight numbers from a place on.
 use borrow.Author.Needs.{needs}
-use Rattle.test_rows.specs.Flats.{six-at}
+use Rattle.test_rows.specs.Flats.{eight-at}
 use Rattle.test_rows.proofs.row_at.Statement.{statement}
 use Rattle.test_rows.proofs.row_at.Tie as tie
 
@@ -55,8 +55,26 @@ mul-t25 c = search needs
 shared-slice-read-t27 : tie.Need-shared-slice-read-t27
 shared-slice-read-t27 c = search needs
 
+add-t28 : tie.Need-add-t28
+add-t28 c = search needs
+
+mul-t29 : tie.Need-mul-t29
+mul-t29 c = search needs
+
+shared-slice-read-t31 : tie.Need-shared-slice-read-t31
+shared-slice-read-t31 c = search needs
+
+add-t32 : tie.Need-add-t32
+add-t32 c = search needs
+
+mul-t33 : tie.Need-mul-t33
+mul-t33 c = search needs
+
+shared-slice-read-t35 : tie.Need-shared-slice-read-t35
+shared-slice-read-t35 c = search needs
+
 returns : tie.Need-returns
-returns c = six-at _ _ (c .before .before .before .before .before .before .pre)
+returns c = eight-at _ _ (c .before .before .before .before .before .before .before .before .pre)
 
 pub row-at-spec : {M : Type 1} → statement M
 row-at-spec =
@@ -79,4 +97,10 @@ row-at-spec =
     add-t24
     mul-t25
     shared-slice-read-t27
+    add-t28
+    mul-t29
+    shared-slice-read-t31
+    add-t32
+    mul-t33
+    shared-slice-read-t35
     returns)

@@ -10,7 +10,7 @@ use Rattle.test_rows.proofs.rows_of.Statement.{statement}
 use Rattle.test_rows.proofs.rows_of.Tie as tie
 
 abbrev Inv-loop : tie.InvT-loop
-Inv-loop features n rows₀ i₀ rows i = (i ≤ n) × (length rows ≡ 42) × (flat (take i rows) ≡ take (6 * i) features)
+Inv-loop features n rows₀ i₀ rows i = (i ≤ n) × (length rows ≡ 33) × (flat (take i rows) ≡ take (8 * i) features)
 
 abbrev μ-loop : tie.MeasureT-loop
 μ-loop features n rows₀ i₀ rows i = n - i

@@ -84,7 +84,16 @@ stayed = (
       stay-dropped (shrSliceOf (2 ∷ []) tt (plain (λ _. usize))) yes,
       (
         stay-dropped (shrSliceOf (3 ∷ []) tt (plain (λ _. usize))) yes,
-        (stay-dropped (plain (λ _. (Many 42))) yes, (stay-dropped (plain (λ _. usize)) yes, (stay-dropped (shrSliceOf (4 ∷ []) tt (plain (λ _. usize))) yes, (stay-dropped (shrSliceOf (5 ∷ []) tt (plain (λ _. u8))) yes, (stay-dropped (plain (λ _. Head-is.the-row)) yes, (stay-dropped (plain (λ _. How-is.the-row)) yes, tt)))))),
+        (
+          stay-dropped (plain (λ _. (Many 33))) yes,
+          (
+            stay-dropped (plain (λ _. usize)) yes,
+            (
+              stay-dropped (shrSliceOf (4 ∷ []) tt (plain (λ _. usize))) yes,
+              (stay-dropped (shrSliceOf (5 ∷ []) tt (plain (λ _. usize))) yes, (stay-dropped (shrSliceOf (6 ∷ []) tt (plain (λ _. u8))) yes, (stay-dropped (plain (λ _. Head-is.the-row)) yes, (stay-dropped (plain (λ _. How-is.the-row)) yes, tt)))),
+            ),
+          ),
+        ),
       ),
     ),
   ),
@@ -111,18 +120,18 @@ module _ {M : Type 1} (𝓤 : URA M) (H : Heap 𝓤) (A : Atoms 𝓤) (mem : Mem
   abbrev write-contract : Contract 𝓤
   write-contract = tripleOf 𝓤 H A write.signature (write.spec 𝓤 H A mem run)
 
-module _ {M : Type 1} (𝓤 : URA M) (H : Heap 𝓤) (A : Atoms 𝓤) (W : Given 𝓤 H A) (mem : Memory → SProp 𝓤) (run : Routine → Fun 𝓤) (κ₀ κ₁ κ₂ κ₃ κ₄ κ₅ : Lft) (q₀ q₁ q₂ q₃ q₄ q₅ : Share) (out : RefT (List ℕ)) (texts : RefT (List ℕ)) (references : RefT (List ℕ)) (comments : RefT (List ℕ)) (rows : List Feature) (n : ℕ) (qualifiers : RefT (List ℕ))
-    (letters : RefT (List ℕ)) (head : Head) (how : How) (out-room : Room u8 (length (out .now))) (texts-room : Room u8 (length (texts .now))) (references-room : Room usize (length (references .now))) (comments-room : Room usize (length (comments .now)))
-    (rows-is : Is (Many 42) rows (array-vals (LL.vals Feature-is.the-type Feature-has.the-laws) rows)) (n-is : Is usize n ((vint w64 n) ∷ [])) (qualifiers-room : Room usize (length (qualifiers .now))) (letters-room : Room u8 (length (letters .now))) (head-is : Is Head-is.the-row head ((Head-val head) ∷ []))
-    (how-is : Is How-is.the-row how ((How-val how) ∷ [])) (required : n ≤ 42) where
-  abbrev a : (RefT (List ℕ)) × ((RefT (List ℕ)) × ((RefT (List ℕ)) × ((RefT (List ℕ)) × ((List Feature) × (ℕ × ((RefT (List ℕ)) × ((RefT (List ℕ)) × (Head × (How × Unit {0})))))))))
-  a = (out, (texts, (references, (comments, (rows, (n, (qualifiers, (letters, (head, (how, tt))))))))))
+module _ {M : Type 1} (𝓤 : URA M) (H : Heap 𝓤) (A : Atoms 𝓤) (W : Given 𝓤 H A) (mem : Memory → SProp 𝓤) (run : Routine → Fun 𝓤) (κ₀ κ₁ κ₂ κ₃ κ₄ κ₅ κ₆ : Lft) (q₀ q₁ q₂ q₃ q₄ q₅ q₆ : Share) (out : RefT (List ℕ)) (texts : RefT (List ℕ)) (references : RefT (List ℕ)) (comments : RefT (List ℕ)) (rows : List Feature) (n : ℕ) (qualifiers : RefT (List ℕ))
+    (locations : RefT (List ℕ)) (letters : RefT (List ℕ)) (head : Head) (how : How) (out-room : Room u8 (length (out .now))) (texts-room : Room u8 (length (texts .now))) (references-room : Room usize (length (references .now))) (comments-room : Room usize (length (comments .now)))
+    (rows-is : Is (Many 33) rows (array-vals (LL.vals Feature-is.the-type Feature-has.the-laws) rows)) (n-is : Is usize n ((vint w64 n) ∷ [])) (qualifiers-room : Room usize (length (qualifiers .now))) (locations-room : Room usize (length (locations .now))) (letters-room : Room u8 (length (letters .now)))
+    (head-is : Is Head-is.the-row head ((Head-val head) ∷ [])) (how-is : Is How-is.the-row how ((How-val how) ∷ [])) (required : n ≤ 33) where
+  abbrev a : (RefT (List ℕ)) × ((RefT (List ℕ)) × ((RefT (List ℕ)) × ((RefT (List ℕ)) × ((List Feature) × (ℕ × ((RefT (List ℕ)) × ((RefT (List ℕ)) × ((RefT (List ℕ)) × (Head × (How × Unit {0}))))))))))
+  a = (out, (texts, (references, (comments, (rows, (n, (qualifiers, (locations, (letters, (head, (how, tt)))))))))))
 
-  abbrev at-entry : (List Val) × ((List Val) × ((List Val) × ((List Val) × ((List Val) × ((List Val) × ((List Val) × ((List Val) × ((List Val) × ((List Val) × Unit {0})))))))))
-  at-entry = (v out ∷ [], (v texts ∷ [], (v references ∷ [], (v comments ∷ [], (array-vals (LL.vals Feature-is.the-type Feature-has.the-laws) rows, ((vint w64 n) ∷ [], (v qualifiers ∷ [], (v letters ∷ [], ((Head-val head) ∷ [], ((How-val how) ∷ [], tt))))))))))
+  abbrev at-entry : (List Val) × ((List Val) × ((List Val) × ((List Val) × ((List Val) × ((List Val) × ((List Val) × ((List Val) × ((List Val) × ((List Val) × ((List Val) × Unit {0}))))))))))
+  at-entry = (v out ∷ [], (v texts ∷ [], (v references ∷ [], (v comments ∷ [], (array-vals (LL.vals Feature-is.the-type Feature-has.the-laws) rows, ((vint w64 n) ∷ [], (v qualifiers ∷ [], (v locations ∷ [], (v letters ∷ [], ((Head-val head) ∷ [], ((How-val how) ∷ [], tt)))))))))))
 
   abbrev bound : walkOf 𝓤 H A f.ended stayed (f.clauses 𝓤 H A mem run) .Ghost
-  bound = (((κ₀, (κ₁, (κ₂, (κ₃, (κ₄, (κ₅, tt)))))), (q₀, (q₁, (q₂, (q₃, (q₄, (q₅, tt)))))), tt, a, at-entry), tt)
+  bound = (((κ₀, (κ₁, (κ₂, (κ₃, (κ₄, (κ₅, (κ₆, tt))))))), (q₀, (q₁, (q₂, (q₃, (q₄, (q₅, (q₆, tt))))))), tt, a, at-entry), tt)
 
   abbrev Post : Val → SProp 𝓤
   Post = walkOf 𝓤 H A f.ended stayed (f.clauses 𝓤 H A mem run) .post bound
@@ -146,194 +155,198 @@ module _ {M : Type 1} (𝓤 : URA M) (H : Heap 𝓤) (A : Atoms 𝓤) (W : Given
   abbrev qualifiers-own : Fml
   qualifiers-own = ShrSlice (named 4) κ₄ usize .own qualifiers (v qualifiers ∷ [])
 
+  abbrev locations-own : Fml
+  locations-own = ShrSlice (named 5) κ₅ usize .own locations (v locations ∷ [])
+
   abbrev letters-own : Fml
-  letters-own = ShrSlice (named 5) κ₅ u8 .own letters (v letters ∷ [])
+  letters-own = ShrSlice (named 6) κ₆ u8 .own letters (v letters ∷ [])
 
   -- what is had at entry
   abbrev Had : List (Item 𝓤) → List (Item 𝓤)
-  Had Γ = (‵ (flft κ₀ q₀) ⊛ ‵ (flft κ₁ q₁) ⊛ ‵ (flft κ₂ q₂) ⊛ ‵ (flft κ₃ q₃) ⊛ ‵ (flft κ₄ q₄) ⊛ ‵ (flft κ₅ q₅) ⊛ ‵ ftrue) ∷ ‵
-      (owns (MutSlice (named 0) κ₀ u8 ∷ ShrSlice (named 1) κ₁ u8 ∷ ShrSlice (named 2) κ₂ usize ∷ ShrSlice (named 3) κ₃ usize ∷ (Many 42) ∷ usize ∷ ShrSlice (named 4) κ₄ usize ∷ ShrSlice (named 5) κ₅ u8 ∷ Head-is.the-row ∷ How-is.the-row ∷ []) a at-entry) ∷ Γ
+  Had Γ = (‵ (flft κ₀ q₀) ⊛ ‵ (flft κ₁ q₁) ⊛ ‵ (flft κ₂ q₂) ⊛ ‵ (flft κ₃ q₃) ⊛ ‵ (flft κ₄ q₄) ⊛ ‵ (flft κ₅ q₅) ⊛ ‵ (flft κ₆ q₆) ⊛ ‵ ftrue) ∷ ‵
+      (owns (MutSlice (named 0) κ₀ u8 ∷ ShrSlice (named 1) κ₁ u8 ∷ ShrSlice (named 2) κ₂ usize ∷ ShrSlice (named 3) κ₃ usize ∷ (Many 33) ∷ usize ∷ ShrSlice (named 4) κ₄ usize ∷ ShrSlice (named 5) κ₅ usize ∷ ShrSlice (named 6) κ₆ u8 ∷ Head-is.the-row ∷ How-is.the-row ∷ []) a at-entry) ∷ Γ
 
-  opened : {K : Type 0} {Γ : List (Item 𝓤)} {G : Goal 𝓤 H} → K → Seq K W (‵ (flft κ₀ q₀) ∷ ‵ (flft κ₁ q₁) ∷ ‵ (flft κ₂ q₂) ∷ ‵ (flft κ₃ q₃) ∷ ‵ (flft κ₄ q₄) ∷ ‵ (flft κ₅ q₅) ∷ ‵ (out-own (out .now)) ∷ ‵ texts-own ∷ ‵ references-own ∷ ‵ comments-own ∷ ‵ qualifiers-own ∷ ‵ letters-own ∷ Γ) G → Seq K W (Had Γ) G
+  opened : {K : Type 0} {Γ : List (Item 𝓤)} {G : Goal 𝓤 H} → K → Seq K W (‵ (flft κ₀ q₀) ∷ ‵ (flft κ₁ q₁) ∷ ‵ (flft κ₂ q₂) ∷ ‵ (flft κ₃ q₃) ∷ ‵ (flft κ₄ q₄) ∷ ‵ (flft κ₅ q₅) ∷ ‵ (flft κ₆ q₆) ∷ ‵ (out-own (out .now)) ∷ ‵ texts-own ∷ ‵ references-own ∷ ‵ comments-own ∷ ‵ qualifiers-own ∷ ‵ locations-own ∷ ‵ letters-own ∷ Γ) G → Seq K W (Had Γ) G
   opened t then =
-      splits t (‵ (flft κ₀ q₀) ∷ ‵ (flft κ₁ q₁) ∷ ‵ (flft κ₂ q₂) ∷ ‵ (flft κ₃ q₃) ∷ ‵ (flft κ₄ q₄) ∷ ‵ (flft κ₅ q₅) ∷ []) (id⊢ 𝓤 _) $
-      move t (6 ∷ []) $
-      splits t (‵ (out-own (out .now)) ∷ ‵ texts-own ∷ ‵ references-own ∷ ‵ comments-own ∷ ‵ ((Many 42) .own rows (array-vals (LL.vals Feature-is.the-type Feature-has.the-laws) rows)) ∷ ‵ (usize .own n ((vint w64 n) ∷ [])) ∷ ‵ qualifiers-own ∷ ‵ letters-own ∷ ‵ (Head-is.the-row .own head ((Head-val head) ∷ [])) ∷ ‵
+      splits t (‵ (flft κ₀ q₀) ∷ ‵ (flft κ₁ q₁) ∷ ‵ (flft κ₂ q₂) ∷ ‵ (flft κ₃ q₃) ∷ ‵ (flft κ₄ q₄) ∷ ‵ (flft κ₅ q₅) ∷ ‵ (flft κ₆ q₆) ∷ []) (id⊢ 𝓤 _) $
+      move t (7 ∷ []) $
+      splits t (‵ (out-own (out .now)) ∷ ‵ texts-own ∷ ‵ references-own ∷ ‵ comments-own ∷ ‵ ((Many 33) .own rows (array-vals (LL.vals Feature-is.the-type Feature-has.the-laws) rows)) ∷ ‵ (usize .own n ((vint w64 n) ∷ [])) ∷ ‵ qualifiers-own ∷ ‵ locations-own ∷ ‵ letters-own ∷ ‵ (Head-is.the-row .own head ((Head-val head) ∷ [])) ∷ ‵
       (How-is.the-row .own how ((How-val how) ∷ [])) ∷ []) (id⊢ 𝓤 _) $
-      move t (4 ∷ 5 ∷ 8 ∷ 9 ∷ 10 ∷ 11 ∷ 12 ∷ 13 ∷ 14 ∷ 15 ∷ 0 ∷ 1 ∷ 2 ∷ 3 ∷ 6 ∷ 7 ∷ []) $
+      move t (4 ∷ 5 ∷ 9 ∷ 10 ∷ 11 ∷ 12 ∷ 13 ∷ 14 ∷ 15 ∷ 16 ∷ 17 ∷ 0 ∷ 1 ∷ 2 ∷ 3 ∷ 6 ∷ 7 ∷ 8 ∷ []) $
       drop t $ drop t $ drop t $ drop t $
       then
 
-  module _ (C : Calls 𝓤 H) (Λ : Loops 𝓤 H) (fm : FmC 𝓤 H (W .laws) C) (known-write : Triple 𝓤 (C #write-record·write) (write-contract 𝓤 H A mem run)) (l₀ l₁ l₂ l₃ l₄ l₅ l₆ l₇ l₈ l₉ l₁₀ l₁₁ l₁₂ l₁₃ l₁₄ l₁₅ : ℕ) where
+  module _ (C : Calls 𝓤 H) (Λ : Loops 𝓤 H) (fm : FmC 𝓤 H (W .laws) C) (known-write : Triple 𝓤 (C #write-record·write) (write-contract 𝓤 H A mem run)) (l₀ l₁ l₂ l₃ l₄ l₅ l₆ l₇ l₈ l₉ l₁₀ l₁₁ l₁₂ l₁₃ l₁₄ l₁₅ l₁₆ : ℕ) where
     -- the locals, and their entries with what is owed of them
     abbrev E : Env 𝓤 H
-    E = (WriteAnswer-has.mir, l₀) ∷ (sliceTy (tyRef (named 0) mut (tyInt w8)), l₁) ∷ (sliceTy (tyRef (named 1) imm (tyInt w8)), l₂) ∷ (sliceTy (tyRef (named 2) imm (tyInt w64)), l₃) ∷ (sliceTy (tyRef (named 3) imm (tyInt w64)), l₄) ∷ (tyArray Feature-has.mir 42, l₅) ∷ (tyInt w64, l₆) ∷ (sliceTy (tyRef (named 4) imm (tyInt w64)), l₇) ∷
-        (sliceTy (tyRef (named 5) imm (tyInt w8)), l₈) ∷ (Head-has.mir, l₉) ∷ (How-has.mir, l₁₀) ∷ (tyArray Feature-has.mir 42, l₁₁) ∷ (tyRef erased mut (tyInt w8), l₁₂) ∷ (sliceTy (tyRef erased mut (tyInt w8)), l₁₃) ∷ (tyRef erased imm (tyArray (pointee (Feature-is.the-row .written)) 42), l₁₄) ∷
-        (sliceTy (tyRef erased imm (pointee (Feature-is.the-row .written))), l₁₅) ∷ []
+    E = (WriteAnswer-has.mir, l₀) ∷ (sliceTy (tyRef (named 0) mut (tyInt w8)), l₁) ∷ (sliceTy (tyRef (named 1) imm (tyInt w8)), l₂) ∷ (sliceTy (tyRef (named 2) imm (tyInt w64)), l₃) ∷ (sliceTy (tyRef (named 3) imm (tyInt w64)), l₄) ∷ (tyArray Feature-has.mir 33, l₅) ∷ (tyInt w64, l₆) ∷ (sliceTy (tyRef (named 4) imm (tyInt w64)), l₇) ∷
+        (sliceTy (tyRef (named 5) imm (tyInt w64)), l₈) ∷ (sliceTy (tyRef (named 6) imm (tyInt w8)), l₉) ∷ (Head-has.mir, l₁₀) ∷ (How-has.mir, l₁₁) ∷ (tyArray Feature-has.mir 33, l₁₂) ∷ (tyRef erased mut (tyInt w8), l₁₃) ∷ (sliceTy (tyRef erased mut (tyInt w8)), l₁₄) ∷ (tyRef erased imm (tyArray (pointee (Feature-is.the-row .written)) 33), l₁₅) ∷
+        (sliceTy (tyRef erased imm (pointee (Feature-is.the-row .written))), l₁₆) ∷ []
 
     abbrev standing : List Cell → List (Item 𝓤)
     standing cs = locals 𝓤 H A E cs (raw (Dies 𝓤 H A E) ∷ [])
 
-    within-write : n ≤ 42
+    within-write : n ≤ 33
     within-write = required
 
     -- the call of `write`
-    abbrev lfts-write : (full-array : length rows ≡ 42) (k-array : Loan) → Lft × (Lft × (Lft × (Lft × (Lft × (Lft × (Lft × Unit {0}))))))
-    lfts-write full-array k-array = (κ₀, (κ₁, (κ₂, (κ₃, (k-array .life ∷ [], (κ₄, (κ₅, tt)))))))
+    abbrev lfts-write : (full-array : length rows ≡ 33) (k-array : Loan) → Lft × (Lft × (Lft × (Lft × (Lft × (Lft × (Lft × (Lft × Unit {0})))))))
+    lfts-write full-array k-array = (κ₀, (κ₁, (κ₂, (κ₃, (k-array .life ∷ [], (κ₄, (κ₅, (κ₆, tt))))))))
 
-    abbrev args-write : (full-array : length rows ≡ 42) (k-array : Loan) → (RefT (List ℕ)) × ((RefT (List ℕ)) × ((RefT (List ℕ)) × ((RefT (List ℕ)) × ((RefT (List Feature)) × ((RefT (List ℕ)) × ((RefT (List ℕ)) × (Head × (How × Unit {0}))))))))
-    args-write full-array k-array = (slice-at u8 out (out .name) (out .now), (texts, (references, (comments, (placed Feature-is.the-row l₁₁ (k-array .name) (front n rows), (qualifiers, (letters, (head, (how, tt)))))))))
+    abbrev args-write : (full-array : length rows ≡ 33) (k-array : Loan) → (RefT (List ℕ)) × ((RefT (List ℕ)) × ((RefT (List ℕ)) × ((RefT (List ℕ)) × ((RefT (List Feature)) × ((RefT (List ℕ)) × ((RefT (List ℕ)) × ((RefT (List ℕ)) × (Head × (How × Unit {0})))))))))
+    args-write full-array k-array = (slice-at u8 out (out .name) (out .now), (texts, (references, (comments, (placed Feature-is.the-row l₁₂ (k-array .name) (front n rows), (qualifiers, (locations, (letters, (head, (how, tt))))))))))
 
-    abbrev to-write : (full-array : length rows ≡ 42) (k-array : Loan) → write-contract 𝓤 H A mem run .Ghost
+    abbrev to-write : (full-array : length rows ≡ 33) (k-array : Loan) → write-contract 𝓤 H A mem run .Ghost
     to-write full-array k-array = (
       (
         (lfts-write full-array k-array),
-        (q₀, (q₁, (q₂, (q₃, (fullShare, (q₄, (q₅, tt))))))),
+        (q₀, (q₁, (q₂, (q₃, (fullShare, (q₄, (q₅, (q₆, tt)))))))),
         tt,
         (args-write full-array k-array),
-        ((v out) ∷ [], ((v texts) ∷ [], ((v references) ∷ [], ((v comments) ∷ [], ((sliceVal (l₁₁, 0) n) ∷ [], ((v qualifiers) ∷ [], ((v letters) ∷ [], (((Head-val head) ∷ []), (((How-val how) ∷ []), tt))))))))),
+        ((v out) ∷ [], ((v texts) ∷ [], ((v references) ∷ [], ((v comments) ∷ [], ((sliceVal (l₁₂, 0) n) ∷ [], ((v qualifiers) ∷ [], ((v locations) ∷ [], ((v letters) ∷ [], (((Head-val head) ∷ []), (((How-val how) ∷ []), tt)))))))))),
       ),
       tt,
     )
 
-    goes-write : (full-array : length rows ≡ 42) (k-array : Loan) → ent 𝓤
-        (⋆ 𝓤 H A (‵ (flft κ₀ q₀) ∷ ‵ (flft κ₁ q₁) ∷ ‵ (flft κ₂ q₂) ∷ ‵ (flft κ₃ q₃) ∷ ‵ (flft (k-array .life ∷ []) fullShare) ∷ ‵ (flft κ₄ q₄) ∷ ‵ (flft κ₅ q₅) ∷ ‵ (out-own (out .now)) ∷ ‵ texts-own ∷ ‵ references-own ∷ ‵ comments-own ∷ ‵ (SharedCells Feature-is.the-row (named 4) l₁₁ n (front n rows) k-array) ∷ ‵ qualifiers-own ∷ ‵ letters-own ∷
-        [])) (write-contract 𝓤 H A mem run .pre (to-write full-array k-array))
-    goes-write full-array k-array = qed W (‵ (flft κ₀ q₀) ∷ ‵ (flft κ₁ q₁) ∷ ‵ (flft κ₂ q₂) ∷ ‵ (flft κ₃ q₃) ∷ ‵ (flft (k-array .life ∷ []) fullShare) ∷ ‵ (flft κ₄ q₄) ∷ ‵ (flft κ₅ q₅) ∷ ‵ (out-own (out .now)) ∷ ‵ texts-own ∷ ‵ references-own ∷ ‵ comments-own ∷ ‵ (SharedCells Feature-is.the-row (named 4) l₁₁ n (front n rows) k-array) ∷ ‵
-        qualifiers-own ∷ ‵ letters-own ∷ []) ∵
+    goes-write : (full-array : length rows ≡ 33) (k-array : Loan) → ent 𝓤
+        (⋆ 𝓤 H A (‵ (flft κ₀ q₀) ∷ ‵ (flft κ₁ q₁) ∷ ‵ (flft κ₂ q₂) ∷ ‵ (flft κ₃ q₃) ∷ ‵ (flft (k-array .life ∷ []) fullShare) ∷ ‵ (flft κ₄ q₄) ∷ ‵ (flft κ₅ q₅) ∷ ‵ (flft κ₆ q₆) ∷ ‵ (out-own (out .now)) ∷ ‵ texts-own ∷ ‵ references-own ∷ ‵ comments-own ∷ ‵ (SharedCells Feature-is.the-row (named 4) l₁₂ n (front n rows) k-array) ∷ ‵ qualifiers-own ∷ ‵
+        locations-own ∷ ‵ letters-own ∷ [])) (write-contract 𝓤 H A mem run .pre (to-write full-array k-array))
+    goes-write full-array k-array = qed W (‵ (flft κ₀ q₀) ∷ ‵ (flft κ₁ q₁) ∷ ‵ (flft κ₂ q₂) ∷ ‵ (flft κ₃ q₃) ∷ ‵ (flft (k-array .life ∷ []) fullShare) ∷ ‵ (flft κ₄ q₄) ∷ ‵ (flft κ₅ q₅) ∷ ‵ (flft κ₆ q₆) ∷ ‵ (out-own (out .now)) ∷ ‵ texts-own ∷ ‵ references-own ∷ ‵ comments-own ∷ ‵
+        (SharedCells Feature-is.the-row (named 4) l₁₂ n (front n rows) k-array) ∷ ‵ qualifiers-own ∷ ‵ locations-own ∷ ‵ letters-own ∷ []) ∵
         asks-nothing ! $ nothing ! $ nothing ! $
         owned ! Head-is.the-row (Is Head-is.the-row) (LL.makes Head-is.the-type Head-has.the-plain 𝓤 H A) head ((Head-val head) ∷ []) head-is $
         owned ! How-is.the-row (Is How-is.the-row) (LL.makes How-is.the-type How-has.the-plain 𝓤 H A) how ((How-val how) ∷ []) how-is $
-        move ! (4 ∷ 5 ∷ 6 ∷ 7 ∷ 8 ∷ 9 ∷ 10 ∷ 3 ∷ 11 ∷ 12 ∷ 13 ∷ 14 ∷ 15 ∷ 16 ∷ 17 ∷ 1 ∷ 0 ∷ 2 ∷ []) $
-        group ! 8 $
+        move ! (4 ∷ 5 ∷ 6 ∷ 7 ∷ 8 ∷ 9 ∷ 10 ∷ 11 ∷ 3 ∷ 12 ∷ 13 ∷ 14 ∷ 15 ∷ 16 ∷ 17 ∷ 18 ∷ 19 ∷ 1 ∷ 0 ∷ 2 ∷ []) $
+        group ! 9 $
         done !
 
-    lends-write : {K : Type 0} {Γ : List (Item 𝓤)} {G : Goal 𝓤 H} → K → Soaks G → ((full-array : length rows ≡ 42) (k-array : Loan) → Seq K W (raw (write-contract 𝓤 H A mem run .pre (to-write full-array k-array)) ∷ ‵ (MineShr Feature-is.the-row l₁₁ (front n rows) k-array) ∷ ‵ (Rest Feature-is.the-row n rows l₁₁) ∷ Γ) G) → Seq K W
-        (‵ (fat fullShare (tyArray Feature-has.mir 42) l₁₁ 0 (many-val rows)) ∷ ‵ (flft κ₀ q₀) ∷ ‵ (flft κ₁ q₁) ∷ ‵ (flft κ₂ q₂) ∷ ‵ (flft κ₃ q₃) ∷ ‵ (flft κ₄ q₄) ∷ ‵ (flft κ₅ q₅) ∷ ‵ (out-own (out .now)) ∷ ‵ texts-own ∷ ‵ references-own ∷ ‵ comments-own ∷ ‵ qualifiers-own ∷ ‵ letters-own ∷ Γ) G
+    lends-write : {K : Type 0} {Γ : List (Item 𝓤)} {G : Goal 𝓤 H} → K → Soaks G → ((full-array : length rows ≡ 33) (k-array : Loan) → Seq K W (raw (write-contract 𝓤 H A mem run .pre (to-write full-array k-array)) ∷ ‵ (MineShr Feature-is.the-row l₁₂ (front n rows) k-array) ∷ ‵ (Rest Feature-is.the-row n rows l₁₂) ∷ Γ) G) → Seq K W
+        (‵ (fat fullShare (tyArray Feature-has.mir 33) l₁₂ 0 (many-val rows)) ∷ ‵ (flft κ₀ q₀) ∷ ‵ (flft κ₁ q₁) ∷ ‵ (flft κ₂ q₂) ∷ ‵ (flft κ₃ q₃) ∷ ‵ (flft κ₄ q₄) ∷ ‵ (flft κ₅ q₅) ∷ ‵ (flft κ₆ q₆) ∷ ‵ (out-own (out .now)) ∷ ‵ texts-own ∷ ‵ references-own ∷ ‵ comments-own ∷ ‵ qualifiers-own ∷ ‵ locations-own ∷ ‵ letters-own ∷ Γ) G
     lends-write t z next =
-        owned t (Many 42) (Is (Many 42)) (array-makes 𝓤 H A W Feature-is.the-row (LL.makes Feature-is.the-type Feature-has.the-plain 𝓤 H A) 42) rows (array-vals (LL.vals Feature-is.the-type Feature-has.the-laws) rows) rows-is $
+        owned t (Many 33) (Is (Many 33)) (array-makes 𝓤 H A W Feature-is.the-row (LL.makes Feature-is.the-type Feature-has.the-plain 𝓤 H A) 33) rows (array-vals (LL.vals Feature-is.the-type Feature-has.the-laws) rows) rows-is $
         move t (1 ∷ 0 ∷ []) $
-        use2 W (given (length rows ≡ 42) (‵ (side-by-side (in-memory Feature-is.the-row) rows l₁₁ 0))) (apart 42 𝓤 H A W l₁₁ rows (many-val rows)) $ learn t (λ full-array.
-        use1 W (‵ (side-by-side (in-memory Feature-is.the-row) (front n rows) l₁₁ 0) ⊛ ‵ (Rest Feature-is.the-row n rows l₁₁)) (cut Feature-is.the-row n 42 within-write rows full-array 𝓤 H A W l₁₁) $ split t $
-        use1 W (later (some (λ (k-array : Loan). ‵ (flft (k-array .life ∷ []) fullShare) ⊛ ‵ (SharedCells Feature-is.the-row (named 4) l₁₁ n (front n rows) k-array) ⊛ ‵ (MineShr Feature-is.the-row l₁₁ (front n rows) k-array))))
-        (shares-cells Feature-is.the-row 𝓤 H A W (named 4) l₁₁ n (front-room Feature-is.the-row n 42 within-write rows full-array (lit< tt, lit< tt)) (front n rows) (front-long Feature-is.the-row n 42 within-write rows full-array)) $
+        use2 W (given (length rows ≡ 33) (‵ (side-by-side (in-memory Feature-is.the-row) rows l₁₂ 0))) (apart 33 𝓤 H A W l₁₂ rows (many-val rows)) $ learn t (λ full-array.
+        use1 W (‵ (side-by-side (in-memory Feature-is.the-row) (front n rows) l₁₂ 0) ⊛ ‵ (Rest Feature-is.the-row n rows l₁₂)) (cut Feature-is.the-row n 33 within-write rows full-array 𝓤 H A W l₁₂) $ split t $
+        use1 W (later (some (λ (k-array : Loan). ‵ (flft (k-array .life ∷ []) fullShare) ⊛ ‵ (SharedCells Feature-is.the-row (named 4) l₁₂ n (front n rows) k-array) ⊛ ‵ (MineShr Feature-is.the-row l₁₂ (front n rows) k-array))))
+        (shares-cells Feature-is.the-row 𝓤 H A W (named 4) l₁₂ n (front-room Feature-is.the-row n 33 within-write rows full-array (lit< tt, lit< tt)) (front n rows) (front-long Feature-is.the-row n 33 within-write rows full-array)) $
         await t z $ pick t (λ k-array. split3 t $
-        move t (4 ∷ 5 ∷ 6 ∷ 7 ∷ 0 ∷ 8 ∷ 9 ∷ 10 ∷ 11 ∷ 12 ∷ 13 ∷ 1 ∷ 14 ∷ 15 ∷ []) $
-        group t 14 $
+        move t (4 ∷ 5 ∷ 6 ∷ 7 ∷ 0 ∷ 8 ∷ 9 ∷ 10 ∷ 11 ∷ 12 ∷ 13 ∷ 14 ∷ 1 ∷ 15 ∷ 16 ∷ 17 ∷ []) $
+        group t 16 $
         use1 W (raw (write-contract 𝓤 H A mem run .pre (to-write full-array k-array))) (goes-write full-array k-array) $
         next full-array k-array))
 
     -- what `write` says of its answer and of the lists that it leaves
     abbrev Said-write : WriteAnswer → List ℕ → Type 0
-    Said-write r-write out-write = WriteAnswered how (roomsIn (texts .now) (references .now) (comments .now) (flat (front n rows)) (qualifiers .now) (letters .now)) head (out .now) (out-write) r-write
+    Said-write r-write out-write = WriteAnswered how (roomsIn (texts .now) (references .now) (comments .now) (flat (front n rows)) (qualifiers .now) (locations .now) (letters .now)) head (out .now) (out-write) r-write
 
-    back-write : {K : Type 0} {Γ : List (Item 𝓤)} {d : S.Place} {rest : S.Body} {q : Ending 𝓤 H} → K → (full-array : length rows ≡ 42) (k-array : Loan) →
+    back-write : {K : Type 0} {Γ : List (Item 𝓤)} {d : S.Place} {rest : S.Body} {q : Ending 𝓤 H} → K → (full-array : length rows ≡ 33) (k-array : Loan) →
         ((r-write : WriteAnswer) (r-write-is : Is WriteAnswer-is.the-row r-write ((WriteAnswer-val r-write) ∷ [])) (out-write : List ℕ) (out-write-long : length out-write ≡ length (out .now)) (said-write : Said-write r-write out-write) → Seq K W
-        (‵ (fat fullShare (tyArray Feature-has.mir 42) l₁₁ 0 (many-val rows)) ∷ ‵ (flft κ₀ q₀) ∷ ‵ (flft κ₁ q₁) ∷ ‵ (flft κ₂ q₂) ∷ ‵ (flft κ₃ q₃) ∷ ‵ (flft κ₄ q₄) ∷ ‵ (flft κ₅ q₅) ∷ ‵ (out-last out-write) ∷ Γ) (lands C Λ E d (WriteAnswer-val r-write) rest q))
-        → (u : Val) → Seq K W (raw (write-contract 𝓤 H A mem run .post (to-write full-array k-array) u) ∷ ‵ (MineShr Feature-is.the-row l₁₁ (front n rows) k-array) ∷ ‵ (Rest Feature-is.the-row n rows l₁₁) ∷ Γ) (lands C Λ E d u rest q)
+        (‵ (fat fullShare (tyArray Feature-has.mir 33) l₁₂ 0 (many-val rows)) ∷ ‵ (flft κ₀ q₀) ∷ ‵ (flft κ₁ q₁) ∷ ‵ (flft κ₂ q₂) ∷ ‵ (flft κ₃ q₃) ∷ ‵ (flft κ₄ q₄) ∷ ‵ (flft κ₅ q₅) ∷ ‵ (flft κ₆ q₆) ∷ ‵ (out-last out-write) ∷ Γ) (lands C Λ E d (WriteAnswer-val r-write) rest q))
+        → (u : Val) → Seq K W (raw (write-contract 𝓤 H A mem run .post (to-write full-array k-array) u) ∷ ‵ (MineShr Feature-is.the-row l₁₂ (front n rows) k-array) ∷ ‵ (Rest Feature-is.the-row n rows l₁₂) ∷ Γ) (lands C Λ E d u rest q)
     back-write t full-array k-array next u =
-        use1 W (later (some (λ (r-write : WriteAnswer). ((‵ (flft κ₀ q₀) ⊛ ‵ (flft κ₁ q₁) ⊛ ‵ (flft κ₂ q₂) ⊛ ‵ (flft κ₃ q₃) ⊛ ‵ (flft (k-array .life ∷ []) fullShare) ⊛ ‵ (flft κ₄ q₄) ⊛ ‵ (flft κ₅ q₅) ⊛ ‵ ftrue) ⊛ ‵ (WriteAnswer-is.the-row .own r-write (u ∷ []))) ⊛ raw
+        use1 W (later (some (λ (r-write : WriteAnswer). ((‵ (flft κ₀ q₀) ⊛ ‵ (flft κ₁ q₁) ⊛ ‵ (flft κ₂ q₂) ⊛ ‵ (flft κ₃ q₃) ⊛ ‵ (flft (k-array .life ∷ []) fullShare) ⊛ ‵ (flft κ₄ q₄) ⊛ ‵ (flft κ₅ q₅) ⊛ ‵ (flft κ₆ q₆) ⊛ ‵ ftrue) ⊛ ‵ (WriteAnswer-is.the-row .own r-write (u ∷ []))) ⊛ raw
         (ensured 𝓤 H A write.ended (write.clauses 𝓤 H A mem run) (lfts-write full-array k-array) (args-write full-array k-array) tt r-write)))) (id⊢ 𝓤 _) $
         await t tt $ pick t (λ r-write. split t $ move t (1 ∷ []) $
-        use1 W (some (λ (ws : (List ℕ) × ((Unit {0}) × ((Unit {0}) × ((Unit {0}) × ((Unit {0}) × ((Unit {0}) × ((Unit {0}) × ((Unit {0}) × ((Unit {0}) × Unit {0}))))))))). ((‵ (finally u8 (out .name) (ws .0)) ⊛ ‵ (feq ℕ (length (ws .0)) (length (out .now)))) ⊛ ‵ ftrue ⊛ ‵ ftrue ⊛ ‵ ftrue ⊛ ‵ ftrue ⊛ ‵ ftrue ⊛ ‵ ftrue ⊛ ‵ ftrue ⊛ ‵ ftrue ⊛ ‵ ftrue)
-        ⊛ raw (fact 𝓤 (Said-write r-write (ws .0))))) (id⊢ 𝓤 _) $
+        use1 W (some (λ (ws : (List ℕ) × ((Unit {0}) × ((Unit {0}) × ((Unit {0}) × ((Unit {0}) × ((Unit {0}) × ((Unit {0}) × ((Unit {0}) × ((Unit {0}) × ((Unit {0}) × Unit {0})))))))))).
+        ((‵ (finally u8 (out .name) (ws .0)) ⊛ ‵ (feq ℕ (length (ws .0)) (length (out .now)))) ⊛ ‵ ftrue ⊛ ‵ ftrue ⊛ ‵ ftrue ⊛ ‵ ftrue ⊛ ‵ ftrue ⊛ ‵ ftrue ⊛ ‵ ftrue ⊛ ‵ ftrue ⊛ ‵ ftrue ⊛ ‵ ftrue) ⊛ raw (fact 𝓤 (Said-write r-write (ws .0))))) (id⊢ 𝓤 _) $
         pick t (λ ws.
         split t $ move t (1 ∷ []) $ heard t (Said-write r-write (ws .0)) (λ said-write.
-        splits t ((‵ (finally u8 (out .name) (ws .0)) ⊛ ‵ (feq ℕ (length (ws .0)) (length (out .now)))) ∷ ‵ ftrue ∷ ‵ ftrue ∷ ‵ ftrue ∷ ‵ ftrue ∷ ‵ ftrue ∷ ‵ ftrue ∷ ‵ ftrue ∷ ‵ ftrue ∷ []) (id⊢ 𝓤 _) $
+        splits t ((‵ (finally u8 (out .name) (ws .0)) ⊛ ‵ (feq ℕ (length (ws .0)) (length (out .now)))) ∷ ‵ ftrue ∷ ‵ ftrue ∷ ‵ ftrue ∷ ‵ ftrue ∷ ‵ ftrue ∷ ‵ ftrue ∷ ‵ ftrue ∷ ‵ ftrue ∷ ‵ ftrue ∷ []) (id⊢ 𝓤 _) $
         split t $ move t (1 ∷ []) $ feqL t (λ out-long.
-        move t (1 ∷ 2 ∷ 3 ∷ 4 ∷ 5 ∷ 6 ∷ 7 ∷ 8 ∷ []) $
-        drop t $ drop t $ drop t $ drop t $ drop t $ drop t $ drop t $ drop t $
+        move t (1 ∷ 2 ∷ 3 ∷ 4 ∷ 5 ∷ 6 ∷ 7 ∷ 8 ∷ 9 ∷ []) $
+        drop t $ drop t $ drop t $ drop t $ drop t $ drop t $ drop t $ drop t $ drop t $
         move t (1 ∷ []) $
         split t $
-        splits t (‵ (flft κ₀ q₀) ∷ ‵ (flft κ₁ q₁) ∷ ‵ (flft κ₂ q₂) ∷ ‵ (flft κ₃ q₃) ∷ ‵ (flft (k-array .life ∷ []) fullShare) ∷ ‵ (flft κ₄ q₄) ∷ ‵ (flft κ₅ q₅) ∷ []) (id⊢ 𝓤 _) $
-        move t (7 ∷ []) $
+        splits t (‵ (flft κ₀ q₀) ∷ ‵ (flft κ₁ q₁) ∷ ‵ (flft κ₂ q₂) ∷ ‵ (flft κ₃ q₃) ∷ ‵ (flft (k-array .life ∷ []) fullShare) ∷ ‵ (flft κ₄ q₄) ∷ ‵ (flft κ₅ q₅) ∷ ‵ (flft κ₆ q₆) ∷ []) (id⊢ 𝓤 _) $
+        move t (8 ∷ []) $
         lands-at t WriteAnswer-is.the-row (EL.vals WriteAnswer-is.the-type WriteAnswer-has.the-laws) (EL.tells WriteAnswer-is.the-type WriteAnswer-has.the-laws) r-write u (λ r-write-is.
-        move t (4 ∷ 8 ∷ []) $
-        use2 W (later (‵ (side-by-side (in-memory Feature-is.the-row) (front n rows) l₁₁ 0))) (shr-cells-back Feature-is.the-row 𝓤 H A W (named 4) l₁₁ n (front-room Feature-is.the-row n 42 within-write rows full-array (lit< tt, lit< tt)) k-array (front n rows)) $ await t tt $
-        move t (0 ∷ 8 ∷ []) $
-        use2 W (‵ (side-by-side (in-memory Feature-is.the-row) rows l₁₁ 0)) (whole-again Feature-is.the-row n 42 within-write rows full-array 𝓤 H A W l₁₁) $
-        use1 W (‵ (fat fullShare (tyArray Feature-has.mir 42) l₁₁ 0 (many-val rows)) ⊛ ‵ ((Many 42) .own rows (array-vals (LL.vals Feature-is.the-type Feature-has.the-laws) rows))) (together 42 𝓤 H A W l₁₁ rows full-array) $
-        split t $ move t (1 ∷ []) $ peeks t (Many 42) (Is (Many 42)) (shows 𝓤 H A (Many 42)) rows (array-vals (LL.vals Feature-is.the-type Feature-has.the-laws) rows) (λ array-is. drop t $
+        move t (4 ∷ 9 ∷ []) $
+        use2 W (later (‵ (side-by-side (in-memory Feature-is.the-row) (front n rows) l₁₂ 0))) (shr-cells-back Feature-is.the-row 𝓤 H A W (named 4) l₁₂ n (front-room Feature-is.the-row n 33 within-write rows full-array (lit< tt, lit< tt)) k-array (front n rows)) $ await t tt $
+        move t (0 ∷ 9 ∷ []) $
+        use2 W (‵ (side-by-side (in-memory Feature-is.the-row) rows l₁₂ 0)) (whole-again Feature-is.the-row n 33 within-write rows full-array 𝓤 H A W l₁₂) $
+        use1 W (‵ (fat fullShare (tyArray Feature-has.mir 33) l₁₂ 0 (many-val rows)) ⊛ ‵ ((Many 33) .own rows (array-vals (LL.vals Feature-is.the-type Feature-has.the-laws) rows))) (together 33 𝓤 H A W l₁₂ rows full-array) $
+        split t $ move t (1 ∷ []) $ peeks t (Many 33) (Is (Many 33)) (shows 𝓤 H A (Many 33)) rows (array-vals (LL.vals Feature-is.the-type Feature-has.the-laws) rows) (λ array-is. drop t $
         next r-write r-write-is (ws .0) out-long said-write))))))
 
     module _ (r-write : WriteAnswer) (r-write-is : Is WriteAnswer-is.the-row r-write ((WriteAnswer-val r-write) ∷ [])) (out-write : List ℕ) (out-write-long : length out-write ≡ length (out .now)) (said-write : Said-write r-write out-write) where
       -- the law, and the end
-      ended : WriteAnswered how (roomsIn (texts .now) (references .now) (comments .now) (flat (take n rows)) (qualifiers .now) (letters .now)) head (out .now) (out-write) r-write
+      ended : WriteAnswered how (roomsIn (texts .now) (references .now) (comments .now) (flat (take n rows)) (qualifiers .now) (locations .now) (letters .now)) head (out .now) (out-write) r-write
       ended = said-write
 
       abbrev at-last : List (Item 𝓤)
-      at-last = ‵ (flft κ₀ q₀) ∷ ‵ (flft κ₁ q₁) ∷ ‵ (flft κ₂ q₂) ∷ ‵ (flft κ₃ q₃) ∷ ‵ (flft κ₄ q₄) ∷ ‵ (flft κ₅ q₅) ∷ ‵ (out-last out-write) ∷ []
+      at-last = ‵ (flft κ₀ q₀) ∷ ‵ (flft κ₁ q₁) ∷ ‵ (flft κ₂ q₂) ∷ ‵ (flft κ₃ q₃) ∷ ‵ (flft κ₄ q₄) ∷ ‵ (flft κ₅ q₅) ∷ ‵ (flft κ₆ q₆) ∷ ‵ (out-last out-write) ∷ []
 
       exits : ent 𝓤 (⋆ 𝓤 H A at-last) (Post (WriteAnswer-val r-write))
       exits =
           qed W at-last ∵
-          suffices ! _ (ends-at 𝓤 H A f.ended stayed (f.clauses 𝓤 H A mem run) W bound (WriteAnswer-val r-write) r-write (out-write, (tt, (tt, (tt, (tt, (tt, (tt, (tt, (tt, (tt, tt)))))))))) (out-write-long, (tt, (tt, (tt, (tt, (tt, (tt, (tt, (tt, (tt, tt))))))))))) $ says ! ended $
+          suffices ! _ (ends-at 𝓤 H A f.ended stayed (f.clauses 𝓤 H A mem run) W bound (WriteAnswer-val r-write) r-write (out-write, (tt, (tt, (tt, (tt, (tt, (tt, (tt, (tt, (tt, (tt, tt))))))))))) (out-write-long, (tt, (tt, (tt, (tt, (tt, (tt, (tt, (tt, (tt, (tt, tt)))))))))))) $ says ! ended $
           owned ! WriteAnswer-is.the-row (Is WriteAnswer-is.the-row) (EL.makes WriteAnswer-is.the-type WriteAnswer-has.the-plain 𝓤 H A) r-write ((WriteAnswer-val r-write) ∷ []) r-write-is $
-          nothing ! $ nothing ! $ nothing ! $ nothing ! $ nothing ! $ nothing ! $ nothing ! $ nothing ! $ nothing ! $ nothing ! $ nothing ! $
-          move ! (12 ∷ 13 ∷ 14 ∷ 15 ∷ 16 ∷ 17 ∷ 9 ∷ 18 ∷ 0 ∷ 1 ∷ 2 ∷ 3 ∷ 4 ∷ 5 ∷ 6 ∷ 7 ∷ 8 ∷ 10 ∷ 11 ∷ []) $
-          group ! 7 $ frame ! $ group ! 11 $
+          nothing ! $ nothing ! $ nothing ! $ nothing ! $ nothing ! $ nothing ! $ nothing ! $ nothing ! $ nothing ! $ nothing ! $ nothing ! $ nothing ! $
+          move ! (13 ∷ 14 ∷ 15 ∷ 16 ∷ 17 ∷ 18 ∷ 19 ∷ 10 ∷ 20 ∷ 0 ∷ 1 ∷ 2 ∷ 3 ∷ 4 ∷ 5 ∷ 6 ∷ 7 ∷ 8 ∷ 9 ∷ 11 ∷ 12 ∷ []) $
+          group ! 8 $ frame ! $ group ! 12 $
           done !
 
       abbrev part-3-holds : List Cell
-      part-3-holds = holds (WriteAnswer-val r-write) ∷ holds (v out) ∷ holds (v texts) ∷ holds (v references) ∷ holds (v comments) ∷ holds (many-val rows) ∷ holds (vint w64 n) ∷ holds (v qualifiers) ∷ holds (v letters) ∷ holds (Head-val head) ∷ holds (How-val how) ∷ away ∷ holds (vptr (out .ptr .0) (out .ptr .1)) ∷ holds (v out) ∷ holds
-          (vptr l₁₁ 0) ∷ holds (sliceVal (l₁₁, 0) n) ∷ []
+      part-3-holds = holds (WriteAnswer-val r-write) ∷ holds (v out) ∷ holds (v texts) ∷ holds (v references) ∷ holds (v comments) ∷ holds (many-val rows) ∷ holds (vint w64 n) ∷ holds (v qualifiers) ∷ holds (v locations) ∷ holds (v letters) ∷ holds (Head-val head) ∷ holds (How-val how) ∷ away ∷ holds (vptr (out .ptr .0) (out .ptr .1)) ∷ holds
+          (v out) ∷ holds (vptr l₁₂ 0) ∷ holds (sliceVal (l₁₂, 0) n) ∷ []
 
-      part-3 : Sq W (‵ (fat fullShare (tyArray Feature-has.mir 42) l₁₁ 0 (many-val rows)) ∷ ‵ (flft κ₀ q₀) ∷ ‵ (flft κ₁ q₁) ∷ ‵ (flft κ₂ q₂) ∷ ‵ (flft κ₃ q₃) ∷ ‵ (flft κ₄ q₄) ∷ ‵ (flft κ₅ q₅) ∷ ‵ (out-last out-write) ∷ standing part-3-holds) (runs C Λ E body.t-7 (atRet E Post))
+      part-3 : Sq W (‵ (fat fullShare (tyArray Feature-has.mir 33) l₁₂ 0 (many-val rows)) ∷ ‵ (flft κ₀ q₀) ∷ ‵ (flft κ₁ q₁) ∷ ‵ (flft κ₂ q₂) ∷ ‵ (flft κ₃ q₃) ∷ ‵ (flft κ₄ q₄) ∷ ‵ (flft κ₅ q₅) ∷ ‵ (flft κ₆ q₆) ∷ ‵ (out-last out-write) ∷ standing part-3-holds) (runs C Λ E body.t-7 (atRet E Post))
       part-3 =
-          move ! (1 ∷ 2 ∷ 3 ∷ 4 ∷ 5 ∷ 6 ∷ 7 ∷ 8 ∷ 9 ∷ 10 ∷ 11 ∷ 12 ∷ 13 ∷ 14 ∷ 15 ∷ 16 ∷ 17 ∷ 18 ∷ 0 ∷ []) $
-          returns ! (look ! 7 refl) $ frees-all ! at-last
-          (holds (WriteAnswer-val r-write) ∷ holds (v out) ∷ holds (v texts) ∷ holds (v references) ∷ holds (v comments) ∷ holds (many-val rows) ∷ holds (vint w64 n) ∷ holds (v qualifiers) ∷ holds (v letters) ∷ holds (Head-val head) ∷ holds (How-val how) ∷ holds (many-val rows) ∷ holds (vptr (out .ptr .0) (out .ptr .1)) ∷ holds (v out) ∷ holds
-          (vptr l₁₁ 0) ∷ holds (sliceVal (l₁₁, 0) n) ∷ []) tt exits
+          move ! (1 ∷ 2 ∷ 3 ∷ 4 ∷ 5 ∷ 6 ∷ 7 ∷ 8 ∷ 9 ∷ 10 ∷ 11 ∷ 12 ∷ 13 ∷ 14 ∷ 15 ∷ 16 ∷ 17 ∷ 18 ∷ 19 ∷ 20 ∷ 0 ∷ []) $
+          returns ! (look ! 8 refl) $ frees-all ! at-last
+          (holds (WriteAnswer-val r-write) ∷ holds (v out) ∷ holds (v texts) ∷ holds (v references) ∷ holds (v comments) ∷ holds (many-val rows) ∷ holds (vint w64 n) ∷ holds (v qualifiers) ∷ holds (v locations) ∷ holds (v letters) ∷ holds (Head-val head) ∷ holds (How-val how) ∷ holds (many-val rows) ∷ holds (vptr (out .ptr .0) (out .ptr .1)) ∷
+          holds (v out) ∷ holds (vptr l₁₂ 0) ∷ holds (sliceVal (l₁₂, 0) n) ∷ []) tt exits
 
     abbrev part-2-holds : List Cell
-    part-2-holds = vacant ∷ holds (v out) ∷ holds (v texts) ∷ holds (v references) ∷ holds (v comments) ∷ holds (many-val rows) ∷ holds (vint w64 n) ∷ holds (v qualifiers) ∷ holds (v letters) ∷ holds (Head-val head) ∷ holds (How-val how) ∷ holds (many-val rows) ∷ holds (vptr (out .ptr .0) (out .ptr .1)) ∷ holds (v out) ∷ holds (vptr l₁₁ 0) ∷ vacant
-        ∷ []
+    part-2-holds = vacant ∷ holds (v out) ∷ holds (v texts) ∷ holds (v references) ∷ holds (v comments) ∷ holds (many-val rows) ∷ holds (vint w64 n) ∷ holds (v qualifiers) ∷ holds (v locations) ∷ holds (v letters) ∷ holds (Head-val head) ∷ holds (How-val how) ∷ holds (many-val rows) ∷ holds (vptr (out .ptr .0) (out .ptr .1)) ∷ holds (v out) ∷ holds
+        (vptr l₁₂ 0) ∷ vacant ∷ []
 
-    part-2 : Sq W (‵ (flft κ₀ q₀) ∷ ‵ (flft κ₁ q₁) ∷ ‵ (flft κ₂ q₂) ∷ ‵ (flft κ₃ q₃) ∷ ‵ (flft κ₄ q₄) ∷ ‵ (flft κ₅ q₅) ∷ ‵ (out-own (out .now)) ∷ ‵ texts-own ∷ ‵ references-own ∷ ‵ comments-own ∷ ‵ qualifiers-own ∷ ‵ letters-own ∷ standing part-2-holds) (runs C Λ E body.t-5 (atRet E Post))
+    part-2 : Sq W (‵ (flft κ₀ q₀) ∷ ‵ (flft κ₁ q₁) ∷ ‵ (flft κ₂ q₂) ∷ ‵ (flft κ₃ q₃) ∷ ‵ (flft κ₄ q₄) ∷ ‵ (flft κ₅ q₅) ∷ ‵ (flft κ₆ q₆) ∷ ‵ (out-own (out .now)) ∷ ‵ texts-own ∷ ‵ references-own ∷ ‵ comments-own ∷ ‵ qualifiers-own ∷ ‵ locations-own ∷ ‵ letters-own ∷ standing part-2-holds) (runs C Λ E body.t-5 (atRet E Post))
     part-2 =
-        assigns ! (agg ! (and-then ! (load ! (from ! (stop !)) (look ! 26 refl)) (and-then ! (load ! (from ! (stop !)) (look ! 18 refl)) (no-more !)))) (from ! (stop !)) (init ! 27 refl (tt, (tt, (record { fits = n-is .1 }, tt)))) $
-        move ! (23 ∷ 0 ∷ 1 ∷ 2 ∷ 3 ∷ 4 ∷ 5 ∷ 6 ∷ 7 ∷ 8 ∷ 9 ∷ 10 ∷ 11 ∷ []) $
+        assigns ! (agg ! (and-then ! (load ! (from ! (stop !)) (look ! 29 refl)) (and-then ! (load ! (from ! (stop !)) (look ! 20 refl)) (no-more !)))) (from ! (stop !)) (init ! 30 refl (tt, (tt, (record { fits = n-is .1 }, tt)))) $
+        move ! (26 ∷ 0 ∷ 1 ∷ 2 ∷ 3 ∷ 4 ∷ 5 ∷ 6 ∷ 7 ∷ 8 ∷ 9 ∷ 10 ∷ 11 ∷ 12 ∷ 13 ∷ []) $
         lends-write ! tt (λ full-array k-array.
         calls-at ! fm (write-contract 𝓤 H A mem run) known-write (to-write full-array k-array)
-        (and-then ! (load ! (from ! (stop !)) (look ! 15 refl))
+        (and-then ! (load ! (from ! (stop !)) (look ! 16 refl))
         (and-then ! (load ! (from ! (stop !)) (look ! 5 refl))
         (and-then ! (load ! (from ! (stop !)) (look ! 6 refl))
         (and-then ! (load ! (from ! (stop !)) (look ! 7 refl))
-        (and-then ! (load ! (from ! (stop !)) (look ! 17 refl)) (and-then ! (load ! (from ! (stop !)) (look ! 10 refl)) (and-then ! (load ! (from ! (stop !)) (look ! 11 refl)) (and-then ! (load ! (from ! (stop !)) (look ! 12 refl)) (and-then ! (load ! (from ! (stop !)) (look ! 13 refl)) (no-more !))))))))))
+        (and-then ! (load ! (from ! (stop !)) (look ! 18 refl))
+        (and-then ! (load ! (from ! (stop !)) (look ! 10 refl)) (and-then ! (load ! (from ! (stop !)) (look ! 11 refl)) (and-then ! (load ! (from ! (stop !)) (look ! 12 refl)) (and-then ! (load ! (from ! (stop !)) (look ! 13 refl)) (and-then ! (load ! (from ! (stop !)) (look ! 14 refl)) (no-more !)))))))))))
         (back-write ! full-array k-array (λ r-write r-write-is out-write out-write-long said-write.
-        land ! (from ! (stop !)) (init ! 8 refl (EL.lawful WriteAnswer-is.the-type WriteAnswer-has.the-laws 𝓤 H A W tt .typed r-write ((WriteAnswer-val r-write) ∷ []) r-write-is .0)) $
+        land ! (from ! (stop !)) (init ! 9 refl (EL.lawful WriteAnswer-is.the-type WriteAnswer-has.the-laws 𝓤 H A W tt .typed r-write ((WriteAnswer-val r-write) ∷ []) r-write-is .0)) $
         part-3 r-write r-write-is out-write out-write-long said-write)))
 
     abbrev part-1-holds : List Cell
-    part-1-holds = vacant ∷ holds (v out) ∷ holds (v texts) ∷ holds (v references) ∷ holds (v comments) ∷ holds (many-val rows) ∷ holds (vint w64 n) ∷ holds (v qualifiers) ∷ holds (v letters) ∷ holds (Head-val head) ∷ holds (How-val how) ∷ vacant ∷ vacant ∷ vacant ∷ vacant ∷ vacant ∷ []
+    part-1-holds = vacant ∷ holds (v out) ∷ holds (v texts) ∷ holds (v references) ∷ holds (v comments) ∷ holds (many-val rows) ∷ holds (vint w64 n) ∷ holds (v qualifiers) ∷ holds (v locations) ∷ holds (v letters) ∷ holds (Head-val head) ∷ holds (How-val how) ∷ vacant ∷ vacant ∷ vacant ∷ vacant ∷ vacant ∷ []
 
-    part-1 : Sq W (‵ (flft κ₀ q₀) ∷ ‵ (flft κ₁ q₁) ∷ ‵ (flft κ₂ q₂) ∷ ‵ (flft κ₃ q₃) ∷ ‵ (flft κ₄ q₄) ∷ ‵ (flft κ₅ q₅) ∷ ‵ (out-own (out .now)) ∷ ‵ texts-own ∷ ‵ references-own ∷ ‵ comments-own ∷ ‵ qualifiers-own ∷ ‵ letters-own ∷ standing part-1-holds) (runs C Λ E body.t-1 (atRet E Post))
+    part-1 : Sq W (‵ (flft κ₀ q₀) ∷ ‵ (flft κ₁ q₁) ∷ ‵ (flft κ₂ q₂) ∷ ‵ (flft κ₃ q₃) ∷ ‵ (flft κ₄ q₄) ∷ ‵ (flft κ₅ q₅) ∷ ‵ (flft κ₆ q₆) ∷ ‵ (out-own (out .now)) ∷ ‵ texts-own ∷ ‵ references-own ∷ ‵ comments-own ∷ ‵ qualifiers-own ∷ ‵ locations-own ∷ ‵ letters-own ∷ standing part-1-holds) (runs C Λ E body.t-1 (atRet E Post))
     part-1 =
-        assigns ! (of-opd ! (load ! (from ! (stop !)) (look ! 17 refl))) (from ! (stop !)) (init ! 23 refl (array-lawful 𝓤 H A W Feature-is.the-row (LL.lawful Feature-is.the-type Feature-has.the-laws 𝓤 H A W) 42 .typed rows (array-vals (LL.vals Feature-is.the-type Feature-has.the-laws) rows) rows-is .0)) $
-        assigns ! (addr ! (from ! (fld ! refl (hop ! (look-in ! 13 (sub ! 0 refl (whole !))) (stop !))))) (from ! (stop !)) (init ! 24 refl (tt, tt)) $
-        assigns ! (agg ! (and-then ! (load ! (from ! (stop !)) (look ! 24 refl)) (and-then ! (load ! (from ! (fld ! refl (stop !))) (look-in ! 13 (sub ! 1 refl (whole !)))) (no-more !)))) (from ! (stop !)) (init ! 25 refl (tt, (tt, (record { fits = out-room .0 }, tt)))) $
-        assigns ! (addr ! (from ! (stop !))) (from ! (stop !)) (init ! 26 refl (tt, tt)) $
+        assigns ! (of-opd ! (load ! (from ! (stop !)) (look ! 19 refl))) (from ! (stop !)) (init ! 26 refl (array-lawful 𝓤 H A W Feature-is.the-row (LL.lawful Feature-is.the-type Feature-has.the-laws 𝓤 H A W) 33 .typed rows (array-vals (LL.vals Feature-is.the-type Feature-has.the-laws) rows) rows-is .0)) $
+        assigns ! (addr ! (from ! (fld ! refl (hop ! (look-in ! 15 (sub ! 0 refl (whole !))) (stop !))))) (from ! (stop !)) (init ! 27 refl (tt, tt)) $
+        assigns ! (agg ! (and-then ! (load ! (from ! (stop !)) (look ! 27 refl)) (and-then ! (load ! (from ! (fld ! refl (stop !))) (look-in ! 15 (sub ! 1 refl (whole !)))) (no-more !)))) (from ! (stop !)) (init ! 28 refl (tt, (tt, (record { fits = out-room .0 }, tt)))) $
+        assigns ! (addr ! (from ! (stop !))) (from ! (stop !)) (init ! 29 refl (tt, tt)) $
         part-2
 
-    begins : Sq W (locals 𝓤 H A E (vacant ∷ vacant ∷ vacant ∷ vacant ∷ vacant ∷ vacant ∷ vacant ∷ vacant ∷ vacant ∷ vacant ∷ vacant ∷ vacant ∷ vacant ∷ vacant ∷ vacant ∷ vacant ∷ []) (raw (Dies 𝓤 H A E) ∷ Had []))
-        (params′ E ((v out) ∷ (v texts) ∷ (v references) ∷ (v comments) ∷ (many-val rows) ∷ (vint w64 n) ∷ (v qualifiers) ∷ (v letters) ∷ (Head-val head) ∷ (How-val how) ∷ []) (runs C Λ E body.t-1 (atRet E Post)))
+    begins : Sq W (locals 𝓤 H A E (vacant ∷ vacant ∷ vacant ∷ vacant ∷ vacant ∷ vacant ∷ vacant ∷ vacant ∷ vacant ∷ vacant ∷ vacant ∷ vacant ∷ vacant ∷ vacant ∷ vacant ∷ vacant ∷ vacant ∷ []) (raw (Dies 𝓤 H A E) ∷ Had []))
+        (params′ E ((v out) ∷ (v texts) ∷ (v references) ∷ (v comments) ∷ (many-val rows) ∷ (vint w64 n) ∷ (v qualifiers) ∷ (v locations) ∷ (v letters) ∷ (Head-val head) ∷ (How-val how) ∷ []) (runs C Λ E body.t-1 (atRet E Post)))
     begins =
         params1 ! $ pass1 ! (init ! 1 refl (tt, (tt, (record { fits = out-room .0 }, tt)))) $ pass1 ! (init ! 2 refl (tt, (tt, (record { fits = texts-room .0 }, tt)))) $ pass1 ! (init ! 3 refl (tt, (tt, (record { fits = references-room .0 }, tt)))) $ pass1 ! (init ! 4 refl (tt, (tt, (record { fits = comments-room .0 }, tt)))) $ pass1 !
-        (init ! 5 refl (array-lawful 𝓤 H A W Feature-is.the-row (LL.lawful Feature-is.the-type Feature-has.the-laws 𝓤 H A W) 42 .typed rows (array-vals (LL.vals Feature-is.the-type Feature-has.the-laws) rows) rows-is .0)) $ pass1 ! (init ! 6 refl (uint-lawful 𝓤 H A W w64 .typed n ((vint w64 n) ∷ []) n-is .0)) $ pass1 !
-        (init ! 7 refl (tt, (tt, (record { fits = qualifiers-room .0 }, tt)))) $ pass1 ! (init ! 8 refl (tt, (tt, (record { fits = letters-room .0 }, tt)))) $ pass1 ! (init ! 9 refl (LL.lawful Head-is.the-type Head-has.the-laws 𝓤 H A W .typed head ((Head-val head) ∷ []) head-is .0)) $ pass1 !
-        (init ! 10 refl (LL.lawful How-is.the-type How-has.the-laws 𝓤 H A W .typed how ((How-val how) ∷ []) how-is .0)) $ pass0 ! $
-        move ! (17 ∷ 18 ∷ []) $ opened ! part-1
+        (init ! 5 refl (array-lawful 𝓤 H A W Feature-is.the-row (LL.lawful Feature-is.the-type Feature-has.the-laws 𝓤 H A W) 33 .typed rows (array-vals (LL.vals Feature-is.the-type Feature-has.the-laws) rows) rows-is .0)) $ pass1 ! (init ! 6 refl (uint-lawful 𝓤 H A W w64 .typed n ((vint w64 n) ∷ []) n-is .0)) $ pass1 !
+        (init ! 7 refl (tt, (tt, (record { fits = qualifiers-room .0 }, tt)))) $ pass1 ! (init ! 8 refl (tt, (tt, (record { fits = locations-room .0 }, tt)))) $ pass1 ! (init ! 9 refl (tt, (tt, (record { fits = letters-room .0 }, tt)))) $ pass1 !
+        (init ! 10 refl (LL.lawful Head-is.the-type Head-has.the-laws 𝓤 H A W .typed head ((Head-val head) ∷ []) head-is .0)) $ pass1 ! (init ! 11 refl (LL.lawful How-is.the-type How-has.the-laws 𝓤 H A W .typed how ((How-val how) ∷ []) how-is .0)) $ pass0 ! $
+        move ! (18 ∷ 19 ∷ []) $ opened ! part-1
 
-  walk : (C : Calls 𝓤 H) (Λ : Loops 𝓤 H) (fm : FmC 𝓤 H (W .laws) C) (known-write : Triple 𝓤 (C #write-record·write) (write-contract 𝓤 H A mem run)) → ent 𝓤 (onEntry 𝓤 H A f.signature (κ₀, (κ₁, (κ₂, (κ₃, (κ₄, (κ₅, tt)))))) (q₀, (q₁, (q₂, (q₃, (q₄, (q₅, tt)))))) a at-entry)
-      (WpFn 𝓤 H C Λ code.function ((v out) ∷ (v texts) ∷ (v references) ∷ (v comments) ∷ (many-val rows) ∷ (vint w64 n) ∷ (v qualifiers) ∷ (v letters) ∷ (Head-val head) ∷ (How-val how) ∷ []) Post)
+  walk : (C : Calls 𝓤 H) (Λ : Loops 𝓤 H) (fm : FmC 𝓤 H (W .laws) C) (known-write : Triple 𝓤 (C #write-record·write) (write-contract 𝓤 H A mem run)) → ent 𝓤 (onEntry 𝓤 H A f.signature (κ₀, (κ₁, (κ₂, (κ₃, (κ₄, (κ₅, (κ₆, tt))))))) (q₀, (q₁, (q₂, (q₃, (q₄, (q₅, (q₆, tt))))))) a at-entry)
+      (WpFn 𝓤 H C Λ code.function ((v out) ∷ (v texts) ∷ (v references) ∷ (v comments) ∷ (many-val rows) ∷ (vint w64 n) ∷ (v qualifiers) ∷ (v locations) ∷ (v letters) ∷ (Head-val head) ∷ (How-val how) ∷ []) Post)
   walk C Λ fm known-write =
-      qed W (Had []) ∵ enter ! C Λ code.function ((v out) ∷ (v texts) ∷ (v references) ∷ (v comments) ∷ (many-val rows) ∷ (vint w64 n) ∷ (v qualifiers) ∷ (v letters) ∷ (Head-val head) ∷ (How-val how) ∷ []) _ $
-      allocs-all ! (λ l₀ l₁ l₂ l₃ l₄ l₅ l₆ l₇ l₈ l₉ l₁₀ l₁₁ l₁₂ l₁₃ l₁₄ l₁₅. begins C Λ fm known-write l₀ l₁ l₂ l₃ l₄ l₅ l₆ l₇ l₈ l₉ l₁₀ l₁₁ l₁₂ l₁₃ l₁₄ l₁₅)
+      qed W (Had []) ∵ enter ! C Λ code.function ((v out) ∷ (v texts) ∷ (v references) ∷ (v comments) ∷ (many-val rows) ∷ (vint w64 n) ∷ (v qualifiers) ∷ (v locations) ∷ (v letters) ∷ (Head-val head) ∷ (How-val how) ∷ []) _ $
+      allocs-all ! (λ l₀ l₁ l₂ l₃ l₄ l₅ l₆ l₇ l₈ l₉ l₁₀ l₁₁ l₁₂ l₁₃ l₁₄ l₁₅ l₁₆. begins C Λ fm known-write l₀ l₁ l₂ l₃ l₄ l₅ l₆ l₇ l₈ l₉ l₁₀ l₁₁ l₁₂ l₁₃ l₁₄ l₁₅ l₁₆)
 
 module _ {M : Type 1} (𝓤 : URA M) (H : Heap 𝓤) (A : Atoms 𝓤) (W : Given 𝓤 H A) (mem : Memory → SProp 𝓤) (run : Routine → Fun 𝓤) (𝓣 : Tables 𝓤 H) (known-write : Triple 𝓤 (𝓣 .C #write-record·write) (write-contract 𝓤 H A mem run)) where
   write-lent-walks : Walks 𝓤 H A f.ended stayed (WpFn 𝓤 H (𝓣 .C) (𝓣 .Λ) code.function) (f.clauses 𝓤 H A mem run)
   write-lent-walks = walked 𝓤 H A f.ended stayed (f.clauses 𝓤 H A mem run) (WpFn 𝓤 H (𝓣 .C) (𝓣 .Λ) code.function)
-      (λ κs. (slice-vals, (slice-vals, (slice-vals, (slice-vals, (array-vals (LL.vals Feature-is.the-type Feature-has.the-laws), (uint-vals w64, (slice-vals, (slice-vals, (LL.vals Head-is.the-type Head-has.the-laws, (LL.vals How-is.the-type How-has.the-laws, tt)))))))))))
+      (λ κs. (slice-vals, (slice-vals, (slice-vals, (slice-vals, (array-vals (LL.vals Feature-is.the-type Feature-has.the-laws), (uint-vals w64, (slice-vals, (slice-vals, (slice-vals, (LL.vals Head-is.the-type Head-has.the-laws, (LL.vals How-is.the-type How-has.the-laws, tt))))))))))))
       (λ κs. (
         mut-slice-tells (named 0) (κs .0) u8,
         (
@@ -343,34 +356,37 @@ module _ {M : Type 1} (𝓤 : URA M) (H : Heap 𝓤) (A : Atoms 𝓤) (W : Given
             (
               shr-slice-tells (named 3) (κs .1 .1 .1 .0) usize,
               (
-                array-tells Feature-is.the-row (LL.vals Feature-is.the-type Feature-has.the-laws) (LL.tells Feature-is.the-type Feature-has.the-laws) 42,
-                (uint-tells w64, (shr-slice-tells (named 4) (κs .1 .1 .1 .1 .0) usize, (shr-slice-tells (named 5) (κs .1 .1 .1 .1 .1 .0) u8, (LL.tells Head-is.the-type Head-has.the-laws, (LL.tells How-is.the-type How-has.the-laws, tt))))),
+                array-tells Feature-is.the-row (LL.vals Feature-is.the-type Feature-has.the-laws) (LL.tells Feature-is.the-type Feature-has.the-laws) 33,
+                (uint-tells w64, (shr-slice-tells (named 4) (κs .1 .1 .1 .1 .0) usize, (shr-slice-tells (named 5) (κs .1 .1 .1 .1 .1 .0) usize, (shr-slice-tells (named 6) (κs .1 .1 .1 .1 .1 .1 .0) u8, (LL.tells Head-is.the-type Head-has.the-laws, (LL.tells How-is.the-type How-has.the-laws, tt)))))),
               ),
             ),
           ),
         ),
       ))
-      (λ κs qs bounds a g are. needs 𝓤 ((a .1 .1 .1 .1 .1 .0) ≤ 42) _
-      (λ required. walk 𝓤 H A W mem run (κs .0) (κs .1 .0) (κs .1 .1 .0) (κs .1 .1 .1 .0) (κs .1 .1 .1 .1 .0) (κs .1 .1 .1 .1 .1 .0) (qs .0) (qs .1 .0) (qs .1 .1 .0) (qs .1 .1 .1 .0) (qs .1 .1 .1 .1 .0) (qs .1 .1 .1 .1 .1 .0) (a .0) (a .1 .0) (a .1 .1 .0) (a .1 .1 .1 .0) (a .1 .1 .1 .1 .0) (a .1 .1 .1 .1 .1 .0) (a .1 .1 .1 .1 .1 .1 .0)
-      (a .1 .1 .1 .1 .1 .1 .1 .0) (a .1 .1 .1 .1 .1 .1 .1 .1 .0) (a .1 .1 .1 .1 .1 .1 .1 .1 .1 .0) (are .0 .0 .1) (are .1 .0 .0 .1) (are .1 .1 .0 .0 .1) (are .1 .1 .1 .0 .0 .1) (are .1 .1 .1 .1 .0) (are .1 .1 .1 .1 .1 .0) (are .1 .1 .1 .1 .1 .1 .0 .0 .1) (are .1 .1 .1 .1 .1 .1 .1 .0 .0 .1) (are .1 .1 .1 .1 .1 .1 .1 .1 .0)
-      (are .1 .1 .1 .1 .1 .1 .1 .1 .1 .0) required (𝓣 .C) (𝓣 .Λ) (fmOf 𝓤 H (W .laws) 𝓣) known-write))
+      (λ κs qs bounds a g are. needs 𝓤 ((a .1 .1 .1 .1 .1 .0) ≤ 33) _
+      (λ required. walk 𝓤 H A W mem run (κs .0) (κs .1 .0) (κs .1 .1 .0) (κs .1 .1 .1 .0) (κs .1 .1 .1 .1 .0) (κs .1 .1 .1 .1 .1 .0) (κs .1 .1 .1 .1 .1 .1 .0) (qs .0) (qs .1 .0) (qs .1 .1 .0) (qs .1 .1 .1 .0) (qs .1 .1 .1 .1 .0) (qs .1 .1 .1 .1 .1 .0) (qs .1 .1 .1 .1 .1 .1 .0) (a .0) (a .1 .0) (a .1 .1 .0) (a .1 .1 .1 .0) (a .1 .1 .1 .1 .0)
+      (a .1 .1 .1 .1 .1 .0) (a .1 .1 .1 .1 .1 .1 .0) (a .1 .1 .1 .1 .1 .1 .1 .0) (a .1 .1 .1 .1 .1 .1 .1 .1 .0) (a .1 .1 .1 .1 .1 .1 .1 .1 .1 .0) (a .1 .1 .1 .1 .1 .1 .1 .1 .1 .1 .0) (are .0 .0 .1) (are .1 .0 .0 .1) (are .1 .1 .0 .0 .1) (are .1 .1 .1 .0 .0 .1) (are .1 .1 .1 .1 .0) (are .1 .1 .1 .1 .1 .0) (are .1 .1 .1 .1 .1 .1 .0 .0 .1)
+      (are .1 .1 .1 .1 .1 .1 .1 .0 .0 .1) (are .1 .1 .1 .1 .1 .1 .1 .1 .0 .0 .1) (are .1 .1 .1 .1 .1 .1 .1 .1 .1 .0) (are .1 .1 .1 .1 .1 .1 .1 .1 .1 .1 .0) required (𝓣 .C) (𝓣 .Λ) (fmOf 𝓤 H (W .laws) 𝓣) known-write))
 
   write-lent-meets : Meets 𝓤 H A f.signature (WpFn 𝓤 H (𝓣 .C) (𝓣 .Λ) code.function) (f.spec 𝓤 H A mem run)
   write-lent-meets = walk-meets 𝓤 H A f.ended stayed W (
-    goes-gave-slice 𝓤 H A W 6 0 tt (plain (λ _. u8)),
+    goes-gave-slice 𝓤 H A W 7 0 tt (plain (λ _. u8)),
     (
-      goes-dropped 𝓤 H A W 6 (shrSliceOf (1 ∷ []) tt (plain (λ _. u8))) yes (λ κs x f. refl),
+      goes-dropped 𝓤 H A W 7 (shrSliceOf (1 ∷ []) tt (plain (λ _. u8))) yes (λ κs x f. refl),
       (
-        goes-dropped 𝓤 H A W 6 (shrSliceOf (2 ∷ []) tt (plain (λ _. usize))) yes (λ κs x f. refl),
+        goes-dropped 𝓤 H A W 7 (shrSliceOf (2 ∷ []) tt (plain (λ _. usize))) yes (λ κs x f. refl),
         (
-          goes-dropped 𝓤 H A W 6 (shrSliceOf (3 ∷ []) tt (plain (λ _. usize))) yes (λ κs x f. refl),
+          goes-dropped 𝓤 H A W 7 (shrSliceOf (3 ∷ []) tt (plain (λ _. usize))) yes (λ κs x f. refl),
           (
-            goes-dropped 𝓤 H A W 6 (plain (λ _. (Many 42))) yes (λ κs x f. refl),
+            goes-dropped 𝓤 H A W 7 (plain (λ _. (Many 33))) yes (λ κs x f. refl),
             (
-              goes-dropped 𝓤 H A W 6 (plain (λ _. usize)) yes (λ κs x f. refl),
+              goes-dropped 𝓤 H A W 7 (plain (λ _. usize)) yes (λ κs x f. refl),
               (
-                goes-dropped 𝓤 H A W 6 (shrSliceOf (4 ∷ []) tt (plain (λ _. usize))) yes (λ κs x f. refl),
-                (goes-dropped 𝓤 H A W 6 (shrSliceOf (5 ∷ []) tt (plain (λ _. u8))) yes (λ κs x f. refl), (goes-dropped 𝓤 H A W 6 (plain (λ _. Head-is.the-row)) yes (λ κs x f. refl), (goes-dropped 𝓤 H A W 6 (plain (λ _. How-is.the-row)) yes (λ κs x f. refl), tt))),
+                goes-dropped 𝓤 H A W 7 (shrSliceOf (4 ∷ []) tt (plain (λ _. usize))) yes (λ κs x f. refl),
+                (
+                  goes-dropped 𝓤 H A W 7 (shrSliceOf (5 ∷ []) tt (plain (λ _. usize))) yes (λ κs x f. refl),
+                  (goes-dropped 𝓤 H A W 7 (shrSliceOf (6 ∷ []) tt (plain (λ _. u8))) yes (λ κs x f. refl), (goes-dropped 𝓤 H A W 7 (plain (λ _. Head-is.the-row)) yes (λ κs x f. refl), (goes-dropped 𝓤 H A W 7 (plain (λ _. How-is.the-row)) yes (λ κs x f. refl), tt))),
+                ),
               ),
             ),
           ),

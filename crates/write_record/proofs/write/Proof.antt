@@ -100,7 +100,10 @@ stayed = (
       stay-dropped (shrSliceOf (2 ∷ []) tt (plain (λ _. usize))) yes,
       (
         stay-dropped (shrSliceOf (3 ∷ []) tt (plain (λ _. usize))) yes,
-        (stay-dropped (shrSliceOf (4 ∷ []) tt (plain (λ _. Feature-is.the-row))) yes, (stay-dropped (shrSliceOf (5 ∷ []) tt (plain (λ _. usize))) yes, (stay-dropped (shrSliceOf (6 ∷ []) tt (plain (λ _. u8))) yes, (stay-dropped (plain (λ _. Head-is.the-row)) yes, (stay-dropped (plain (λ _. How-is.the-row)) yes, tt))))),
+        (
+          stay-dropped (shrSliceOf (4 ∷ []) tt (plain (λ _. Feature-is.the-row))) yes,
+          (stay-dropped (shrSliceOf (5 ∷ []) tt (plain (λ _. usize))) yes, (stay-dropped (shrSliceOf (6 ∷ []) tt (plain (λ _. usize))) yes, (stay-dropped (shrSliceOf (7 ∷ []) tt (plain (λ _. u8))) yes, (stay-dropped (plain (λ _. Head-is.the-row)) yes, (stay-dropped (plain (λ _. How-is.the-row)) yes, tt))))),
+        ),
       ),
     ),
   ),
@@ -130,16 +133,17 @@ v r = sliceVal (r .ptr) (length (r .now))
 
 -- the parts of a turn, which the generated MIR has under no name
 abbrev turn-from-7 : S.Body
-turn-from-7 = S.assign (S.place 10 []) (S.rvOpd (S.copy (S.place 12 [])))
+turn-from-7 = S.assign (S.place 11 []) (S.rvOpd (S.copy (S.place 13 [])))
 
 abbrev turn-from-6 : S.Body
-turn-from-6 = S.seq (S.call #write-record-turns·step (S.copy (S.place 16 []) ∷ S.copy (S.place 10 []) ∷ S.copy (S.place 11 []) ∷ S.copy (S.place 2 []) ∷ S.copy (S.place 3 []) ∷ S.copy (S.place 4 []) ∷ S.copy (S.place 6 []) ∷ S.copy (S.place 7 []) ∷ S.copy (S.place 8 []) ∷ S.copy (S.place 9 []) ∷ []) (S.place 12 [])) turn-from-7
+turn-from-6 = S.seq (S.call #write-record-turns·step (S.copy (S.place 17 []) ∷ S.copy (S.place 11 []) ∷ S.copy (S.place 12 []) ∷ S.copy (S.place 2 []) ∷ S.copy (S.place 3 []) ∷ S.copy (S.place 4 []) ∷ S.copy (S.place 6 []) ∷ S.copy (S.place 7 []) ∷ S.copy (S.place 8 []) ∷ S.copy (S.place 9 []) ∷ S.copy (S.place 10 []) ∷ []) (S.place 13 []))
+    turn-from-7
 
 abbrev turn-from-4 : S.Body
-turn-from-4 = S.seq (S.assign (S.place 15 []) (S.addrOf (S.place 1 (S.field 0 ∷ S.deref (tyInt w8) ∷ [])))) (S.seq (S.assign (S.place 16 []) (S.aggregate (S.copy (S.place 15 []) ∷ S.copy (S.place 1 (S.field 1 ∷ [])) ∷ []))) turn-from-6)
+turn-from-4 = S.seq (S.assign (S.place 16 []) (S.addrOf (S.place 1 (S.field 0 ∷ S.deref (tyInt w8) ∷ [])))) (S.seq (S.assign (S.place 17 []) (S.aggregate (S.copy (S.place 16 []) ∷ S.copy (S.place 1 (S.field 1 ∷ [])) ∷ []))) turn-from-6)
 
 abbrev turn-from-3 : S.Body
-turn-from-3 = S.seq (S.call #base-rows·fetch-row (S.copy (S.place 5 []) ∷ S.copy (S.place 10 (S.field 2 ∷ [])) ∷ []) (S.place 11 [])) turn-from-4
+turn-from-3 = S.seq (S.call #base-rows·fetch-row (S.copy (S.place 5 []) ∷ S.copy (S.place 11 (S.field 2 ∷ [])) ∷ []) (S.place 12 [])) turn-from-4
 
 module _ {M : Type 1} (𝓤 : URA M) (H : Heap 𝓤) (A : Atoms 𝓤) (mem : Memory → SProp 𝓤) (run : Routine → Fun 𝓤) where
   -- the contracts that the proof cites
@@ -152,23 +156,23 @@ module _ {M : Type 1} (𝓤 : URA M) (H : Heap 𝓤) (A : Atoms 𝓤) (mem : Mem
   abbrev step-contract : Contract 𝓤
   step-contract = tripleOf 𝓤 H A step.signature (step.spec 𝓤 H A mem run)
 
-module _ {M : Type 1} (𝓤 : URA M) (H : Heap 𝓤) (A : Atoms 𝓤) (W : Given 𝓤 H A) (mem : Memory → SProp 𝓤) (run : Routine → Fun 𝓤) (κ₀ κ₁ κ₂ κ₃ κ₄ κ₅ κ₆ : Lft) (q₀ q₁ q₂ q₃ q₄ q₅ q₆ : Share) (out : RefT (List ℕ)) (texts : RefT (List ℕ)) (references : RefT (List ℕ)) (comments : RefT (List ℕ)) (rows : RefT (List Feature)) (qualifiers : RefT (List ℕ))
-    (letters : RefT (List ℕ)) (head : Head) (how : How) (out-room : Room u8 (length (out .now))) (texts-room : Room u8 (length (texts .now))) (references-room : Room usize (length (references .now))) (comments-room : Room usize (length (comments .now))) (rows-room : Room Feature-is.the-row (length (rows .now)))
-    (qualifiers-room : Room usize (length (qualifiers .now))) (letters-room : Room u8 (length (letters .now))) (head-is : Is Head-is.the-row head ((Head-val head) ∷ [])) (how-is : Is How-is.the-row how ((How-val how) ∷ [])) where
-  abbrev a : (RefT (List ℕ)) × ((RefT (List ℕ)) × ((RefT (List ℕ)) × ((RefT (List ℕ)) × ((RefT (List Feature)) × ((RefT (List ℕ)) × ((RefT (List ℕ)) × (Head × (How × Unit {0}))))))))
-  a = (out, (texts, (references, (comments, (rows, (qualifiers, (letters, (head, (how, tt)))))))))
+module _ {M : Type 1} (𝓤 : URA M) (H : Heap 𝓤) (A : Atoms 𝓤) (W : Given 𝓤 H A) (mem : Memory → SProp 𝓤) (run : Routine → Fun 𝓤) (κ₀ κ₁ κ₂ κ₃ κ₄ κ₅ κ₆ κ₇ : Lft) (q₀ q₁ q₂ q₃ q₄ q₅ q₆ q₇ : Share) (out : RefT (List ℕ)) (texts : RefT (List ℕ)) (references : RefT (List ℕ)) (comments : RefT (List ℕ)) (rows : RefT (List Feature))
+    (qualifiers : RefT (List ℕ)) (locations : RefT (List ℕ)) (letters : RefT (List ℕ)) (head : Head) (how : How) (out-room : Room u8 (length (out .now))) (texts-room : Room u8 (length (texts .now))) (references-room : Room usize (length (references .now))) (comments-room : Room usize (length (comments .now)))
+    (rows-room : Room Feature-is.the-row (length (rows .now))) (qualifiers-room : Room usize (length (qualifiers .now))) (locations-room : Room usize (length (locations .now))) (letters-room : Room u8 (length (letters .now))) (head-is : Is Head-is.the-row head ((Head-val head) ∷ [])) (how-is : Is How-is.the-row how ((How-val how) ∷ [])) where
+  abbrev a : (RefT (List ℕ)) × ((RefT (List ℕ)) × ((RefT (List ℕ)) × ((RefT (List ℕ)) × ((RefT (List Feature)) × ((RefT (List ℕ)) × ((RefT (List ℕ)) × ((RefT (List ℕ)) × (Head × (How × Unit {0})))))))))
+  a = (out, (texts, (references, (comments, (rows, (qualifiers, (locations, (letters, (head, (how, tt))))))))))
 
-  abbrev at-entry : (List Val) × ((List Val) × ((List Val) × ((List Val) × ((List Val) × ((List Val) × ((List Val) × ((List Val) × ((List Val) × Unit {0}))))))))
-  at-entry = (v out ∷ [], (v texts ∷ [], (v references ∷ [], (v comments ∷ [], (v rows ∷ [], (v qualifiers ∷ [], (v letters ∷ [], ((Head-val head) ∷ [], ((How-val how) ∷ [], tt)))))))))
+  abbrev at-entry : (List Val) × ((List Val) × ((List Val) × ((List Val) × ((List Val) × ((List Val) × ((List Val) × ((List Val) × ((List Val) × ((List Val) × Unit {0})))))))))
+  at-entry = (v out ∷ [], (v texts ∷ [], (v references ∷ [], (v comments ∷ [], (v rows ∷ [], (v qualifiers ∷ [], (v locations ∷ [], (v letters ∷ [], ((Head-val head) ∷ [], ((How-val how) ∷ [], tt))))))))))
 
   abbrev bound : walkOf 𝓤 H A f.ended stayed (f.clauses 𝓤 H A mem run) .Ghost
-  bound = (((κ₀, (κ₁, (κ₂, (κ₃, (κ₄, (κ₅, (κ₆, tt))))))), (q₀, (q₁, (q₂, (q₃, (q₄, (q₅, (q₆, tt))))))), tt, a, at-entry), tt)
+  bound = (((κ₀, (κ₁, (κ₂, (κ₃, (κ₄, (κ₅, (κ₆, (κ₇, tt)))))))), (q₀, (q₁, (q₂, (q₃, (q₄, (q₅, (q₆, (q₇, tt)))))))), tt, a, at-entry), tt)
 
   abbrev Post : Val → SProp 𝓤
   Post = walkOf 𝓤 H A f.ended stayed (f.clauses 𝓤 H A mem run) .post bound
 
   abbrev call-of : Asking
-  call-of = asking (texts .now) (references .now) (comments .now) (qualifiers .now) (letters .now) head how
+  call-of = asking (texts .now) (references .now) (comments .now) (qualifiers .now) (locations .now) (letters .now) head how
 
   -- what the slices own, of a `&mut` at a list; and what says its last list
   abbrev out-own : List ℕ → Fml
@@ -189,25 +193,29 @@ module _ {M : Type 1} (𝓤 : URA M) (H : Heap 𝓤) (A : Atoms 𝓤) (W : Given
   abbrev qualifiers-own : Fml
   qualifiers-own = ShrSlice (named 5) κ₅ usize .own qualifiers (v qualifiers ∷ [])
 
+  abbrev locations-own : Fml
+  locations-own = ShrSlice (named 6) κ₆ usize .own locations (v locations ∷ [])
+
   abbrev letters-own : Fml
-  letters-own = ShrSlice (named 6) κ₆ u8 .own letters (v letters ∷ [])
+  letters-own = ShrSlice (named 7) κ₇ u8 .own letters (v letters ∷ [])
 
   -- what is had at entry
   abbrev Had : List (Item 𝓤) → List (Item 𝓤)
-  Had Γ = (‵ (flft κ₀ q₀) ⊛ ‵ (flft κ₁ q₁) ⊛ ‵ (flft κ₂ q₂) ⊛ ‵ (flft κ₃ q₃) ⊛ ‵ (flft κ₄ q₄) ⊛ ‵ (flft κ₅ q₅) ⊛ ‵ (flft κ₆ q₆) ⊛ ‵ ftrue) ∷ ‵
-      (owns (MutSlice (named 0) κ₀ u8 ∷ ShrSlice (named 1) κ₁ u8 ∷ ShrSlice (named 2) κ₂ usize ∷ ShrSlice (named 3) κ₃ usize ∷ ShrSlice (named 4) κ₄ Feature-is.the-row ∷ ShrSlice (named 5) κ₅ usize ∷ ShrSlice (named 6) κ₆ u8 ∷ Head-is.the-row ∷ How-is.the-row ∷ []) a at-entry) ∷ Γ
+  Had Γ = (‵ (flft κ₀ q₀) ⊛ ‵ (flft κ₁ q₁) ⊛ ‵ (flft κ₂ q₂) ⊛ ‵ (flft κ₃ q₃) ⊛ ‵ (flft κ₄ q₄) ⊛ ‵ (flft κ₅ q₅) ⊛ ‵ (flft κ₆ q₆) ⊛ ‵ (flft κ₇ q₇) ⊛ ‵ ftrue) ∷ ‵
+      (owns (MutSlice (named 0) κ₀ u8 ∷ ShrSlice (named 1) κ₁ u8 ∷ ShrSlice (named 2) κ₂ usize ∷ ShrSlice (named 3) κ₃ usize ∷ ShrSlice (named 4) κ₄ Feature-is.the-row ∷ ShrSlice (named 5) κ₅ usize ∷ ShrSlice (named 6) κ₆ usize ∷ ShrSlice (named 7) κ₇ u8 ∷ Head-is.the-row ∷ How-is.the-row ∷ []) a at-entry) ∷ Γ
 
-  opened : {K : Type 0} {Γ : List (Item 𝓤)} {G : Goal 𝓤 H} → K → Seq K W (‵ (flft κ₀ q₀) ∷ ‵ (flft κ₁ q₁) ∷ ‵ (flft κ₂ q₂) ∷ ‵ (flft κ₃ q₃) ∷ ‵ (flft κ₄ q₄) ∷ ‵ (flft κ₅ q₅) ∷ ‵ (flft κ₆ q₆) ∷ ‵ (out-own (out .now)) ∷ ‵ texts-own ∷ ‵ references-own ∷ ‵ comments-own ∷ ‵ rows-own ∷ ‵ qualifiers-own ∷ ‵ letters-own ∷ Γ) G → Seq K W (Had Γ) G
+  opened : {K : Type 0} {Γ : List (Item 𝓤)} {G : Goal 𝓤 H} → K → Seq K W
+      (‵ (flft κ₀ q₀) ∷ ‵ (flft κ₁ q₁) ∷ ‵ (flft κ₂ q₂) ∷ ‵ (flft κ₃ q₃) ∷ ‵ (flft κ₄ q₄) ∷ ‵ (flft κ₅ q₅) ∷ ‵ (flft κ₆ q₆) ∷ ‵ (flft κ₇ q₇) ∷ ‵ (out-own (out .now)) ∷ ‵ texts-own ∷ ‵ references-own ∷ ‵ comments-own ∷ ‵ rows-own ∷ ‵ qualifiers-own ∷ ‵ locations-own ∷ ‵ letters-own ∷ Γ) G → Seq K W (Had Γ) G
   opened t then =
-      splits t (‵ (flft κ₀ q₀) ∷ ‵ (flft κ₁ q₁) ∷ ‵ (flft κ₂ q₂) ∷ ‵ (flft κ₃ q₃) ∷ ‵ (flft κ₄ q₄) ∷ ‵ (flft κ₅ q₅) ∷ ‵ (flft κ₆ q₆) ∷ []) (id⊢ 𝓤 _) $
-      move t (7 ∷ []) $
-      splits t (‵ (out-own (out .now)) ∷ ‵ texts-own ∷ ‵ references-own ∷ ‵ comments-own ∷ ‵ rows-own ∷ ‵ qualifiers-own ∷ ‵ letters-own ∷ ‵ (Head-is.the-row .own head ((Head-val head) ∷ [])) ∷ ‵ (How-is.the-row .own how ((How-val how) ∷ [])) ∷ []) (id⊢ 𝓤 _) $
-      move t (7 ∷ 8 ∷ 9 ∷ 10 ∷ 11 ∷ 12 ∷ 13 ∷ 14 ∷ 15 ∷ 0 ∷ 1 ∷ 2 ∷ 3 ∷ 4 ∷ 5 ∷ 6 ∷ []) $
+      splits t (‵ (flft κ₀ q₀) ∷ ‵ (flft κ₁ q₁) ∷ ‵ (flft κ₂ q₂) ∷ ‵ (flft κ₃ q₃) ∷ ‵ (flft κ₄ q₄) ∷ ‵ (flft κ₅ q₅) ∷ ‵ (flft κ₆ q₆) ∷ ‵ (flft κ₇ q₇) ∷ []) (id⊢ 𝓤 _) $
+      move t (8 ∷ []) $
+      splits t (‵ (out-own (out .now)) ∷ ‵ texts-own ∷ ‵ references-own ∷ ‵ comments-own ∷ ‵ rows-own ∷ ‵ qualifiers-own ∷ ‵ locations-own ∷ ‵ letters-own ∷ ‵ (Head-is.the-row .own head ((Head-val head) ∷ [])) ∷ ‵ (How-is.the-row .own how ((How-val how) ∷ [])) ∷ []) (id⊢ 𝓤 _) $
+      move t (8 ∷ 9 ∷ 10 ∷ 11 ∷ 12 ∷ 13 ∷ 14 ∷ 15 ∷ 16 ∷ 17 ∷ 0 ∷ 1 ∷ 2 ∷ 3 ∷ 4 ∷ 5 ∷ 6 ∷ 7 ∷ []) $
       drop t $ drop t $
       then
 
   module _ (𝓣 : Tables 𝓤 H) (known-start : Triple 𝓤 (𝓣 .C #write-record-turns·start) (start-contract 𝓤 H A mem run)) (known-fetch-row : Triple 𝓤 (𝓣 .C #base-rows·fetch-row) (fetch-row-contract 𝓤 H A mem run)) (known-step : Triple 𝓤 (𝓣 .C #write-record-turns·step) (step-contract 𝓤 H A mem run))
-      (l₀ l₁ l₂ l₃ l₄ l₅ l₆ l₇ l₈ l₉ l₁₀ l₁₁ l₁₂ l₁₃ l₁₄ l₁₅ l₁₆ : ℕ) where
+      (l₀ l₁ l₂ l₃ l₄ l₅ l₆ l₇ l₈ l₉ l₁₀ l₁₁ l₁₂ l₁₃ l₁₄ l₁₅ l₁₆ l₁₇ : ℕ) where
     abbrev C : Calls 𝓤 H
     C = 𝓣 .C
 
@@ -220,70 +228,73 @@ module _ {M : Type 1} (𝓤 : URA M) (H : Heap 𝓤) (A : Atoms 𝓤) (W : Given
     -- the locals, and their entries with what is owed of them
     abbrev E : Env 𝓤 H
     E = (WriteAnswer-has.mir, l₀) ∷ (sliceTy (tyRef (named 0) mut (tyInt w8)), l₁) ∷ (sliceTy (tyRef (named 1) imm (tyInt w8)), l₂) ∷ (sliceTy (tyRef (named 2) imm (tyInt w64)), l₃) ∷ (sliceTy (tyRef (named 3) imm (tyInt w64)), l₄) ∷ (sliceTy (tyRef (named 4) imm (pointee (Feature-is.the-row .written))), l₅) ∷
-        (sliceTy (tyRef (named 5) imm (tyInt w64)), l₆) ∷ (sliceTy (tyRef (named 6) imm (tyInt w8)), l₇) ∷ (Head-has.mir, l₈) ∷ (How-has.mir, l₉) ∷ (State-has.mir, l₁₀) ∷ (Fetched-has.mir, l₁₁) ∷ (State-has.mir, l₁₂) ∷ (tyInt w64, l₁₃) ∷ (tyBool, l₁₄) ∷ (tyRef erased mut (tyInt w8), l₁₅) ∷ (sliceTy (tyRef erased mut (tyInt w8)), l₁₆) ∷ []
+        (sliceTy (tyRef (named 5) imm (tyInt w64)), l₆) ∷ (sliceTy (tyRef (named 6) imm (tyInt w64)), l₇) ∷ (sliceTy (tyRef (named 7) imm (tyInt w8)), l₈) ∷ (Head-has.mir, l₉) ∷ (How-has.mir, l₁₀) ∷ (State-has.mir, l₁₁) ∷ (Fetched-has.mir, l₁₂) ∷ (State-has.mir, l₁₃) ∷ (tyInt w64, l₁₄) ∷ (tyBool, l₁₅) ∷ (tyRef erased mut (tyInt w8), l₁₆) ∷
+        (sliceTy (tyRef erased mut (tyInt w8)), l₁₇) ∷ []
 
     abbrev standing : List Cell → List (Item 𝓤)
     standing cs = locals 𝓤 H A E cs (raw (Dies 𝓤 H A E) ∷ [])
 
     -- the call of `start`
-    abbrev lfts-start : Lft × (Lft × (Lft × (Lft × (Lft × Unit {0}))))
-    lfts-start = (κ₁, (κ₂, (κ₃, (κ₅, (κ₆, tt)))))
+    abbrev lfts-start : Lft × (Lft × (Lft × (Lft × (Lft × (Lft × Unit {0})))))
+    lfts-start = (κ₁, (κ₂, (κ₃, (κ₅, (κ₆, (κ₇, tt))))))
 
-    abbrev args-start : ℕ × ((RefT (List ℕ)) × ((RefT (List ℕ)) × ((RefT (List ℕ)) × ((RefT (List ℕ)) × ((RefT (List ℕ)) × (Head × (How × Unit {0})))))))
-    args-start = ((length (rows .now)), (texts, (references, (comments, (qualifiers, (letters, (head, (how, tt))))))))
+    abbrev args-start : ℕ × ((RefT (List ℕ)) × ((RefT (List ℕ)) × ((RefT (List ℕ)) × ((RefT (List ℕ)) × ((RefT (List ℕ)) × ((RefT (List ℕ)) × (Head × (How × Unit {0}))))))))
+    args-start = ((length (rows .now)), (texts, (references, (comments, (qualifiers, (locations, (letters, (head, (how, tt)))))))))
 
     abbrev to-start : start-contract 𝓤 H A mem run .Ghost
-    to-start = ((lfts-start, (q₁, (q₂, (q₃, (q₅, (q₆, tt))))), tt, args-start, (((vint w64 (length (rows .now))) ∷ []), ((v texts) ∷ [], ((v references) ∷ [], ((v comments) ∷ [], ((v qualifiers) ∷ [], ((v letters) ∷ [], (((Head-val head) ∷ []), (((How-val how) ∷ []), tt))))))))), tt)
+    to-start = ((lfts-start, (q₁, (q₂, (q₃, (q₅, (q₆, (q₇, tt)))))), tt, args-start, (((vint w64 (length (rows .now))) ∷ []), ((v texts) ∷ [], ((v references) ∷ [], ((v comments) ∷ [], ((v qualifiers) ∷ [], ((v locations) ∷ [], ((v letters) ∷ [], (((Head-val head) ∷ []), (((How-val how) ∷ []), tt)))))))))), tt)
 
-    goes-start : ent 𝓤 (⋆ 𝓤 H A (‵ (flft κ₁ q₁) ∷ ‵ (flft κ₂ q₂) ∷ ‵ (flft κ₃ q₃) ∷ ‵ (flft κ₅ q₅) ∷ ‵ (flft κ₆ q₆) ∷ ‵ texts-own ∷ ‵ references-own ∷ ‵ comments-own ∷ ‵ qualifiers-own ∷ ‵ letters-own ∷ [])) (start-contract 𝓤 H A mem run .pre to-start)
-    goes-start = qed W (‵ (flft κ₁ q₁) ∷ ‵ (flft κ₂ q₂) ∷ ‵ (flft κ₃ q₃) ∷ ‵ (flft κ₅ q₅) ∷ ‵ (flft κ₆ q₆) ∷ ‵ texts-own ∷ ‵ references-own ∷ ‵ comments-own ∷ ‵ qualifiers-own ∷ ‵ letters-own ∷ []) ∵
+    goes-start : ent 𝓤 (⋆ 𝓤 H A (‵ (flft κ₁ q₁) ∷ ‵ (flft κ₂ q₂) ∷ ‵ (flft κ₃ q₃) ∷ ‵ (flft κ₅ q₅) ∷ ‵ (flft κ₆ q₆) ∷ ‵ (flft κ₇ q₇) ∷ ‵ texts-own ∷ ‵ references-own ∷ ‵ comments-own ∷ ‵ qualifiers-own ∷ ‵ locations-own ∷ ‵ letters-own ∷ [])) (start-contract 𝓤 H A mem run .pre to-start)
+    goes-start = qed W (‵ (flft κ₁ q₁) ∷ ‵ (flft κ₂ q₂) ∷ ‵ (flft κ₃ q₃) ∷ ‵ (flft κ₅ q₅) ∷ ‵ (flft κ₆ q₆) ∷ ‵ (flft κ₇ q₇) ∷ ‵ texts-own ∷ ‵ references-own ∷ ‵ comments-own ∷ ‵ qualifiers-own ∷ ‵ locations-own ∷ ‵ letters-own ∷ []) ∵
         asks-nothing ! $ nothing ! $ nothing ! $
         owned ! usize (Is usize) (uint-makes 𝓤 H A W w64) (length (rows .now)) ((vint w64 (length (rows .now))) ∷ []) (refl, rows-room .0) $
         owned ! Head-is.the-row (Is Head-is.the-row) (LL.makes Head-is.the-type Head-has.the-plain 𝓤 H A) head ((Head-val head) ∷ []) head-is $
         owned ! How-is.the-row (Is How-is.the-row) (LL.makes How-is.the-type How-has.the-plain 𝓤 H A) how ((How-val how) ∷ []) how-is $
-        move ! (5 ∷ 6 ∷ 7 ∷ 8 ∷ 9 ∷ 4 ∷ 2 ∷ 10 ∷ 11 ∷ 12 ∷ 13 ∷ 14 ∷ 1 ∷ 0 ∷ 3 ∷ []) $
-        group ! 6 $
+        move ! (5 ∷ 6 ∷ 7 ∷ 8 ∷ 9 ∷ 10 ∷ 4 ∷ 2 ∷ 11 ∷ 12 ∷ 13 ∷ 14 ∷ 15 ∷ 16 ∷ 1 ∷ 0 ∷ 3 ∷ []) $
+        group ! 7 $
         done !
 
-    lends-start : {K : Type 0} {Γ : List (Item 𝓤)} {G : Goal 𝓤 H} → K → Soaks G → (Seq K W (raw (start-contract 𝓤 H A mem run .pre to-start) ∷ ‵ letters-own ∷ ‵ qualifiers-own ∷ ‵ comments-own ∷ ‵ references-own ∷ ‵ texts-own ∷ ‵ (flft κ₀ q₀) ∷ ‵ (flft κ₄ q₄) ∷ ‵ (out-own (out .now)) ∷ ‵ rows-own ∷ Γ) G) → Seq K W
-        (‵ (flft κ₀ q₀) ∷ ‵ (flft κ₁ q₁) ∷ ‵ (flft κ₂ q₂) ∷ ‵ (flft κ₃ q₃) ∷ ‵ (flft κ₄ q₄) ∷ ‵ (flft κ₅ q₅) ∷ ‵ (flft κ₆ q₆) ∷ ‵ (out-own (out .now)) ∷ ‵ texts-own ∷ ‵ references-own ∷ ‵ comments-own ∷ ‵ rows-own ∷ ‵ qualifiers-own ∷ ‵ letters-own ∷ Γ) G
+    lends-start : {K : Type 0} {Γ : List (Item 𝓤)} {G : Goal 𝓤 H} → K → Soaks G → (Seq K W (raw (start-contract 𝓤 H A mem run .pre to-start) ∷ ‵ letters-own ∷ ‵ locations-own ∷ ‵ qualifiers-own ∷ ‵ comments-own ∷ ‵ references-own ∷ ‵ texts-own ∷ ‵ (flft κ₀ q₀) ∷ ‵ (flft κ₄ q₄) ∷ ‵ (out-own (out .now)) ∷ ‵ rows-own ∷ Γ) G) → Seq K W
+        (‵ (flft κ₀ q₀) ∷ ‵ (flft κ₁ q₁) ∷ ‵ (flft κ₂ q₂) ∷ ‵ (flft κ₃ q₃) ∷ ‵ (flft κ₄ q₄) ∷ ‵ (flft κ₅ q₅) ∷ ‵ (flft κ₆ q₆) ∷ ‵ (flft κ₇ q₇) ∷ ‵ (out-own (out .now)) ∷ ‵ texts-own ∷ ‵ references-own ∷ ‵ comments-own ∷ ‵ rows-own ∷ ‵ qualifiers-own ∷ ‵ locations-own ∷ ‵ letters-own ∷ Γ) G
     lends-start t z next =
-        move t (8 ∷ []) $
+        move t (9 ∷ []) $
         use1 W (‵ texts-own ⊛ ‵ texts-own) (shr-slice-copy 𝓤 H A W (named 1) κ₁ u8 .twice texts (v texts ∷ [])) $ split t $
-        move t (10 ∷ []) $
+        move t (11 ∷ []) $
         use1 W (‵ references-own ⊛ ‵ references-own) (shr-slice-copy 𝓤 H A W (named 2) κ₂ usize .twice references (v references ∷ [])) $ split t $
-        move t (12 ∷ []) $
+        move t (13 ∷ []) $
         use1 W (‵ comments-own ⊛ ‵ comments-own) (shr-slice-copy 𝓤 H A W (named 3) κ₃ usize .twice comments (v comments ∷ [])) $ split t $
-        move t (15 ∷ []) $
+        move t (16 ∷ []) $
         use1 W (‵ qualifiers-own ⊛ ‵ qualifiers-own) (shr-slice-copy 𝓤 H A W (named 5) κ₅ usize .twice qualifiers (v qualifiers ∷ [])) $ split t $
-        move t (17 ∷ []) $
-        use1 W (‵ letters-own ⊛ ‵ letters-own) (shr-slice-copy 𝓤 H A W (named 6) κ₆ u8 .twice letters (v letters ∷ [])) $ split t $
-        move t (11 ∷ 12 ∷ 13 ∷ 15 ∷ 16 ∷ 8 ∷ 6 ∷ 4 ∷ 2 ∷ 0 ∷ []) $
-        group t 10 $
+        move t (18 ∷ []) $
+        use1 W (‵ locations-own ⊛ ‵ locations-own) (shr-slice-copy 𝓤 H A W (named 6) κ₆ usize .twice locations (v locations ∷ [])) $ split t $
+        move t (20 ∷ []) $
+        use1 W (‵ letters-own ⊛ ‵ letters-own) (shr-slice-copy 𝓤 H A W (named 7) κ₇ u8 .twice letters (v letters ∷ [])) $ split t $
+        move t (13 ∷ 14 ∷ 15 ∷ 17 ∷ 18 ∷ 19 ∷ 10 ∷ 8 ∷ 6 ∷ 4 ∷ 2 ∷ 0 ∷ []) $
+        group t 12 $
         use1 W (raw (start-contract 𝓤 H A mem run .pre to-start)) goes-start $
         next
 
     -- what `start` says of its answer and of the lists that it leaves
     abbrev Said-start : State → Type 0
-    Said-start r-start = Starts (length (rows .now)) (asking (texts .now) (references .now) (comments .now) (qualifiers .now) (letters .now) head how) r-start
+    Said-start r-start = Starts (length (rows .now)) (asking (texts .now) (references .now) (comments .now) (qualifiers .now) (locations .now) (letters .now) head how) r-start
 
     back-start : {K : Type 0} {Γ : List (Item 𝓤)} {d : S.Place} {rest : S.Body} {q : Ending 𝓤 H} → K →
         ((r-start : State) (r-start-is : Is State-is.the-row r-start ((State-val r-start) ∷ [])) (said-start : Said-start r-start) → Seq K W
-        (‵ (flft κ₀ q₀) ∷ ‵ (flft κ₁ q₁) ∷ ‵ (flft κ₂ q₂) ∷ ‵ (flft κ₃ q₃) ∷ ‵ (flft κ₄ q₄) ∷ ‵ (flft κ₅ q₅) ∷ ‵ (flft κ₆ q₆) ∷ ‵ (out-own (out .now)) ∷ ‵ texts-own ∷ ‵ references-own ∷ ‵ comments-own ∷ ‵ rows-own ∷ ‵ qualifiers-own ∷ ‵ letters-own ∷ Γ) (lands C Λ E d (State-val r-start) rest q))
-        → (u : Val) → Seq K W (raw (start-contract 𝓤 H A mem run .post to-start u) ∷ ‵ letters-own ∷ ‵ qualifiers-own ∷ ‵ comments-own ∷ ‵ references-own ∷ ‵ texts-own ∷ ‵ (flft κ₀ q₀) ∷ ‵ (flft κ₄ q₄) ∷ ‵ (out-own (out .now)) ∷ ‵ rows-own ∷ Γ) (lands C Λ E d u rest q)
+        (‵ (flft κ₀ q₀) ∷ ‵ (flft κ₁ q₁) ∷ ‵ (flft κ₂ q₂) ∷ ‵ (flft κ₃ q₃) ∷ ‵ (flft κ₄ q₄) ∷ ‵ (flft κ₅ q₅) ∷ ‵ (flft κ₆ q₆) ∷ ‵ (flft κ₇ q₇) ∷ ‵ (out-own (out .now)) ∷ ‵ texts-own ∷ ‵ references-own ∷ ‵ comments-own ∷ ‵ rows-own ∷ ‵ qualifiers-own ∷ ‵ locations-own ∷ ‵ letters-own ∷ Γ) (lands C Λ E d (State-val r-start) rest q))
+        → (u : Val) → Seq K W (raw (start-contract 𝓤 H A mem run .post to-start u) ∷ ‵ letters-own ∷ ‵ locations-own ∷ ‵ qualifiers-own ∷ ‵ comments-own ∷ ‵ references-own ∷ ‵ texts-own ∷ ‵ (flft κ₀ q₀) ∷ ‵ (flft κ₄ q₄) ∷ ‵ (out-own (out .now)) ∷ ‵ rows-own ∷ Γ) (lands C Λ E d u rest q)
     back-start t next u =
-        use1 W (later (some (λ (r-start : State). ((‵ (flft κ₁ q₁) ⊛ ‵ (flft κ₂ q₂) ⊛ ‵ (flft κ₃ q₃) ⊛ ‵ (flft κ₅ q₅) ⊛ ‵ (flft κ₆ q₆) ⊛ ‵ ftrue) ⊛ ‵ (State-is.the-row .own r-start (u ∷ []))) ⊛ raw (ensured 𝓤 H A start.ended (start.clauses 𝓤 H A mem run) lfts-start args-start tt r-start)))) (id⊢ 𝓤 _) $
+        use1 W (later (some (λ (r-start : State). ((‵ (flft κ₁ q₁) ⊛ ‵ (flft κ₂ q₂) ⊛ ‵ (flft κ₃ q₃) ⊛ ‵ (flft κ₅ q₅) ⊛ ‵ (flft κ₆ q₆) ⊛ ‵ (flft κ₇ q₇) ⊛ ‵ ftrue) ⊛ ‵ (State-is.the-row .own r-start (u ∷ []))) ⊛ raw (ensured 𝓤 H A start.ended (start.clauses 𝓤 H A mem run) lfts-start args-start tt r-start)))) (id⊢ 𝓤 _) $
         await t tt $ pick t (λ r-start. split t $ move t (1 ∷ []) $
-        use1 W (some (λ (ws : (Unit {0}) × ((Unit {0}) × ((Unit {0}) × ((Unit {0}) × ((Unit {0}) × ((Unit {0}) × ((Unit {0}) × ((Unit {0}) × Unit {0})))))))). (‵ ftrue ⊛ ‵ ftrue ⊛ ‵ ftrue ⊛ ‵ ftrue ⊛ ‵ ftrue ⊛ ‵ ftrue ⊛ ‵ ftrue ⊛ ‵ ftrue ⊛ ‵ ftrue) ⊛ raw (fact 𝓤 (Said-start r-start)))) (id⊢ 𝓤 _) $
+        use1 W (some (λ (ws : (Unit {0}) × ((Unit {0}) × ((Unit {0}) × ((Unit {0}) × ((Unit {0}) × ((Unit {0}) × ((Unit {0}) × ((Unit {0}) × ((Unit {0}) × Unit {0}))))))))). (‵ ftrue ⊛ ‵ ftrue ⊛ ‵ ftrue ⊛ ‵ ftrue ⊛ ‵ ftrue ⊛ ‵ ftrue ⊛ ‵ ftrue ⊛ ‵ ftrue ⊛ ‵ ftrue ⊛ ‵ ftrue) ⊛ raw (fact 𝓤 (Said-start r-start)))) (id⊢ 𝓤 _) $
         pick t (λ ws.
         split t $ move t (1 ∷ []) $ heard t (Said-start r-start) (λ said-start.
-        splits t (‵ ftrue ∷ ‵ ftrue ∷ ‵ ftrue ∷ ‵ ftrue ∷ ‵ ftrue ∷ ‵ ftrue ∷ ‵ ftrue ∷ ‵ ftrue ∷ []) (id⊢ 𝓤 _) $
-        drop t $ drop t $ drop t $ drop t $ drop t $ drop t $ drop t $ drop t $
+        splits t (‵ ftrue ∷ ‵ ftrue ∷ ‵ ftrue ∷ ‵ ftrue ∷ ‵ ftrue ∷ ‵ ftrue ∷ ‵ ftrue ∷ ‵ ftrue ∷ ‵ ftrue ∷ []) (id⊢ 𝓤 _) $
+        drop t $ drop t $ drop t $ drop t $ drop t $ drop t $ drop t $ drop t $ drop t $
         split t $
-        splits t (‵ (flft κ₁ q₁) ∷ ‵ (flft κ₂ q₂) ∷ ‵ (flft κ₃ q₃) ∷ ‵ (flft κ₅ q₅) ∷ ‵ (flft κ₆ q₆) ∷ []) (id⊢ 𝓤 _) $
-        move t (5 ∷ []) $
+        splits t (‵ (flft κ₁ q₁) ∷ ‵ (flft κ₂ q₂) ∷ ‵ (flft κ₃ q₃) ∷ ‵ (flft κ₅ q₅) ∷ ‵ (flft κ₆ q₆) ∷ ‵ (flft κ₇ q₇) ∷ []) (id⊢ 𝓤 _) $
+        move t (6 ∷ []) $
         lands-at t State-is.the-row (LL.vals State-is.the-type State-has.the-laws) (LL.tells State-is.the-type State-has.the-laws) r-start u (λ r-start-is.
-        move t (10 ∷ 0 ∷ 1 ∷ 2 ∷ 11 ∷ 3 ∷ 4 ∷ 12 ∷ 9 ∷ 8 ∷ 7 ∷ 13 ∷ 6 ∷ 5 ∷ []) $
+        move t (12 ∷ 0 ∷ 1 ∷ 2 ∷ 13 ∷ 3 ∷ 4 ∷ 5 ∷ 14 ∷ 11 ∷ 10 ∷ 9 ∷ 15 ∷ 8 ∷ 7 ∷ 6 ∷ []) $
         next r-start r-start-is said-start))))
 
     module _ (r-start : State) (r-start-is : Is State-is.the-row r-start ((State-val r-start) ∷ [])) (said-start : Said-start r-start) where
@@ -306,8 +317,8 @@ module _ {M : Type 1} (𝓤 : URA M) (H : Heap 𝓤) (A : Atoms 𝓤) (W : Given
 
       -- the invariant: what stands before a turn
       abbrev At : Standing → List (Item 𝓤)
-      At i = ‵ (flft κ₀ q₀) ∷ ‵ (flft κ₁ q₁) ∷ ‵ (flft κ₂ q₂) ∷ ‵ (flft κ₃ q₃) ∷ ‵ (flft κ₄ q₄) ∷ ‵ (flft κ₅ q₅) ∷ ‵ (flft κ₆ q₆) ∷ ‵ (out-own (i .out-now)) ∷ ‵ texts-own ∷ ‵ references-own ∷ ‵ comments-own ∷ ‵ rows-own ∷ ‵ qualifiers-own ∷ ‵ letters-own ∷ standing
-          (vacant ∷ holds (v out) ∷ holds (v texts) ∷ holds (v references) ∷ holds (v comments) ∷ holds (v rows) ∷ holds (v qualifiers) ∷ holds (v letters) ∷ holds (Head-val head) ∷ holds (How-val how) ∷ holds (State-val (i .state)) ∷ vacant ∷ vacant ∷ holds (vint w64 (length (rows .now))) ∷ vacant ∷ vacant ∷ vacant ∷ [])
+      At i = ‵ (flft κ₀ q₀) ∷ ‵ (flft κ₁ q₁) ∷ ‵ (flft κ₂ q₂) ∷ ‵ (flft κ₃ q₃) ∷ ‵ (flft κ₄ q₄) ∷ ‵ (flft κ₅ q₅) ∷ ‵ (flft κ₆ q₆) ∷ ‵ (flft κ₇ q₇) ∷ ‵ (out-own (i .out-now)) ∷ ‵ texts-own ∷ ‵ references-own ∷ ‵ comments-own ∷ ‵ rows-own ∷ ‵ qualifiers-own ∷ ‵ locations-own ∷ ‵ letters-own ∷ standing
+          (vacant ∷ holds (v out) ∷ holds (v texts) ∷ holds (v references) ∷ holds (v comments) ∷ holds (v rows) ∷ holds (v qualifiers) ∷ holds (v locations) ∷ holds (v letters) ∷ holds (Head-val head) ∷ holds (How-val how) ∷ holds (State-val (i .state)) ∷ vacant ∷ vacant ∷ holds (vint w64 (length (rows .now))) ∷ vacant ∷ vacant ∷ vacant ∷ [])
 
       abbrev Turned : Standing → Out → SProp 𝓤
       Turned i = afterTurn 𝓤 H (Below 𝓤 H A Nearer At i) (afterBlock 𝓤 H (afterSeq 𝓤 H (Wp 𝓤 H C Λ E body.t-4 (atReturn 𝓤 H E Post)) (atReturn 𝓤 H E Post)))
@@ -333,10 +344,10 @@ module _ {M : Type 1} (𝓤 : URA M) (H : Heap 𝓤) (A : Atoms 𝓤) (W : Given
               done !
 
           lends-fetch-row : {K : Type 0} {Γ : List (Item 𝓤)} {G : Goal 𝓤 H} → K → Soaks G →
-              (Seq K W (raw (fetch-row-contract 𝓤 H A mem run .pre to-fetch-row) ∷ ‵ rows-own ∷ ‵ (flft κ₀ q₀) ∷ ‵ (flft κ₁ q₁) ∷ ‵ (flft κ₂ q₂) ∷ ‵ (flft κ₃ q₃) ∷ ‵ (flft κ₅ q₅) ∷ ‵ (flft κ₆ q₆) ∷ ‵ (out-own (i .out-now)) ∷ ‵ texts-own ∷ ‵ references-own ∷ ‵ comments-own ∷ ‵ qualifiers-own ∷ ‵ letters-own ∷ Γ) G) → Seq K W
-              (‵ (flft κ₀ q₀) ∷ ‵ (flft κ₁ q₁) ∷ ‵ (flft κ₂ q₂) ∷ ‵ (flft κ₃ q₃) ∷ ‵ (flft κ₄ q₄) ∷ ‵ (flft κ₅ q₅) ∷ ‵ (flft κ₆ q₆) ∷ ‵ (out-own (i .out-now)) ∷ ‵ texts-own ∷ ‵ references-own ∷ ‵ comments-own ∷ ‵ rows-own ∷ ‵ qualifiers-own ∷ ‵ letters-own ∷ Γ) G
+              (Seq K W (raw (fetch-row-contract 𝓤 H A mem run .pre to-fetch-row) ∷ ‵ rows-own ∷ ‵ (flft κ₀ q₀) ∷ ‵ (flft κ₁ q₁) ∷ ‵ (flft κ₂ q₂) ∷ ‵ (flft κ₃ q₃) ∷ ‵ (flft κ₅ q₅) ∷ ‵ (flft κ₆ q₆) ∷ ‵ (flft κ₇ q₇) ∷ ‵ (out-own (i .out-now)) ∷ ‵ texts-own ∷ ‵ references-own ∷ ‵ comments-own ∷ ‵ qualifiers-own ∷ ‵ locations-own ∷ ‵ letters-own ∷ Γ) G)
+              → Seq K W (‵ (flft κ₀ q₀) ∷ ‵ (flft κ₁ q₁) ∷ ‵ (flft κ₂ q₂) ∷ ‵ (flft κ₃ q₃) ∷ ‵ (flft κ₄ q₄) ∷ ‵ (flft κ₅ q₅) ∷ ‵ (flft κ₆ q₆) ∷ ‵ (flft κ₇ q₇) ∷ ‵ (out-own (i .out-now)) ∷ ‵ texts-own ∷ ‵ references-own ∷ ‵ comments-own ∷ ‵ rows-own ∷ ‵ qualifiers-own ∷ ‵ locations-own ∷ ‵ letters-own ∷ Γ) G
           lends-fetch-row t z next =
-              move t (11 ∷ []) $
+              move t (12 ∷ []) $
               use1 W (‵ rows-own ⊛ ‵ rows-own) (shr-slice-copy 𝓤 H A W (named 4) κ₄ Feature-is.the-row .twice rows (v rows ∷ [])) $ split t $
               move t (6 ∷ 0 ∷ []) $
               group t 2 $
@@ -349,9 +360,9 @@ module _ {M : Type 1} (𝓤 : URA M) (H : Heap 𝓤) (A : Atoms 𝓤) (W : Given
 
           back-fetch-row : {K : Type 0} {Γ : List (Item 𝓤)} {d : S.Place} {rest : S.Body} {q : Ending 𝓤 H} → K →
               ((r-fetch-row : Fetched) (r-fetch-row-is : Is Fetched-is.the-row r-fetch-row ((Fetched-val r-fetch-row) ∷ [])) (said-fetch-row : Said-fetch-row r-fetch-row) → Seq K W
-              (‵ (flft κ₀ q₀) ∷ ‵ (flft κ₁ q₁) ∷ ‵ (flft κ₂ q₂) ∷ ‵ (flft κ₃ q₃) ∷ ‵ (flft κ₄ q₄) ∷ ‵ (flft κ₅ q₅) ∷ ‵ (flft κ₆ q₆) ∷ ‵ (out-own (i .out-now)) ∷ ‵ texts-own ∷ ‵ references-own ∷ ‵ comments-own ∷ ‵ rows-own ∷ ‵ qualifiers-own ∷ ‵ letters-own ∷ Γ) (lands C Λ E d (Fetched-val r-fetch-row) rest q))
-              → (u : Val) → Seq K W (raw (fetch-row-contract 𝓤 H A mem run .post to-fetch-row u) ∷ ‵ rows-own ∷ ‵ (flft κ₀ q₀) ∷ ‵ (flft κ₁ q₁) ∷ ‵ (flft κ₂ q₂) ∷ ‵ (flft κ₃ q₃) ∷ ‵ (flft κ₅ q₅) ∷ ‵ (flft κ₆ q₆) ∷ ‵ (out-own (i .out-now)) ∷ ‵ texts-own ∷ ‵ references-own ∷ ‵ comments-own ∷ ‵ qualifiers-own ∷ ‵ letters-own ∷ Γ)
-              (lands C Λ E d u rest q)
+              (‵ (flft κ₀ q₀) ∷ ‵ (flft κ₁ q₁) ∷ ‵ (flft κ₂ q₂) ∷ ‵ (flft κ₃ q₃) ∷ ‵ (flft κ₄ q₄) ∷ ‵ (flft κ₅ q₅) ∷ ‵ (flft κ₆ q₆) ∷ ‵ (flft κ₇ q₇) ∷ ‵ (out-own (i .out-now)) ∷ ‵ texts-own ∷ ‵ references-own ∷ ‵ comments-own ∷ ‵ rows-own ∷ ‵ qualifiers-own ∷ ‵ locations-own ∷ ‵ letters-own ∷ Γ) (lands C Λ E d (Fetched-val r-fetch-row) rest q))
+              → (u : Val) → Seq K W (raw (fetch-row-contract 𝓤 H A mem run .post to-fetch-row u) ∷ ‵ rows-own ∷ ‵ (flft κ₀ q₀) ∷ ‵ (flft κ₁ q₁) ∷ ‵ (flft κ₂ q₂) ∷ ‵ (flft κ₃ q₃) ∷ ‵ (flft κ₅ q₅) ∷ ‵ (flft κ₆ q₆) ∷ ‵ (flft κ₇ q₇) ∷ ‵ (out-own (i .out-now)) ∷ ‵ texts-own ∷ ‵ references-own ∷ ‵ comments-own ∷ ‵ qualifiers-own ∷ ‵ locations-own ∷ ‵
+              letters-own ∷ Γ) (lands C Λ E d u rest q)
           back-fetch-row t next u =
               use1 W (later (some (λ (r-fetch-row : Fetched). ((‵ (flft κ₄ q₄) ⊛ ‵ ftrue) ⊛ ‵ (Fetched-is.the-row .own r-fetch-row (u ∷ []))) ⊛ raw (ensured 𝓤 H A fetch-row.ended (fetch-row.clauses 𝓤 H A mem run) lfts-fetch-row args-fetch-row tt r-fetch-row)))) (id⊢ 𝓤 _) $
               await t tt $ pick t (λ r-fetch-row. split t $ move t (1 ∷ []) $
@@ -364,239 +375,255 @@ module _ {M : Type 1} (𝓤 : URA M) (H : Heap 𝓤) (A : Atoms 𝓤) (W : Given
               splits t (‵ (flft κ₄ q₄) ∷ []) (id⊢ 𝓤 _) $
               move t (1 ∷ []) $
               lands-at t Fetched-is.the-row (EL.vals Fetched-is.the-type Fetched-has.the-laws) (EL.tells Fetched-is.the-type Fetched-has.the-laws) r-fetch-row u (λ r-fetch-row-is.
-              move t (2 ∷ 3 ∷ 4 ∷ 5 ∷ 0 ∷ 6 ∷ 7 ∷ 8 ∷ 9 ∷ 10 ∷ 11 ∷ 1 ∷ 12 ∷ 13 ∷ []) $
+              move t (2 ∷ 3 ∷ 4 ∷ 5 ∷ 0 ∷ 6 ∷ 7 ∷ 8 ∷ 9 ∷ 10 ∷ 11 ∷ 12 ∷ 1 ∷ 13 ∷ 14 ∷ 15 ∷ []) $
               next r-fetch-row r-fetch-row-is said-fetch-row))))
 
           module _ (r-fetch-row : Fetched) (r-fetch-row-is : Is Fetched-is.the-row r-fetch-row ((Fetched-val r-fetch-row) ∷ [])) (said-fetch-row : Said-fetch-row r-fetch-row) where
             -- the call of `step`
-            abbrev lfts-step : (k-out : Loan) → Lft × (Lft × (Lft × (Lft × (Lft × (Lft × Unit {0})))))
-            lfts-step k-out = (k-out .life ∷ [], (κ₁, (κ₂, (κ₃, (κ₅, (κ₆, tt))))))
+            abbrev lfts-step : (k-out : Loan) → Lft × (Lft × (Lft × (Lft × (Lft × (Lft × (Lft × Unit {0}))))))
+            lfts-step k-out = (k-out .life ∷ [], (κ₁, (κ₂, (κ₃, (κ₅, (κ₆, (κ₇, tt)))))))
 
-            abbrev args-step : (k-out : Loan) → (RefT (List ℕ)) × (State × (Fetched × ((RefT (List ℕ)) × ((RefT (List ℕ)) × ((RefT (List ℕ)) × ((RefT (List ℕ)) × ((RefT (List ℕ)) × (Head × (How × Unit {0})))))))))
-            args-step k-out = (slice-at u8 out (k-out .name) (i .out-now), ((i .state), (r-fetch-row, (texts, (references, (comments, (qualifiers, (letters, (head, (how, tt))))))))))
+            abbrev args-step : (k-out : Loan) → (RefT (List ℕ)) × (State × (Fetched × ((RefT (List ℕ)) × ((RefT (List ℕ)) × ((RefT (List ℕ)) × ((RefT (List ℕ)) × ((RefT (List ℕ)) × ((RefT (List ℕ)) × (Head × (How × Unit {0}))))))))))
+            args-step k-out = (slice-at u8 out (k-out .name) (i .out-now), ((i .state), (r-fetch-row, (texts, (references, (comments, (qualifiers, (locations, (letters, (head, (how, tt)))))))))))
 
             abbrev to-step : (k-out : Loan) → step-contract 𝓤 H A mem run .Ghost
             to-step k-out = (
               (
                 (lfts-step k-out),
-                (fullShare, (q₁, (q₂, (q₃, (q₅, (q₆, tt)))))),
+                (fullShare, (q₁, (q₂, (q₃, (q₅, (q₆, (q₇, tt))))))),
                 tt,
                 (args-step k-out),
-                ((v out) ∷ [], (((State-val (i .state)) ∷ []), (((Fetched-val r-fetch-row) ∷ []), ((v texts) ∷ [], ((v references) ∷ [], ((v comments) ∷ [], ((v qualifiers) ∷ [], ((v letters) ∷ [], (((Head-val head) ∷ []), (((How-val how) ∷ []), tt)))))))))),
+                ((v out) ∷ [], (((State-val (i .state)) ∷ []), (((Fetched-val r-fetch-row) ∷ []), ((v texts) ∷ [], ((v references) ∷ [], ((v comments) ∷ [], ((v qualifiers) ∷ [], ((v locations) ∷ [], ((v letters) ∷ [], (((Head-val head) ∷ []), (((How-val how) ∷ []), tt))))))))))),
               ),
               tt,
             )
 
-            need-step : Steady (asking (texts .now) (references .now) (comments .now) (qualifiers .now) (letters .now) head how) (i .state) r-fetch-row
+            need-step : Steady (asking (texts .now) (references .now) (comments .now) (qualifiers .now) (locations .now) (letters .now) head how) (i .state) r-fetch-row
             need-step = steady call-of (rows .now) (out .now) (i .state) (i .out-now) r-fetch-row test (i .holds-on) said-fetch-row
 
-            goes-step : (k-out : Loan) → ent 𝓤 (⋆ 𝓤 H A (‵ (flft (k-out .life ∷ []) fullShare) ∷ ‵ (flft κ₁ q₁) ∷ ‵ (flft κ₂ q₂) ∷ ‵ (flft κ₃ q₃) ∷ ‵ (flft κ₅ q₅) ∷ ‵ (flft κ₆ q₆) ∷ ‵ (Lent u8 out (named 0) (i .out-now) k-out) ∷ ‵ texts-own ∷ ‵ references-own ∷ ‵ comments-own ∷ ‵ qualifiers-own ∷ ‵ letters-own ∷ []))
+            goes-step : (k-out : Loan) → ent 𝓤 (⋆ 𝓤 H A
+                (‵ (flft (k-out .life ∷ []) fullShare) ∷ ‵ (flft κ₁ q₁) ∷ ‵ (flft κ₂ q₂) ∷ ‵ (flft κ₃ q₃) ∷ ‵ (flft κ₅ q₅) ∷ ‵ (flft κ₆ q₆) ∷ ‵ (flft κ₇ q₇) ∷ ‵ (Lent u8 out (named 0) (i .out-now) k-out) ∷ ‵ texts-own ∷ ‵ references-own ∷ ‵ comments-own ∷ ‵ qualifiers-own ∷ ‵ locations-own ∷ ‵ letters-own ∷ []))
                 (step-contract 𝓤 H A mem run .pre (to-step k-out))
-            goes-step k-out = qed W (‵ (flft (k-out .life ∷ []) fullShare) ∷ ‵ (flft κ₁ q₁) ∷ ‵ (flft κ₂ q₂) ∷ ‵ (flft κ₃ q₃) ∷ ‵ (flft κ₅ q₅) ∷ ‵ (flft κ₆ q₆) ∷ ‵ (Lent u8 out (named 0) (i .out-now) k-out) ∷ ‵ texts-own ∷ ‵ references-own ∷ ‵ comments-own ∷ ‵ qualifiers-own ∷ ‵ letters-own ∷ []) ∵
+            goes-step k-out = qed W (‵ (flft (k-out .life ∷ []) fullShare) ∷ ‵ (flft κ₁ q₁) ∷ ‵ (flft κ₂ q₂) ∷ ‵ (flft κ₃ q₃) ∷ ‵ (flft κ₅ q₅) ∷ ‵ (flft κ₆ q₆) ∷ ‵ (flft κ₇ q₇) ∷ ‵ (Lent u8 out (named 0) (i .out-now) k-out) ∷ ‵ texts-own ∷ ‵ references-own ∷ ‵ comments-own ∷ ‵ qualifiers-own ∷ ‵ locations-own ∷ ‵ letters-own ∷ []) ∵
                 says ! need-step $ nothing ! $ nothing ! $
                 owned ! State-is.the-row (Is State-is.the-row) (LL.makes State-is.the-type State-has.the-plain 𝓤 H A) (i .state) ((State-val (i .state)) ∷ []) (i .state-is) $
                 owned ! Fetched-is.the-row (Is Fetched-is.the-row) (EL.makes Fetched-is.the-type Fetched-has.the-plain 𝓤 H A) r-fetch-row ((Fetched-val r-fetch-row) ∷ []) r-fetch-row-is $
                 owned ! Head-is.the-row (Is Head-is.the-row) (LL.makes Head-is.the-type Head-has.the-plain 𝓤 H A) head ((Head-val head) ∷ []) head-is $
                 owned ! How-is.the-row (Is How-is.the-row) (LL.makes How-is.the-type How-has.the-plain 𝓤 H A) how ((How-val how) ∷ []) how-is $
-                move ! (6 ∷ 7 ∷ 8 ∷ 9 ∷ 10 ∷ 11 ∷ 5 ∷ 12 ∷ 3 ∷ 2 ∷ 13 ∷ 14 ∷ 15 ∷ 16 ∷ 17 ∷ 1 ∷ 0 ∷ 4 ∷ []) $
-                group ! 7 $
+                move ! (6 ∷ 7 ∷ 8 ∷ 9 ∷ 10 ∷ 11 ∷ 12 ∷ 5 ∷ 13 ∷ 3 ∷ 2 ∷ 14 ∷ 15 ∷ 16 ∷ 17 ∷ 18 ∷ 19 ∷ 1 ∷ 0 ∷ 4 ∷ []) $
+                group ! 8 $
                 done !
 
-            lends-step : {K : Type 0} {Γ : List (Item 𝓤)} {G : Goal 𝓤 H} → K → Soaks G → ((k-out : Loan) → Seq K W (raw (step-contract 𝓤 H A mem run .pre (to-step k-out)) ∷ ‵ letters-own ∷ ‵ qualifiers-own ∷ ‵ comments-own ∷ ‵ references-own ∷ ‵ texts-own ∷ ‵ (Kept u8 out κ₀ q₀ (i .out-now) k-out) ∷ ‵ (flft κ₄ q₄) ∷ ‵ rows-own ∷ Γ) G) → Seq K W
-                (‵ (flft κ₀ q₀) ∷ ‵ (flft κ₁ q₁) ∷ ‵ (flft κ₂ q₂) ∷ ‵ (flft κ₃ q₃) ∷ ‵ (flft κ₄ q₄) ∷ ‵ (flft κ₅ q₅) ∷ ‵ (flft κ₆ q₆) ∷ ‵ (out-own (i .out-now)) ∷ ‵ texts-own ∷ ‵ references-own ∷ ‵ comments-own ∷ ‵ rows-own ∷ ‵ qualifiers-own ∷ ‵ letters-own ∷ Γ) G
+            lends-step : {K : Type 0} {Γ : List (Item 𝓤)} {G : Goal 𝓤 H} → K → Soaks G →
+                ((k-out : Loan) → Seq K W (raw (step-contract 𝓤 H A mem run .pre (to-step k-out)) ∷ ‵ letters-own ∷ ‵ locations-own ∷ ‵ qualifiers-own ∷ ‵ comments-own ∷ ‵ references-own ∷ ‵ texts-own ∷ ‵ (Kept u8 out κ₀ q₀ (i .out-now) k-out) ∷ ‵ (flft κ₄ q₄) ∷ ‵ rows-own ∷ Γ) G) → Seq K W
+                (‵ (flft κ₀ q₀) ∷ ‵ (flft κ₁ q₁) ∷ ‵ (flft κ₂ q₂) ∷ ‵ (flft κ₃ q₃) ∷ ‵ (flft κ₄ q₄) ∷ ‵ (flft κ₅ q₅) ∷ ‵ (flft κ₆ q₆) ∷ ‵ (flft κ₇ q₇) ∷ ‵ (out-own (i .out-now)) ∷ ‵ texts-own ∷ ‵ references-own ∷ ‵ comments-own ∷ ‵ rows-own ∷ ‵ qualifiers-own ∷ ‵ locations-own ∷ ‵ letters-own ∷ Γ) G
             lends-step t z next =
-                move t (7 ∷ 0 ∷ []) $
+                move t (8 ∷ 0 ∷ []) $
                 use2 W (later (some (λ (k-out : Loan). ‵ (flft (k-out .life ∷ []) fullShare) ⊛ ‵ (Lent u8 out (named 0) (i .out-now) k-out) ⊛ ‵ (Kept u8 out κ₀ q₀ (i .out-now) k-out)))) (lends u8 out 𝓤 H A W (named 0) (named 0) κ₀ q₀ (i .out-now) (i .out-now-long)) $
                 await t z $ pick t (λ k-out. split3 t $
-                move t (9 ∷ []) $
+                move t (10 ∷ []) $
                 use1 W (‵ texts-own ⊛ ‵ texts-own) (shr-slice-copy 𝓤 H A W (named 1) κ₁ u8 .twice texts (v texts ∷ [])) $ split t $
-                move t (11 ∷ []) $
+                move t (12 ∷ []) $
                 use1 W (‵ references-own ⊛ ‵ references-own) (shr-slice-copy 𝓤 H A W (named 2) κ₂ usize .twice references (v references ∷ [])) $ split t $
-                move t (13 ∷ []) $
+                move t (14 ∷ []) $
                 use1 W (‵ comments-own ⊛ ‵ comments-own) (shr-slice-copy 𝓤 H A W (named 3) κ₃ usize .twice comments (v comments ∷ [])) $ split t $
-                move t (16 ∷ []) $
+                move t (17 ∷ []) $
                 use1 W (‵ qualifiers-own ⊛ ‵ qualifiers-own) (shr-slice-copy 𝓤 H A W (named 5) κ₅ usize .twice qualifiers (v qualifiers ∷ [])) $ split t $
-                move t (18 ∷ []) $
-                use1 W (‵ letters-own ⊛ ‵ letters-own) (shr-slice-copy 𝓤 H A W (named 6) κ₆ u8 .twice letters (v letters ∷ [])) $ split t $
-                move t (10 ∷ 13 ∷ 14 ∷ 15 ∷ 17 ∷ 18 ∷ 11 ∷ 8 ∷ 6 ∷ 4 ∷ 2 ∷ 0 ∷ []) $
-                group t 12 $
+                move t (19 ∷ []) $
+                use1 W (‵ locations-own ⊛ ‵ locations-own) (shr-slice-copy 𝓤 H A W (named 6) κ₆ usize .twice locations (v locations ∷ [])) $ split t $
+                move t (21 ∷ []) $
+                use1 W (‵ letters-own ⊛ ‵ letters-own) (shr-slice-copy 𝓤 H A W (named 7) κ₇ u8 .twice letters (v letters ∷ [])) $ split t $
+                move t (12 ∷ 15 ∷ 16 ∷ 17 ∷ 19 ∷ 20 ∷ 21 ∷ 13 ∷ 10 ∷ 8 ∷ 6 ∷ 4 ∷ 2 ∷ 0 ∷ []) $
+                group t 14 $
                 use1 W (raw (step-contract 𝓤 H A mem run .pre (to-step k-out))) (goes-step k-out) $
                 next k-out)
 
             -- what `step` says of its answer and of the lists that it leaves
             abbrev Said-step : State → List ℕ → Type 0
-            Said-step r-step out-step = Steps (asking (texts .now) (references .now) (comments .now) (qualifiers .now) (letters .now) head how) (i .state) r-fetch-row (i .out-now) r-step (out-step)
+            Said-step r-step out-step = Steps (asking (texts .now) (references .now) (comments .now) (qualifiers .now) (locations .now) (letters .now) head how) (i .state) r-fetch-row (i .out-now) r-step (out-step)
 
             back-step : {K : Type 0} {Γ : List (Item 𝓤)} {d : S.Place} {rest : S.Body} {q : Ending 𝓤 H} → K → (k-out : Loan) →
                 ((r-step : State) (r-step-is : Is State-is.the-row r-step ((State-val r-step) ∷ [])) (out-step : List ℕ) (out-step-long : length out-step ≡ length (out .now)) (said-step : Said-step r-step out-step) → Seq K W
-                (‵ (flft κ₀ q₀) ∷ ‵ (flft κ₁ q₁) ∷ ‵ (flft κ₂ q₂) ∷ ‵ (flft κ₃ q₃) ∷ ‵ (flft κ₄ q₄) ∷ ‵ (flft κ₅ q₅) ∷ ‵ (flft κ₆ q₆) ∷ ‵ (out-own out-step) ∷ ‵ texts-own ∷ ‵ references-own ∷ ‵ comments-own ∷ ‵ rows-own ∷ ‵ qualifiers-own ∷ ‵ letters-own ∷ Γ) (lands C Λ E d (State-val r-step) rest q))
-                → (u : Val) → Seq K W (raw (step-contract 𝓤 H A mem run .post (to-step k-out) u) ∷ ‵ letters-own ∷ ‵ qualifiers-own ∷ ‵ comments-own ∷ ‵ references-own ∷ ‵ texts-own ∷ ‵ (Kept u8 out κ₀ q₀ (i .out-now) k-out) ∷ ‵ (flft κ₄ q₄) ∷ ‵ rows-own ∷ Γ) (lands C Λ E d u rest q)
+                (‵ (flft κ₀ q₀) ∷ ‵ (flft κ₁ q₁) ∷ ‵ (flft κ₂ q₂) ∷ ‵ (flft κ₃ q₃) ∷ ‵ (flft κ₄ q₄) ∷ ‵ (flft κ₅ q₅) ∷ ‵ (flft κ₆ q₆) ∷ ‵ (flft κ₇ q₇) ∷ ‵ (out-own out-step) ∷ ‵ texts-own ∷ ‵ references-own ∷ ‵ comments-own ∷ ‵ rows-own ∷ ‵ qualifiers-own ∷ ‵ locations-own ∷ ‵ letters-own ∷ Γ) (lands C Λ E d (State-val r-step) rest q))
+                → (u : Val) → Seq K W (raw (step-contract 𝓤 H A mem run .post (to-step k-out) u) ∷ ‵ letters-own ∷ ‵ locations-own ∷ ‵ qualifiers-own ∷ ‵ comments-own ∷ ‵ references-own ∷ ‵ texts-own ∷ ‵ (Kept u8 out κ₀ q₀ (i .out-now) k-out) ∷ ‵ (flft κ₄ q₄) ∷ ‵ rows-own ∷ Γ) (lands C Λ E d u rest q)
             back-step t k-out next u =
-                use1 W (later (some (λ (r-step : State). ((‵ (flft (k-out .life ∷ []) fullShare) ⊛ ‵ (flft κ₁ q₁) ⊛ ‵ (flft κ₂ q₂) ⊛ ‵ (flft κ₃ q₃) ⊛ ‵ (flft κ₅ q₅) ⊛ ‵ (flft κ₆ q₆) ⊛ ‵ ftrue) ⊛ ‵ (State-is.the-row .own r-step (u ∷ []))) ⊛ raw (ensured 𝓤 H A step.ended (step.clauses 𝓤 H A mem run) (lfts-step k-out) (args-step k-out) tt r-step))))
-                (id⊢ 𝓤 _) $
+                use1 W (later (some (λ (r-step : State). ((‵ (flft (k-out .life ∷ []) fullShare) ⊛ ‵ (flft κ₁ q₁) ⊛ ‵ (flft κ₂ q₂) ⊛ ‵ (flft κ₃ q₃) ⊛ ‵ (flft κ₅ q₅) ⊛ ‵ (flft κ₆ q₆) ⊛ ‵ (flft κ₇ q₇) ⊛ ‵ ftrue) ⊛ ‵ (State-is.the-row .own r-step (u ∷ []))) ⊛ raw
+                (ensured 𝓤 H A step.ended (step.clauses 𝓤 H A mem run) (lfts-step k-out) (args-step k-out) tt r-step)))) (id⊢ 𝓤 _) $
                 await t tt $ pick t (λ r-step. split t $ move t (1 ∷ []) $
-                use1 W (some (λ (ws : (List ℕ) × ((Unit {0}) × ((Unit {0}) × ((Unit {0}) × ((Unit {0}) × ((Unit {0}) × ((Unit {0}) × ((Unit {0}) × ((Unit {0}) × ((Unit {0}) × Unit {0})))))))))).
-                ((‵ (finally u8 (k-out .name) (ws .0)) ⊛ ‵ (feq ℕ (length (ws .0)) (length (i .out-now)))) ⊛ ‵ ftrue ⊛ ‵ ftrue ⊛ ‵ ftrue ⊛ ‵ ftrue ⊛ ‵ ftrue ⊛ ‵ ftrue ⊛ ‵ ftrue ⊛ ‵ ftrue ⊛ ‵ ftrue ⊛ ‵ ftrue) ⊛ raw (fact 𝓤 (Said-step r-step (ws .0))))) (id⊢ 𝓤 _) $
+                use1 W (some (λ (ws : (List ℕ) × ((Unit {0}) × ((Unit {0}) × ((Unit {0}) × ((Unit {0}) × ((Unit {0}) × ((Unit {0}) × ((Unit {0}) × ((Unit {0}) × ((Unit {0}) × ((Unit {0}) × Unit {0}))))))))))).
+                ((‵ (finally u8 (k-out .name) (ws .0)) ⊛ ‵ (feq ℕ (length (ws .0)) (length (i .out-now)))) ⊛ ‵ ftrue ⊛ ‵ ftrue ⊛ ‵ ftrue ⊛ ‵ ftrue ⊛ ‵ ftrue ⊛ ‵ ftrue ⊛ ‵ ftrue ⊛ ‵ ftrue ⊛ ‵ ftrue ⊛ ‵ ftrue ⊛ ‵ ftrue) ⊛ raw (fact 𝓤 (Said-step r-step (ws .0))))) (id⊢ 𝓤 _) $
                 pick t (λ ws.
                 split t $ move t (1 ∷ []) $ heard t (Said-step r-step (ws .0)) (λ said-step.
-                splits t ((‵ (finally u8 (k-out .name) (ws .0)) ⊛ ‵ (feq ℕ (length (ws .0)) (length (i .out-now)))) ∷ ‵ ftrue ∷ ‵ ftrue ∷ ‵ ftrue ∷ ‵ ftrue ∷ ‵ ftrue ∷ ‵ ftrue ∷ ‵ ftrue ∷ ‵ ftrue ∷ ‵ ftrue ∷ []) (id⊢ 𝓤 _) $
+                splits t ((‵ (finally u8 (k-out .name) (ws .0)) ⊛ ‵ (feq ℕ (length (ws .0)) (length (i .out-now)))) ∷ ‵ ftrue ∷ ‵ ftrue ∷ ‵ ftrue ∷ ‵ ftrue ∷ ‵ ftrue ∷ ‵ ftrue ∷ ‵ ftrue ∷ ‵ ftrue ∷ ‵ ftrue ∷ ‵ ftrue ∷ []) (id⊢ 𝓤 _) $
                 split t $ move t (1 ∷ []) $ feqL t (λ out-long.
-                move t (1 ∷ 2 ∷ 3 ∷ 4 ∷ 5 ∷ 6 ∷ 7 ∷ 8 ∷ 9 ∷ []) $
-                drop t $ drop t $ drop t $ drop t $ drop t $ drop t $ drop t $ drop t $ drop t $
+                move t (1 ∷ 2 ∷ 3 ∷ 4 ∷ 5 ∷ 6 ∷ 7 ∷ 8 ∷ 9 ∷ 10 ∷ []) $
+                drop t $ drop t $ drop t $ drop t $ drop t $ drop t $ drop t $ drop t $ drop t $ drop t $
                 move t (1 ∷ []) $
                 split t $
-                splits t (‵ (flft (k-out .life ∷ []) fullShare) ∷ ‵ (flft κ₁ q₁) ∷ ‵ (flft κ₂ q₂) ∷ ‵ (flft κ₃ q₃) ∷ ‵ (flft κ₅ q₅) ∷ ‵ (flft κ₆ q₆) ∷ []) (id⊢ 𝓤 _) $
-                move t (6 ∷ []) $
+                splits t (‵ (flft (k-out .life ∷ []) fullShare) ∷ ‵ (flft κ₁ q₁) ∷ ‵ (flft κ₂ q₂) ∷ ‵ (flft κ₃ q₃) ∷ ‵ (flft κ₅ q₅) ∷ ‵ (flft κ₆ q₆) ∷ ‵ (flft κ₇ q₇) ∷ []) (id⊢ 𝓤 _) $
+                move t (7 ∷ []) $
                 lands-at t State-is.the-row (LL.vals State-is.the-type State-has.the-laws) (LL.tells State-is.the-type State-has.the-laws) r-step u (λ r-step-is.
-                move t (0 ∷ 12 ∷ 6 ∷ []) $
+                move t (0 ∷ 14 ∷ 7 ∷ []) $
                 use3 W (later (‵ (out-own (ws .0)) ⊛ ‵ (flft κ₀ q₀))) (returned u8 out 𝓤 H A W (named 0) (named 0) κ₀ q₀ (i .out-now) (i .out-now-long) k-out (ws .0)) $ await t tt $ split t $
-                move t (1 ∷ 2 ∷ 3 ∷ 4 ∷ 12 ∷ 5 ∷ 6 ∷ 0 ∷ 11 ∷ 10 ∷ 9 ∷ 13 ∷ 8 ∷ 7 ∷ []) $
+                move t (1 ∷ 2 ∷ 3 ∷ 4 ∷ 14 ∷ 5 ∷ 6 ∷ 7 ∷ 0 ∷ 13 ∷ 12 ∷ 11 ∷ 15 ∷ 10 ∷ 9 ∷ 8 ∷ []) $
                 next r-step r-step-is (ws .0) (out-long ∙ (i .out-now-long)) said-step)))))
 
             module _ (r-step : State) (r-step-is : Is State-is.the-row r-step ((State-val r-step) ∷ [])) (out-step : List ℕ) (out-step-long : length out-step ≡ length (out .now)) (said-step : Said-step r-step out-step) where
               abbrev part-7-holds : List Cell
-              part-7-holds = vacant ∷ holds (v out) ∷ holds (v texts) ∷ holds (v references) ∷ holds (v comments) ∷ holds (v rows) ∷ holds (v qualifiers) ∷ holds (v letters) ∷ holds (Head-val head) ∷ holds (How-val how) ∷ holds (State-val (i .state)) ∷ holds (Fetched-val r-fetch-row) ∷ holds (State-val r-step) ∷ holds
+              part-7-holds = vacant ∷ holds (v out) ∷ holds (v texts) ∷ holds (v references) ∷ holds (v comments) ∷ holds (v rows) ∷ holds (v qualifiers) ∷ holds (v locations) ∷ holds (v letters) ∷ holds (Head-val head) ∷ holds (How-val how) ∷ holds (State-val (i .state)) ∷ holds (Fetched-val r-fetch-row) ∷ holds (State-val r-step) ∷ holds
                   (vint w64 (length (rows .now))) ∷ holds (vbool ((i .state) .going)) ∷ holds (vptr (out .ptr .0) (out .ptr .1)) ∷ holds (v out) ∷ []
 
-              part-7 : Sq W (‵ (flft κ₀ q₀) ∷ ‵ (flft κ₁ q₁) ∷ ‵ (flft κ₂ q₂) ∷ ‵ (flft κ₃ q₃) ∷ ‵ (flft κ₄ q₄) ∷ ‵ (flft κ₅ q₅) ∷ ‵ (flft κ₆ q₆) ∷ ‵ (out-own out-step) ∷ ‵ texts-own ∷ ‵ references-own ∷ ‵ comments-own ∷ ‵ rows-own ∷ ‵ qualifiers-own ∷ ‵ letters-own ∷ standing part-7-holds) (runs C Λ E turn-from-7 (anyQ (Turned i)))
+              part-7 : Sq W (‵ (flft κ₀ q₀) ∷ ‵ (flft κ₁ q₁) ∷ ‵ (flft κ₂ q₂) ∷ ‵ (flft κ₃ q₃) ∷ ‵ (flft κ₄ q₄) ∷ ‵ (flft κ₅ q₅) ∷ ‵ (flft κ₆ q₆) ∷ ‵ (flft κ₇ q₇) ∷ ‵ (out-own out-step) ∷ ‵ texts-own ∷ ‵ references-own ∷ ‵ comments-own ∷ ‵ rows-own ∷ ‵ qualifiers-own ∷ ‵ locations-own ∷ ‵ letters-own ∷ standing part-7-holds)
+                  (runs C Λ E turn-from-7 (anyQ (Turned i)))
               unfolding afterTurn
               part-7 =
-                  assigns-last ! (of-opd ! (load ! (from ! (stop !)) (look ! 26 refl))) (from ! (stop !)) (store ! 24 refl (LL.lawful State-is.the-type State-has.the-laws 𝓤 H A W .typed r-step ((State-val r-step) ∷ []) r-step-is .0)) $
-                  forget ! 25 refl $
-                  forget ! 26 refl $
+                  assigns-last ! (of-opd ! (load ! (from ! (stop !)) (look ! 29 refl))) (from ! (stop !)) (store ! 27 refl (LL.lawful State-is.the-type State-has.the-laws 𝓤 H A W .typed r-step ((State-val r-step) ∷ []) r-step-is .0)) $
                   forget ! 28 refl $
                   forget ! 29 refl $
-                  forget ! 30 refl $
+                  forget ! 31 refl $
+                  forget ! 32 refl $
+                  forget ! 33 refl $
                   again ! Nearer At i (record { state = r-step; state-is = r-step-is; out-now = out-step; out-now-long = out-step-long; holds-on = said-step .by (rows .now) (out .now) said-fetch-row test (i .holds-on) .held }) (said-step .by (rows .now) (out .now) said-fetch-row test (i .holds-on) .nearer)
 
             abbrev part-6-holds : List Cell
-            part-6-holds = vacant ∷ holds (v out) ∷ holds (v texts) ∷ holds (v references) ∷ holds (v comments) ∷ holds (v rows) ∷ holds (v qualifiers) ∷ holds (v letters) ∷ holds (Head-val head) ∷ holds (How-val how) ∷ holds (State-val (i .state)) ∷ holds (Fetched-val r-fetch-row) ∷ vacant ∷ holds (vint w64 (length (rows .now))) ∷ holds
-                (vbool ((i .state) .going)) ∷ holds (vptr (out .ptr .0) (out .ptr .1)) ∷ holds (v out) ∷ []
+            part-6-holds = vacant ∷ holds (v out) ∷ holds (v texts) ∷ holds (v references) ∷ holds (v comments) ∷ holds (v rows) ∷ holds (v qualifiers) ∷ holds (v locations) ∷ holds (v letters) ∷ holds (Head-val head) ∷ holds (How-val how) ∷ holds (State-val (i .state)) ∷ holds (Fetched-val r-fetch-row) ∷ vacant ∷ holds
+                (vint w64 (length (rows .now))) ∷ holds (vbool ((i .state) .going)) ∷ holds (vptr (out .ptr .0) (out .ptr .1)) ∷ holds (v out) ∷ []
 
-            part-6 : Sq W (‵ (flft κ₀ q₀) ∷ ‵ (flft κ₁ q₁) ∷ ‵ (flft κ₂ q₂) ∷ ‵ (flft κ₃ q₃) ∷ ‵ (flft κ₄ q₄) ∷ ‵ (flft κ₅ q₅) ∷ ‵ (flft κ₆ q₆) ∷ ‵ (out-own (i .out-now)) ∷ ‵ texts-own ∷ ‵ references-own ∷ ‵ comments-own ∷ ‵ rows-own ∷ ‵ qualifiers-own ∷ ‵ letters-own ∷ standing part-6-holds) (runs C Λ E turn-from-6 (anyQ (Turned i)))
+            part-6 : Sq W (‵ (flft κ₀ q₀) ∷ ‵ (flft κ₁ q₁) ∷ ‵ (flft κ₂ q₂) ∷ ‵ (flft κ₃ q₃) ∷ ‵ (flft κ₄ q₄) ∷ ‵ (flft κ₅ q₅) ∷ ‵ (flft κ₆ q₆) ∷ ‵ (flft κ₇ q₇) ∷ ‵ (out-own (i .out-now)) ∷ ‵ texts-own ∷ ‵ references-own ∷ ‵ comments-own ∷ ‵ rows-own ∷ ‵ qualifiers-own ∷ ‵ locations-own ∷ ‵ letters-own ∷ standing part-6-holds)
+                (runs C Λ E turn-from-6 (anyQ (Turned i)))
             unfolding afterTurn
             part-6 =
                 lends-step ! tt (λ k-out.
                 calls-at ! fm (step-contract 𝓤 H A mem run) known-step (to-step k-out)
-                (and-then ! (load ! (from ! (stop !)) (look ! 25 refl))
-                (and-then ! (load ! (from ! (stop !)) (look ! 19 refl))
-                (and-then ! (load ! (from ! (stop !)) (look ! 20 refl))
-                (and-then ! (load ! (from ! (stop !)) (look ! 11 refl))
+                (and-then ! (load ! (from ! (stop !)) (look ! 27 refl))
+                (and-then ! (load ! (from ! (stop !)) (look ! 21 refl))
+                (and-then ! (load ! (from ! (stop !)) (look ! 22 refl))
                 (and-then ! (load ! (from ! (stop !)) (look ! 12 refl))
-                (and-then ! (load ! (from ! (stop !)) (look ! 13 refl)) (and-then ! (load ! (from ! (stop !)) (look ! 15 refl)) (and-then ! (load ! (from ! (stop !)) (look ! 16 refl)) (and-then ! (load ! (from ! (stop !)) (look ! 17 refl)) (and-then ! (load ! (from ! (stop !)) (look ! 18 refl)) (no-more !)))))))))))
+                (and-then ! (load ! (from ! (stop !)) (look ! 13 refl))
+                (and-then ! (load ! (from ! (stop !)) (look ! 14 refl))
+                (and-then ! (load ! (from ! (stop !)) (look ! 16 refl)) (and-then ! (load ! (from ! (stop !)) (look ! 17 refl)) (and-then ! (load ! (from ! (stop !)) (look ! 18 refl)) (and-then ! (load ! (from ! (stop !)) (look ! 19 refl)) (and-then ! (load ! (from ! (stop !)) (look ! 20 refl)) (no-more !))))))))))))
                 (back-step ! k-out (λ r-step r-step-is out-step out-step-long said-step.
-                land ! (from ! (stop !)) (init ! 26 refl (LL.lawful State-is.the-type State-has.the-laws 𝓤 H A W .typed r-step ((State-val r-step) ∷ []) r-step-is .0)) $
+                land ! (from ! (stop !)) (init ! 29 refl (LL.lawful State-is.the-type State-has.the-laws 𝓤 H A W .typed r-step ((State-val r-step) ∷ []) r-step-is .0)) $
                 part-7 r-step r-step-is out-step out-step-long said-step)))
 
             abbrev part-5-holds : List Cell
-            part-5-holds = vacant ∷ holds (v out) ∷ holds (v texts) ∷ holds (v references) ∷ holds (v comments) ∷ holds (v rows) ∷ holds (v qualifiers) ∷ holds (v letters) ∷ holds (Head-val head) ∷ holds (How-val how) ∷ holds (State-val (i .state)) ∷ holds (Fetched-val r-fetch-row) ∷ vacant ∷ holds (vint w64 (length (rows .now))) ∷ holds
-                (vbool ((i .state) .going)) ∷ vacant ∷ vacant ∷ []
+            part-5-holds = vacant ∷ holds (v out) ∷ holds (v texts) ∷ holds (v references) ∷ holds (v comments) ∷ holds (v rows) ∷ holds (v qualifiers) ∷ holds (v locations) ∷ holds (v letters) ∷ holds (Head-val head) ∷ holds (How-val how) ∷ holds (State-val (i .state)) ∷ holds (Fetched-val r-fetch-row) ∷ vacant ∷ holds
+                (vint w64 (length (rows .now))) ∷ holds (vbool ((i .state) .going)) ∷ vacant ∷ vacant ∷ []
 
-            part-5 : Sq W (‵ (flft κ₀ q₀) ∷ ‵ (flft κ₁ q₁) ∷ ‵ (flft κ₂ q₂) ∷ ‵ (flft κ₃ q₃) ∷ ‵ (flft κ₄ q₄) ∷ ‵ (flft κ₅ q₅) ∷ ‵ (flft κ₆ q₆) ∷ ‵ (out-own (i .out-now)) ∷ ‵ texts-own ∷ ‵ references-own ∷ ‵ comments-own ∷ ‵ rows-own ∷ ‵ qualifiers-own ∷ ‵ letters-own ∷ standing part-5-holds) (runs C Λ E turn-from-4 (anyQ (Turned i)))
+            part-5 : Sq W (‵ (flft κ₀ q₀) ∷ ‵ (flft κ₁ q₁) ∷ ‵ (flft κ₂ q₂) ∷ ‵ (flft κ₃ q₃) ∷ ‵ (flft κ₄ q₄) ∷ ‵ (flft κ₅ q₅) ∷ ‵ (flft κ₆ q₆) ∷ ‵ (flft κ₇ q₇) ∷ ‵ (out-own (i .out-now)) ∷ ‵ texts-own ∷ ‵ references-own ∷ ‵ comments-own ∷ ‵ rows-own ∷ ‵ qualifiers-own ∷ ‵ locations-own ∷ ‵ letters-own ∷ standing part-5-holds)
+                (runs C Λ E turn-from-4 (anyQ (Turned i)))
             unfolding afterTurn
             part-5 =
-                assigns ! (addr ! (from ! (fld ! refl (hop ! (look-in ! 15 (sub ! 0 refl (whole !))) (stop !))))) (from ! (stop !)) (init ! 29 refl (tt, tt)) $
-                assigns ! (agg ! (and-then ! (load ! (from ! (stop !)) (look ! 29 refl)) (and-then ! (load ! (from ! (fld ! refl (stop !))) (look-in ! 15 (sub ! 1 refl (whole !)))) (no-more !)))) (from ! (stop !)) (init ! 30 refl (tt, (tt, (record { fits = out-room .0 }, tt)))) $
+                assigns ! (addr ! (from ! (fld ! refl (hop ! (look-in ! 17 (sub ! 0 refl (whole !))) (stop !))))) (from ! (stop !)) (init ! 32 refl (tt, tt)) $
+                assigns ! (agg ! (and-then ! (load ! (from ! (stop !)) (look ! 32 refl)) (and-then ! (load ! (from ! (fld ! refl (stop !))) (look-in ! 17 (sub ! 1 refl (whole !)))) (no-more !)))) (from ! (stop !)) (init ! 33 refl (tt, (tt, (record { fits = out-room .0 }, tt)))) $
                 part-6
 
           abbrev part-4-holds : List Cell
-          part-4-holds = vacant ∷ holds (v out) ∷ holds (v texts) ∷ holds (v references) ∷ holds (v comments) ∷ holds (v rows) ∷ holds (v qualifiers) ∷ holds (v letters) ∷ holds (Head-val head) ∷ holds (How-val how) ∷ holds (State-val (i .state)) ∷ vacant ∷ vacant ∷ holds (vint w64 (length (rows .now))) ∷ holds (vbool ((i .state) .going)) ∷ vacant
-              ∷ vacant ∷ []
+          part-4-holds = vacant ∷ holds (v out) ∷ holds (v texts) ∷ holds (v references) ∷ holds (v comments) ∷ holds (v rows) ∷ holds (v qualifiers) ∷ holds (v locations) ∷ holds (v letters) ∷ holds (Head-val head) ∷ holds (How-val how) ∷ holds (State-val (i .state)) ∷ vacant ∷ vacant ∷ holds (vint w64 (length (rows .now))) ∷ holds
+              (vbool ((i .state) .going)) ∷ vacant ∷ vacant ∷ []
 
-          part-4 : Sq W (‵ (flft κ₀ q₀) ∷ ‵ (flft κ₁ q₁) ∷ ‵ (flft κ₂ q₂) ∷ ‵ (flft κ₃ q₃) ∷ ‵ (flft κ₄ q₄) ∷ ‵ (flft κ₅ q₅) ∷ ‵ (flft κ₆ q₆) ∷ ‵ (out-own (i .out-now)) ∷ ‵ texts-own ∷ ‵ references-own ∷ ‵ comments-own ∷ ‵ rows-own ∷ ‵ qualifiers-own ∷ ‵ letters-own ∷ standing part-4-holds) (runs C Λ E turn-from-3 (anyQ (Turned i)))
+          part-4 : Sq W (‵ (flft κ₀ q₀) ∷ ‵ (flft κ₁ q₁) ∷ ‵ (flft κ₂ q₂) ∷ ‵ (flft κ₃ q₃) ∷ ‵ (flft κ₄ q₄) ∷ ‵ (flft κ₅ q₅) ∷ ‵ (flft κ₆ q₆) ∷ ‵ (flft κ₇ q₇) ∷ ‵ (out-own (i .out-now)) ∷ ‵ texts-own ∷ ‵ references-own ∷ ‵ comments-own ∷ ‵ rows-own ∷ ‵ qualifiers-own ∷ ‵ locations-own ∷ ‵ letters-own ∷ standing part-4-holds)
+              (runs C Λ E turn-from-3 (anyQ (Turned i)))
           unfolding afterTurn
           part-4 =
               lends-fetch-row ! tt (
-              calls-at ! fm (fetch-row-contract 𝓤 H A mem run) known-fetch-row to-fetch-row (and-then ! (load ! (from ! (stop !)) (look ! 19 refl)) (and-then ! (load ! (from ! (fld ! refl (stop !))) (look-in ! 24 (sub ! 2 refl (whole !)))) (no-more !)))
+              calls-at ! fm (fetch-row-contract 𝓤 H A mem run) known-fetch-row to-fetch-row (and-then ! (load ! (from ! (stop !)) (look ! 21 refl)) (and-then ! (load ! (from ! (fld ! refl (stop !))) (look-in ! 27 (sub ! 2 refl (whole !)))) (no-more !)))
               (back-fetch-row ! (λ r-fetch-row r-fetch-row-is said-fetch-row.
-              land ! (from ! (stop !)) (init ! 25 refl (EL.lawful Fetched-is.the-type Fetched-has.the-laws 𝓤 H A W tt .typed r-fetch-row ((Fetched-val r-fetch-row) ∷ []) r-fetch-row-is .0)) $
+              land ! (from ! (stop !)) (init ! 28 refl (EL.lawful Fetched-is.the-type Fetched-has.the-laws 𝓤 H A W tt .typed r-fetch-row ((Fetched-val r-fetch-row) ∷ []) r-fetch-row-is .0)) $
               part-5 r-fetch-row r-fetch-row-is said-fetch-row)))
 
         module _ (test : ((i .state) .going) ≡ false) where
           -- the law, and the end
-          ended : WriteAnswered how (roomsIn (texts .now) (references .now) (comments .now) (flat (rows .now)) (qualifiers .now) (letters .now)) head (out .now) (i .out-now) ((i .state) .answer)
+          ended : WriteAnswered how (roomsIn (texts .now) (references .now) (comments .now) (flat (rows .now)) (qualifiers .now) (locations .now) (letters .now)) head (out .now) (i .out-now) ((i .state) .answer)
           ended = ended-answer call-of (rows .now) (out .now) (i .state) (i .out-now) (length-fits (head .length) _ (head-is .1 .1 .1 .0)) test (i .holds-on)
 
           abbrev at-last : List (Item 𝓤)
-          at-last = ‵ (flft κ₀ q₀) ∷ ‵ (flft κ₁ q₁) ∷ ‵ (flft κ₂ q₂) ∷ ‵ (flft κ₃ q₃) ∷ ‵ (flft κ₄ q₄) ∷ ‵ (flft κ₅ q₅) ∷ ‵ (flft κ₆ q₆) ∷ ‵ (out-own (i .out-now)) ∷ ‵ texts-own ∷ ‵ references-own ∷ ‵ comments-own ∷ ‵ rows-own ∷ ‵ qualifiers-own ∷ ‵ letters-own ∷ []
+          at-last = ‵ (flft κ₀ q₀) ∷ ‵ (flft κ₁ q₁) ∷ ‵ (flft κ₂ q₂) ∷ ‵ (flft κ₃ q₃) ∷ ‵ (flft κ₄ q₄) ∷ ‵ (flft κ₅ q₅) ∷ ‵ (flft κ₆ q₆) ∷ ‵ (flft κ₇ q₇) ∷ ‵ (out-own (i .out-now)) ∷ ‵ texts-own ∷ ‵ references-own ∷ ‵ comments-own ∷ ‵ rows-own ∷ ‵ qualifiers-own ∷ ‵ locations-own ∷ ‵ letters-own ∷ []
 
           exits : ent 𝓤 (⋆ 𝓤 H A at-last) (Post (WriteAnswer-val ((i .state) .answer)))
           exits =
               qed W at-last ∵
-              move ! (8 ∷ 9 ∷ 10 ∷ 11 ∷ 12 ∷ 13 ∷ []) $
-              drop ! $ drop ! $ drop ! $ drop ! $ drop ! $ drop ! $
-              suffices ! _ (ends-at 𝓤 H A f.ended stayed (f.clauses 𝓤 H A mem run) W bound (WriteAnswer-val ((i .state) .answer)) ((i .state) .answer) ((i .out-now), (tt, (tt, (tt, (tt, (tt, (tt, (tt, (tt, tt))))))))) ((i .out-now-long), (tt, (tt, (tt, (tt, (tt, (tt, (tt, (tt, tt)))))))))) $ says ! ended $
+              move ! (9 ∷ 10 ∷ 11 ∷ 12 ∷ 13 ∷ 14 ∷ 15 ∷ []) $
+              drop ! $ drop ! $ drop ! $ drop ! $ drop ! $ drop ! $ drop ! $
+              suffices ! _ (ends-at 𝓤 H A f.ended stayed (f.clauses 𝓤 H A mem run) W bound (WriteAnswer-val ((i .state) .answer)) ((i .state) .answer) ((i .out-now), (tt, (tt, (tt, (tt, (tt, (tt, (tt, (tt, (tt, tt)))))))))) ((i .out-now-long), (tt, (tt, (tt, (tt, (tt, (tt, (tt, (tt, (tt, tt))))))))))) $ says ! ended $
               owned ! WriteAnswer-is.the-row (Is WriteAnswer-is.the-row) (EL.makes WriteAnswer-is.the-type WriteAnswer-has.the-plain 𝓤 H A) ((i .state) .answer) ((WriteAnswer-val ((i .state) .answer)) ∷ []) (LL.owed State-is.the-type State-has.the-laws (i .state) _ (i .state-is) .1 .1 .1 .1 .1 .1 .1 .0) $
-              nothing ! $ nothing ! $ nothing ! $ nothing ! $ nothing ! $ nothing ! $ nothing ! $ nothing ! $ nothing ! $ nothing ! $
-              move ! (11 ∷ 12 ∷ 13 ∷ 14 ∷ 15 ∷ 16 ∷ 17 ∷ 8 ∷ 18 ∷ 0 ∷ 1 ∷ 2 ∷ 3 ∷ 4 ∷ 5 ∷ 6 ∷ 7 ∷ 9 ∷ 10 ∷ []) $
-              group ! 8 $ frame ! $ group ! 10 $
+              nothing ! $ nothing ! $ nothing ! $ nothing ! $ nothing ! $ nothing ! $ nothing ! $ nothing ! $ nothing ! $ nothing ! $ nothing ! $
+              move ! (12 ∷ 13 ∷ 14 ∷ 15 ∷ 16 ∷ 17 ∷ 18 ∷ 19 ∷ 9 ∷ 20 ∷ 0 ∷ 1 ∷ 2 ∷ 3 ∷ 4 ∷ 5 ∷ 6 ∷ 7 ∷ 8 ∷ 10 ∷ 11 ∷ []) $
+              group ! 9 $ frame ! $ group ! 11 $
               done !
 
           abbrev part-8-holds : List Cell
-          part-8-holds = vacant ∷ holds (v out) ∷ holds (v texts) ∷ holds (v references) ∷ holds (v comments) ∷ holds (v rows) ∷ holds (v qualifiers) ∷ holds (v letters) ∷ holds (Head-val head) ∷ holds (How-val how) ∷ holds (State-val (i .state)) ∷ vacant ∷ vacant ∷ holds (vint w64 (length (rows .now))) ∷ holds (vbool ((i .state) .going)) ∷ vacant
-              ∷ vacant ∷ []
+          part-8-holds = vacant ∷ holds (v out) ∷ holds (v texts) ∷ holds (v references) ∷ holds (v comments) ∷ holds (v rows) ∷ holds (v qualifiers) ∷ holds (v locations) ∷ holds (v letters) ∷ holds (Head-val head) ∷ holds (How-val how) ∷ holds (State-val (i .state)) ∷ vacant ∷ vacant ∷ holds (vint w64 (length (rows .now))) ∷ holds
+              (vbool ((i .state) .going)) ∷ vacant ∷ vacant ∷ []
 
-          part-8 : Sq W (‵ (flft κ₀ q₀) ∷ ‵ (flft κ₁ q₁) ∷ ‵ (flft κ₂ q₂) ∷ ‵ (flft κ₃ q₃) ∷ ‵ (flft κ₄ q₄) ∷ ‵ (flft κ₅ q₅) ∷ ‵ (flft κ₆ q₆) ∷ ‵ (out-own (i .out-now)) ∷ ‵ texts-own ∷ ‵ references-own ∷ ‵ comments-own ∷ ‵ rows-own ∷ ‵ qualifiers-own ∷ ‵ letters-own ∷ standing part-8-holds) (runs C Λ E body.t-4 (atRet E Post))
+          part-8 : Sq W (‵ (flft κ₀ q₀) ∷ ‵ (flft κ₁ q₁) ∷ ‵ (flft κ₂ q₂) ∷ ‵ (flft κ₃ q₃) ∷ ‵ (flft κ₄ q₄) ∷ ‵ (flft κ₅ q₅) ∷ ‵ (flft κ₆ q₆) ∷ ‵ (flft κ₇ q₇) ∷ ‵ (out-own (i .out-now)) ∷ ‵ texts-own ∷ ‵ references-own ∷ ‵ comments-own ∷ ‵ rows-own ∷ ‵ qualifiers-own ∷ ‵ locations-own ∷ ‵ letters-own ∷ standing part-8-holds)
+              (runs C Λ E body.t-4 (atRet E Post))
           part-8 =
-              assigns ! (of-opd ! (load ! (from ! (fld ! refl (stop !))) (look-in ! 24 (sub ! 7 refl (whole !))))) (from ! (stop !))
-              (init ! 14 refl (EL.lawful WriteAnswer-is.the-type WriteAnswer-has.the-laws 𝓤 H A W tt .typed ((i .state) .answer) ((WriteAnswer-val ((i .state) .answer)) ∷ []) (LL.owed State-is.the-type State-has.the-laws (i .state) _ (i .state-is) .1 .1 .1 .1 .1 .1 .1 .0) .0)) $
-              returns ! (look ! 14 refl) $ frees-all ! at-last
-              (holds (WriteAnswer-val ((i .state) .answer)) ∷ holds (v out) ∷ holds (v texts) ∷ holds (v references) ∷ holds (v comments) ∷ holds (v rows) ∷ holds (v qualifiers) ∷ holds (v letters) ∷ holds (Head-val head) ∷ holds (How-val how) ∷ holds (State-val (i .state)) ∷ vacant ∷ vacant ∷ holds (vint w64 (length (rows .now))) ∷ holds
-              (vbool ((i .state) .going)) ∷ vacant ∷ vacant ∷ []) tt exits
+              assigns ! (of-opd ! (load ! (from ! (fld ! refl (stop !))) (look-in ! 27 (sub ! 7 refl (whole !))))) (from ! (stop !))
+              (init ! 16 refl (EL.lawful WriteAnswer-is.the-type WriteAnswer-has.the-laws 𝓤 H A W tt .typed ((i .state) .answer) ((WriteAnswer-val ((i .state) .answer)) ∷ []) (LL.owed State-is.the-type State-has.the-laws (i .state) _ (i .state-is) .1 .1 .1 .1 .1 .1 .1 .0) .0)) $
+              returns ! (look ! 16 refl) $ frees-all ! at-last
+              (holds (WriteAnswer-val ((i .state) .answer)) ∷ holds (v out) ∷ holds (v texts) ∷ holds (v references) ∷ holds (v comments) ∷ holds (v rows) ∷ holds (v qualifiers) ∷ holds (v locations) ∷ holds (v letters) ∷ holds (Head-val head) ∷ holds (How-val how) ∷ holds (State-val (i .state)) ∷ vacant ∷ vacant ∷ holds
+              (vint w64 (length (rows .now))) ∷ holds (vbool ((i .state) .going)) ∷ vacant ∷ vacant ∷ []) tt exits
 
         abbrev part-3-holds : List Cell
-        part-3-holds = vacant ∷ holds (v out) ∷ holds (v texts) ∷ holds (v references) ∷ holds (v comments) ∷ holds (v rows) ∷ holds (v qualifiers) ∷ holds (v letters) ∷ holds (Head-val head) ∷ holds (How-val how) ∷ holds (State-val (i .state)) ∷ vacant ∷ vacant ∷ holds (vint w64 (length (rows .now))) ∷ vacant ∷ vacant ∷ vacant ∷ []
+        part-3-holds = vacant ∷ holds (v out) ∷ holds (v texts) ∷ holds (v references) ∷ holds (v comments) ∷ holds (v rows) ∷ holds (v qualifiers) ∷ holds (v locations) ∷ holds (v letters) ∷ holds (Head-val head) ∷ holds (How-val how) ∷ holds (State-val (i .state)) ∷ vacant ∷ vacant ∷ holds (vint w64 (length (rows .now))) ∷ vacant ∷ vacant ∷
+            vacant ∷ []
 
-        part-3 : Sq W (‵ (flft κ₀ q₀) ∷ ‵ (flft κ₁ q₁) ∷ ‵ (flft κ₂ q₂) ∷ ‵ (flft κ₃ q₃) ∷ ‵ (flft κ₄ q₄) ∷ ‵ (flft κ₅ q₅) ∷ ‵ (flft κ₆ q₆) ∷ ‵ (out-own (i .out-now)) ∷ ‵ texts-own ∷ ‵ references-own ∷ ‵ comments-own ∷ ‵ rows-own ∷ ‵ qualifiers-own ∷ ‵ letters-own ∷ standing part-3-holds) (runs C Λ E body.turn-1 (anyQ (Turned i)))
+        part-3 : Sq W (‵ (flft κ₀ q₀) ∷ ‵ (flft κ₁ q₁) ∷ ‵ (flft κ₂ q₂) ∷ ‵ (flft κ₃ q₃) ∷ ‵ (flft κ₄ q₄) ∷ ‵ (flft κ₅ q₅) ∷ ‵ (flft κ₆ q₆) ∷ ‵ (flft κ₇ q₇) ∷ ‵ (out-own (i .out-now)) ∷ ‵ texts-own ∷ ‵ references-own ∷ ‵ comments-own ∷ ‵ rows-own ∷ ‵ qualifiers-own ∷ ‵ locations-own ∷ ‵ letters-own ∷ standing part-3-holds)
+            (runs C Λ E body.turn-1 (anyQ (Turned i)))
         unfolding afterTurn
         part-3 =
-            assigns ! (of-opd ! (load ! (from ! (fld ! refl (stop !))) (look-in ! 24 (sub ! 0 refl (whole !))))) (from ! (stop !)) (init ! 28 refl (bool-lawful 𝓤 H A W .typed ((i .state) .going) ((vbool ((i .state) .going)) ∷ []) (LL.owed State-is.the-type State-has.the-laws (i .state) _ (i .state-is) .0) .0)) $
-            first ! $ branches ! (load ! (from ! (stop !)) (look ! 28 refl))
+            assigns ! (of-opd ! (load ! (from ! (fld ! refl (stop !))) (look-in ! 27 (sub ! 0 refl (whole !))))) (from ! (stop !)) (init ! 31 refl (bool-lawful 𝓤 H A W .typed ((i .state) .going) ((vbool ((i .state) .going)) ∷ []) (LL.owed State-is.the-type State-has.the-laws (i .state) _ (i .state-is) .0) .0)) $
+            first ! $ branches ! (load ! (from ! (stop !)) (look ! 31 refl))
             (λ y. skips ! $ exec ! C Λ E turn-from-3 (anyQ (Turned i)) $ part-4 (is-true ((i .state) .going) y))
             (λ y. jumps ! $ exec ! C Λ E body.t-4 (atRet E Post) $ part-8 (is-false ((i .state) .going) y))
 
       abbrev part-2-holds : List Cell
-      part-2-holds = vacant ∷ holds (v out) ∷ holds (v texts) ∷ holds (v references) ∷ holds (v comments) ∷ holds (v rows) ∷ holds (v qualifiers) ∷ holds (v letters) ∷ holds (Head-val head) ∷ holds (How-val how) ∷ holds (State-val r-start) ∷ vacant ∷ vacant ∷ holds (vint w64 (length (rows .now))) ∷ vacant ∷ vacant ∷ vacant ∷ []
+      part-2-holds = vacant ∷ holds (v out) ∷ holds (v texts) ∷ holds (v references) ∷ holds (v comments) ∷ holds (v rows) ∷ holds (v qualifiers) ∷ holds (v locations) ∷ holds (v letters) ∷ holds (Head-val head) ∷ holds (How-val how) ∷ holds (State-val r-start) ∷ vacant ∷ vacant ∷ holds (vint w64 (length (rows .now))) ∷ vacant ∷ vacant ∷ vacant ∷
+          []
 
-      part-2 : Sq W (‵ (flft κ₀ q₀) ∷ ‵ (flft κ₁ q₁) ∷ ‵ (flft κ₂ q₂) ∷ ‵ (flft κ₃ q₃) ∷ ‵ (flft κ₄ q₄) ∷ ‵ (flft κ₅ q₅) ∷ ‵ (flft κ₆ q₆) ∷ ‵ (out-own (out .now)) ∷ ‵ texts-own ∷ ‵ references-own ∷ ‵ comments-own ∷ ‵ rows-own ∷ ‵ qualifiers-own ∷ ‵ letters-own ∷ standing part-2-holds) (runs C Λ E body.t-3 (atRet E Post))
+      part-2 : Sq W (‵ (flft κ₀ q₀) ∷ ‵ (flft κ₁ q₁) ∷ ‵ (flft κ₂ q₂) ∷ ‵ (flft κ₃ q₃) ∷ ‵ (flft κ₄ q₄) ∷ ‵ (flft κ₅ q₅) ∷ ‵ (flft κ₆ q₆) ∷ ‵ (flft κ₇ q₇) ∷ ‵ (out-own (out .now)) ∷ ‵ texts-own ∷ ‵ references-own ∷ ‵ comments-own ∷ ‵ rows-own ∷ ‵ qualifiers-own ∷ ‵ locations-own ∷ ‵ letters-own ∷ standing part-2-holds)
+          (runs C Λ E body.t-3 (atRet E Post))
       part-2 =
           first ! $ blocks ! $ loops ! 𝓣 Nearer Nearer-wf At part-3 (record { state = r-start; state-is = r-start-is; out-now = (out .now); out-now-long = refl; holds-on = said-start .by (rows .now) (out .now) refl })
 
     abbrev part-1-holds : List Cell
-    part-1-holds = vacant ∷ holds (v out) ∷ holds (v texts) ∷ holds (v references) ∷ holds (v comments) ∷ holds (v rows) ∷ holds (v qualifiers) ∷ holds (v letters) ∷ holds (Head-val head) ∷ holds (How-val how) ∷ vacant ∷ vacant ∷ vacant ∷ vacant ∷ vacant ∷ vacant ∷ vacant ∷ []
+    part-1-holds = vacant ∷ holds (v out) ∷ holds (v texts) ∷ holds (v references) ∷ holds (v comments) ∷ holds (v rows) ∷ holds (v qualifiers) ∷ holds (v locations) ∷ holds (v letters) ∷ holds (Head-val head) ∷ holds (How-val how) ∷ vacant ∷ vacant ∷ vacant ∷ vacant ∷ vacant ∷ vacant ∷ vacant ∷ []
 
-    part-1 : Sq W (‵ (flft κ₀ q₀) ∷ ‵ (flft κ₁ q₁) ∷ ‵ (flft κ₂ q₂) ∷ ‵ (flft κ₃ q₃) ∷ ‵ (flft κ₄ q₄) ∷ ‵ (flft κ₅ q₅) ∷ ‵ (flft κ₆ q₆) ∷ ‵ (out-own (out .now)) ∷ ‵ texts-own ∷ ‵ references-own ∷ ‵ comments-own ∷ ‵ rows-own ∷ ‵ qualifiers-own ∷ ‵ letters-own ∷ standing part-1-holds) (runs C Λ E body.t-1 (atRet E Post))
+    part-1 : Sq W (‵ (flft κ₀ q₀) ∷ ‵ (flft κ₁ q₁) ∷ ‵ (flft κ₂ q₂) ∷ ‵ (flft κ₃ q₃) ∷ ‵ (flft κ₄ q₄) ∷ ‵ (flft κ₅ q₅) ∷ ‵ (flft κ₆ q₆) ∷ ‵ (flft κ₇ q₇) ∷ ‵ (out-own (out .now)) ∷ ‵ texts-own ∷ ‵ references-own ∷ ‵ comments-own ∷ ‵ rows-own ∷ ‵ qualifiers-own ∷ ‵ locations-own ∷ ‵ letters-own ∷ standing part-1-holds)
+        (runs C Λ E body.t-1 (atRet E Post))
     part-1 =
-        assigns ! (of-opd ! (load ! (from ! (fld ! refl (stop !))) (look-in ! 19 (sub ! 1 refl (whole !))))) (from ! (stop !)) (init ! 27 refl (uint-lawful 𝓤 H A W w64 .typed (length (rows .now)) ((vint w64 (length (rows .now))) ∷ []) (refl, rows-room .0) .0)) $
+        assigns ! (of-opd ! (load ! (from ! (fld ! refl (stop !))) (look-in ! 21 (sub ! 1 refl (whole !))))) (from ! (stop !)) (init ! 30 refl (uint-lawful 𝓤 H A W w64 .typed (length (rows .now)) ((vint w64 (length (rows .now))) ∷ []) (refl, rows-room .0) .0)) $
         lends-start ! tt (
         calls-at ! fm (start-contract 𝓤 H A mem run) known-start to-start
-        (and-then ! (load ! (from ! (stop !)) (look ! 23 refl))
-        (and-then ! (load ! (from ! (stop !)) (look ! 12 refl))
+        (and-then ! (load ! (from ! (stop !)) (look ! 25 refl))
         (and-then ! (load ! (from ! (stop !)) (look ! 13 refl))
-        (and-then ! (load ! (from ! (stop !)) (look ! 14 refl)) (and-then ! (load ! (from ! (stop !)) (look ! 16 refl)) (and-then ! (load ! (from ! (stop !)) (look ! 17 refl)) (and-then ! (load ! (from ! (stop !)) (look ! 18 refl)) (and-then ! (load ! (from ! (stop !)) (look ! 19 refl)) (no-more !)))))))))
+        (and-then ! (load ! (from ! (stop !)) (look ! 14 refl))
+        (and-then ! (load ! (from ! (stop !)) (look ! 15 refl))
+        (and-then ! (load ! (from ! (stop !)) (look ! 17 refl)) (and-then ! (load ! (from ! (stop !)) (look ! 18 refl)) (and-then ! (load ! (from ! (stop !)) (look ! 19 refl)) (and-then ! (load ! (from ! (stop !)) (look ! 20 refl)) (and-then ! (load ! (from ! (stop !)) (look ! 21 refl)) (no-more !))))))))))
         (back-start ! (λ r-start r-start-is said-start.
-        land ! (from ! (stop !)) (init ! 24 refl (LL.lawful State-is.the-type State-has.the-laws 𝓤 H A W .typed r-start ((State-val r-start) ∷ []) r-start-is .0)) $
+        land ! (from ! (stop !)) (init ! 27 refl (LL.lawful State-is.the-type State-has.the-laws 𝓤 H A W .typed r-start ((State-val r-start) ∷ []) r-start-is .0)) $
         part-2 r-start r-start-is said-start)))
 
-    begins : Sq W (locals 𝓤 H A E (vacant ∷ vacant ∷ vacant ∷ vacant ∷ vacant ∷ vacant ∷ vacant ∷ vacant ∷ vacant ∷ vacant ∷ vacant ∷ vacant ∷ vacant ∷ vacant ∷ vacant ∷ vacant ∷ vacant ∷ []) (raw (Dies 𝓤 H A E) ∷ Had []))
-        (params′ E ((v out) ∷ (v texts) ∷ (v references) ∷ (v comments) ∷ (v rows) ∷ (v qualifiers) ∷ (v letters) ∷ (Head-val head) ∷ (How-val how) ∷ []) (runs C Λ E body.t-1 (atRet E Post)))
+    begins : Sq W (locals 𝓤 H A E (vacant ∷ vacant ∷ vacant ∷ vacant ∷ vacant ∷ vacant ∷ vacant ∷ vacant ∷ vacant ∷ vacant ∷ vacant ∷ vacant ∷ vacant ∷ vacant ∷ vacant ∷ vacant ∷ vacant ∷ vacant ∷ []) (raw (Dies 𝓤 H A E) ∷ Had []))
+        (params′ E ((v out) ∷ (v texts) ∷ (v references) ∷ (v comments) ∷ (v rows) ∷ (v qualifiers) ∷ (v locations) ∷ (v letters) ∷ (Head-val head) ∷ (How-val how) ∷ []) (runs C Λ E body.t-1 (atRet E Post)))
     begins =
         params1 ! $ pass1 ! (init ! 1 refl (tt, (tt, (record { fits = out-room .0 }, tt)))) $ pass1 ! (init ! 2 refl (tt, (tt, (record { fits = texts-room .0 }, tt)))) $ pass1 ! (init ! 3 refl (tt, (tt, (record { fits = references-room .0 }, tt)))) $ pass1 ! (init ! 4 refl (tt, (tt, (record { fits = comments-room .0 }, tt)))) $ pass1 !
-        (init ! 5 refl (tt, (tt, (record { fits = rows-room .0 }, tt)))) $ pass1 ! (init ! 6 refl (tt, (tt, (record { fits = qualifiers-room .0 }, tt)))) $ pass1 ! (init ! 7 refl (tt, (tt, (record { fits = letters-room .0 }, tt)))) $ pass1 !
-        (init ! 8 refl (LL.lawful Head-is.the-type Head-has.the-laws 𝓤 H A W .typed head ((Head-val head) ∷ []) head-is .0)) $ pass1 ! (init ! 9 refl (LL.lawful How-is.the-type How-has.the-laws 𝓤 H A W .typed how ((How-val how) ∷ []) how-is .0)) $ pass0 ! $
-        move ! (18 ∷ 19 ∷ []) $ opened ! part-1
+        (init ! 5 refl (tt, (tt, (record { fits = rows-room .0 }, tt)))) $ pass1 ! (init ! 6 refl (tt, (tt, (record { fits = qualifiers-room .0 }, tt)))) $ pass1 ! (init ! 7 refl (tt, (tt, (record { fits = locations-room .0 }, tt)))) $ pass1 ! (init ! 8 refl (tt, (tt, (record { fits = letters-room .0 }, tt)))) $ pass1 !
+        (init ! 9 refl (LL.lawful Head-is.the-type Head-has.the-laws 𝓤 H A W .typed head ((Head-val head) ∷ []) head-is .0)) $ pass1 ! (init ! 10 refl (LL.lawful How-is.the-type How-has.the-laws 𝓤 H A W .typed how ((How-val how) ∷ []) how-is .0)) $ pass0 ! $
+        move ! (19 ∷ 20 ∷ []) $ opened ! part-1
 
   walk : (𝓣 : Tables 𝓤 H) (known-start : Triple 𝓤 (𝓣 .C #write-record-turns·start) (start-contract 𝓤 H A mem run)) (known-fetch-row : Triple 𝓤 (𝓣 .C #base-rows·fetch-row) (fetch-row-contract 𝓤 H A mem run)) (known-step : Triple 𝓤 (𝓣 .C #write-record-turns·step) (step-contract 𝓤 H A mem run)) → ent 𝓤
-      (onEntry 𝓤 H A f.signature (κ₀, (κ₁, (κ₂, (κ₃, (κ₄, (κ₅, (κ₆, tt))))))) (q₀, (q₁, (q₂, (q₃, (q₄, (q₅, (q₆, tt))))))) a at-entry) (WpFn 𝓤 H (𝓣 .C) (𝓣 .Λ) code.function ((v out) ∷ (v texts) ∷ (v references) ∷ (v comments) ∷ (v rows) ∷ (v qualifiers) ∷ (v letters) ∷ (Head-val head) ∷ (How-val how) ∷ []) Post)
+      (onEntry 𝓤 H A f.signature (κ₀, (κ₁, (κ₂, (κ₃, (κ₄, (κ₅, (κ₆, (κ₇, tt)))))))) (q₀, (q₁, (q₂, (q₃, (q₄, (q₅, (q₆, (q₇, tt)))))))) a at-entry) (WpFn 𝓤 H (𝓣 .C) (𝓣 .Λ) code.function ((v out) ∷ (v texts) ∷ (v references) ∷ (v comments) ∷ (v rows) ∷ (v qualifiers) ∷ (v locations) ∷ (v letters) ∷ (Head-val head) ∷ (How-val how) ∷ []) Post)
   walk 𝓣 known-start known-fetch-row known-step =
-      qed W (Had []) ∵ enter ! (𝓣 .C) (𝓣 .Λ) code.function ((v out) ∷ (v texts) ∷ (v references) ∷ (v comments) ∷ (v rows) ∷ (v qualifiers) ∷ (v letters) ∷ (Head-val head) ∷ (How-val how) ∷ []) _ $
-      allocs-all ! (λ l₀ l₁ l₂ l₃ l₄ l₅ l₆ l₇ l₈ l₉ l₁₀ l₁₁ l₁₂ l₁₃ l₁₄ l₁₅ l₁₆. begins 𝓣 known-start known-fetch-row known-step l₀ l₁ l₂ l₃ l₄ l₅ l₆ l₇ l₈ l₉ l₁₀ l₁₁ l₁₂ l₁₃ l₁₄ l₁₅ l₁₆)
+      qed W (Had []) ∵ enter ! (𝓣 .C) (𝓣 .Λ) code.function ((v out) ∷ (v texts) ∷ (v references) ∷ (v comments) ∷ (v rows) ∷ (v qualifiers) ∷ (v locations) ∷ (v letters) ∷ (Head-val head) ∷ (How-val how) ∷ []) _ $
+      allocs-all ! (λ l₀ l₁ l₂ l₃ l₄ l₅ l₆ l₇ l₈ l₉ l₁₀ l₁₁ l₁₂ l₁₃ l₁₄ l₁₅ l₁₆ l₁₇. begins 𝓣 known-start known-fetch-row known-step l₀ l₁ l₂ l₃ l₄ l₅ l₆ l₇ l₈ l₉ l₁₀ l₁₁ l₁₂ l₁₃ l₁₄ l₁₅ l₁₆ l₁₇)
 
 module _ {M : Type 1} (𝓤 : URA M) (H : Heap 𝓤) (A : Atoms 𝓤) (W : Given 𝓤 H A) (mem : Memory → SProp 𝓤) (run : Routine → Fun 𝓤) (𝓣 : Tables 𝓤 H) (known-start : Triple 𝓤 (𝓣 .C #write-record-turns·start) (start-contract 𝓤 H A mem run)) (known-fetch-row : Triple 𝓤 (𝓣 .C #base-rows·fetch-row) (fetch-row-contract 𝓤 H A mem run))
     (known-step : Triple 𝓤 (𝓣 .C #write-record-turns·step) (step-contract 𝓤 H A mem run)) where
   write-walks : Walks 𝓤 H A f.ended stayed (WpFn 𝓤 H (𝓣 .C) (𝓣 .Λ) code.function) (f.clauses 𝓤 H A mem run)
   write-walks = walked 𝓤 H A f.ended stayed (f.clauses 𝓤 H A mem run) (WpFn 𝓤 H (𝓣 .C) (𝓣 .Λ) code.function)
-      (λ κs. (slice-vals, (slice-vals, (slice-vals, (slice-vals, (slice-vals, (slice-vals, (slice-vals, (LL.vals Head-is.the-type Head-has.the-laws, (LL.vals How-is.the-type How-has.the-laws, tt))))))))))
+      (λ κs. (slice-vals, (slice-vals, (slice-vals, (slice-vals, (slice-vals, (slice-vals, (slice-vals, (slice-vals, (LL.vals Head-is.the-type Head-has.the-laws, (LL.vals How-is.the-type How-has.the-laws, tt)))))))))))
       (λ κs. (
         mut-slice-tells (named 0) (κs .0) u8,
         (
@@ -605,37 +632,43 @@ module _ {M : Type 1} (𝓤 : URA M) (H : Heap 𝓤) (A : Atoms 𝓤) (W : Given
             shr-slice-tells (named 2) (κs .1 .1 .0) usize,
             (
               shr-slice-tells (named 3) (κs .1 .1 .1 .0) usize,
-              (shr-slice-tells (named 4) (κs .1 .1 .1 .1 .0) Feature-is.the-row, (shr-slice-tells (named 5) (κs .1 .1 .1 .1 .1 .0) usize, (shr-slice-tells (named 6) (κs .1 .1 .1 .1 .1 .1 .0) u8, (LL.tells Head-is.the-type Head-has.the-laws, (LL.tells How-is.the-type How-has.the-laws, tt))))),
+              (
+                shr-slice-tells (named 4) (κs .1 .1 .1 .1 .0) Feature-is.the-row,
+                (shr-slice-tells (named 5) (κs .1 .1 .1 .1 .1 .0) usize, (shr-slice-tells (named 6) (κs .1 .1 .1 .1 .1 .1 .0) usize, (shr-slice-tells (named 7) (κs .1 .1 .1 .1 .1 .1 .1 .0) u8, (LL.tells Head-is.the-type Head-has.the-laws, (LL.tells How-is.the-type How-has.the-laws, tt))))),
+              ),
             ),
           ),
         ),
       ))
       (λ κs qs bounds a g are. via 𝓤 _ (fst∗ 𝓤 _ (emp 𝓤))
-      (walk 𝓤 H A W mem run (κs .0) (κs .1 .0) (κs .1 .1 .0) (κs .1 .1 .1 .0) (κs .1 .1 .1 .1 .0) (κs .1 .1 .1 .1 .1 .0) (κs .1 .1 .1 .1 .1 .1 .0) (qs .0) (qs .1 .0) (qs .1 .1 .0) (qs .1 .1 .1 .0) (qs .1 .1 .1 .1 .0) (qs .1 .1 .1 .1 .1 .0) (qs .1 .1 .1 .1 .1 .1 .0) (a .0) (a .1 .0) (a .1 .1 .0) (a .1 .1 .1 .0) (a .1 .1 .1 .1 .0)
-      (a .1 .1 .1 .1 .1 .0) (a .1 .1 .1 .1 .1 .1 .0) (a .1 .1 .1 .1 .1 .1 .1 .0) (a .1 .1 .1 .1 .1 .1 .1 .1 .0) (are .0 .0 .1) (are .1 .0 .0 .1) (are .1 .1 .0 .0 .1) (are .1 .1 .1 .0 .0 .1) (are .1 .1 .1 .1 .0 .0 .1) (are .1 .1 .1 .1 .1 .0 .0 .1) (are .1 .1 .1 .1 .1 .1 .0 .0 .1) (are .1 .1 .1 .1 .1 .1 .1 .0) (are .1 .1 .1 .1 .1 .1 .1 .1 .0)
-      𝓣 known-start known-fetch-row known-step))
+      (walk 𝓤 H A W mem run (κs .0) (κs .1 .0) (κs .1 .1 .0) (κs .1 .1 .1 .0) (κs .1 .1 .1 .1 .0) (κs .1 .1 .1 .1 .1 .0) (κs .1 .1 .1 .1 .1 .1 .0) (κs .1 .1 .1 .1 .1 .1 .1 .0) (qs .0) (qs .1 .0) (qs .1 .1 .0) (qs .1 .1 .1 .0) (qs .1 .1 .1 .1 .0) (qs .1 .1 .1 .1 .1 .0) (qs .1 .1 .1 .1 .1 .1 .0) (qs .1 .1 .1 .1 .1 .1 .1 .0) (a .0) (a .1 .0)
+      (a .1 .1 .0) (a .1 .1 .1 .0) (a .1 .1 .1 .1 .0) (a .1 .1 .1 .1 .1 .0) (a .1 .1 .1 .1 .1 .1 .0) (a .1 .1 .1 .1 .1 .1 .1 .0) (a .1 .1 .1 .1 .1 .1 .1 .1 .0) (a .1 .1 .1 .1 .1 .1 .1 .1 .1 .0) (are .0 .0 .1) (are .1 .0 .0 .1) (are .1 .1 .0 .0 .1) (are .1 .1 .1 .0 .0 .1) (are .1 .1 .1 .1 .0 .0 .1) (are .1 .1 .1 .1 .1 .0 .0 .1)
+      (are .1 .1 .1 .1 .1 .1 .0 .0 .1) (are .1 .1 .1 .1 .1 .1 .1 .0 .0 .1) (are .1 .1 .1 .1 .1 .1 .1 .1 .0) (are .1 .1 .1 .1 .1 .1 .1 .1 .1 .0) 𝓣 known-start known-fetch-row known-step))
 
   write-meets : Meets 𝓤 H A f.signature (WpFn 𝓤 H (𝓣 .C) (𝓣 .Λ) code.function) (f.spec 𝓤 H A mem run)
   write-meets = walk-meets 𝓤 H A f.ended stayed W (
-    goes-slice 𝓤 H A W 7 0 tt (plain (λ _. u8)),
+    goes-slice 𝓤 H A W 8 0 tt (plain (λ _. u8)),
     (
-      goes-dropped 𝓤 H A W 7 (shrSliceOf (1 ∷ []) tt (plain (λ _. u8))) yes (λ κs x f. refl),
+      goes-dropped 𝓤 H A W 8 (shrSliceOf (1 ∷ []) tt (plain (λ _. u8))) yes (λ κs x f. refl),
       (
-        goes-dropped 𝓤 H A W 7 (shrSliceOf (2 ∷ []) tt (plain (λ _. usize))) yes (λ κs x f. refl),
+        goes-dropped 𝓤 H A W 8 (shrSliceOf (2 ∷ []) tt (plain (λ _. usize))) yes (λ κs x f. refl),
         (
-          goes-dropped 𝓤 H A W 7 (shrSliceOf (3 ∷ []) tt (plain (λ _. usize))) yes (λ κs x f. refl),
+          goes-dropped 𝓤 H A W 8 (shrSliceOf (3 ∷ []) tt (plain (λ _. usize))) yes (λ κs x f. refl),
           (
-            goes-dropped 𝓤 H A W 7 (shrSliceOf (4 ∷ []) tt (plain (λ _. Feature-is.the-row))) yes (λ κs x f. refl),
+            goes-dropped 𝓤 H A W 8 (shrSliceOf (4 ∷ []) tt (plain (λ _. Feature-is.the-row))) yes (λ κs x f. refl),
             (
-              goes-dropped 𝓤 H A W 7 (shrSliceOf (5 ∷ []) tt (plain (λ _. usize))) yes (λ κs x f. refl),
-              (goes-dropped 𝓤 H A W 7 (shrSliceOf (6 ∷ []) tt (plain (λ _. u8))) yes (λ κs x f. refl), (goes-dropped 𝓤 H A W 7 (plain (λ _. Head-is.the-row)) yes (λ κs x f. refl), (goes-dropped 𝓤 H A W 7 (plain (λ _. How-is.the-row)) yes (λ κs x f. refl), tt))),
+              goes-dropped 𝓤 H A W 8 (shrSliceOf (5 ∷ []) tt (plain (λ _. usize))) yes (λ κs x f. refl),
+              (
+                goes-dropped 𝓤 H A W 8 (shrSliceOf (6 ∷ []) tt (plain (λ _. usize))) yes (λ κs x f. refl),
+                (goes-dropped 𝓤 H A W 8 (shrSliceOf (7 ∷ []) tt (plain (λ _. u8))) yes (λ κs x f. refl), (goes-dropped 𝓤 H A W 8 (plain (λ _. Head-is.the-row)) yes (λ κs x f. refl), (goes-dropped 𝓤 H A W 8 (plain (λ _. How-is.the-row)) yes (λ κs x f. refl), tt))),
+              ),
             ),
           ),
         ),
       ),
     ),
-  ) (f.clauses 𝓤 H A mem run) (WpFn 𝓤 H (𝓣 .C) (𝓣 .Λ) code.function)
-      (WpFn-mono 𝓤 H (W .laws) 𝓣 code.function) write-walks
+  ) (f.clauses 𝓤 H A mem run)
+      (WpFn 𝓤 H (𝓣 .C) (𝓣 .Λ) code.function) (WpFn-mono 𝓤 H (W .laws) 𝓣 code.function) write-walks
 
 pub write-spec : {M : Type 1} → stated.statement M
 unfolding code.routine tablesOf

@@ -6,11 +6,8 @@ use borrow.Author.Needs.{needs}
 use Rattle.write_record_turns.proofs.end.Statement.{statement}
 use Rattle.write_record_turns.proofs.end.Tie as tie
 
-without-rows-requires : tie.Need-without-rows-requires
-without-rows-requires c κs = search needs
-
 put-after-requires : tie.Need-put-after-requires
-put-after-requires c κs = rw (c .without-rows .ensures) (c .before .before .before .before .before .pre)
+put-after-requires c κs = c .before .before .before .before .pre
 
 ended-requires : tie.Need-ended-requires
 ended-requires c κs = search needs
@@ -20,10 +17,10 @@ same-length c = search needs
 
 returns : tie.Need-returns
 returns c =
-    let a = c .before .before .before .before .before .before .before .before .before .args in
-    rw (c .ended .ensures) (ends-done (now (a .texts)) (now (a .letters)) (a .head) (a .how) (a .s) (now (a .out)) (rw (c .before .before .before .before .without-rows .ensures) at (c .before .before .before .put-after .ensures)))
+    let a = c .before .before .before .before .before .before .before .before .args in
+    rw (c .ended .ensures) (ends-done (now (a .texts)) (now (a .letters)) (a .head) (a .how) (a .s) (now (a .out)) (c .before .before .before .put-after .ensures))
 
 pub end-spec : {M : Type 1} → statement M
 end-spec =
     tie.close
-    (tie.spec without-rows-requires put-after-requires ended-requires same-length returns)
+    (tie.spec put-after-requires ended-requires same-length returns)

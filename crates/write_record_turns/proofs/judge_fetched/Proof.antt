@@ -19,7 +19,7 @@ judge-row-requires : tie.Need-judge-row-requires
 judge-row-requires c κs = search needs
 
 returns : tie.Need-returns
-returns c = rw (c .before .enum-told .given .1, c .refused .ensures) (judge-outside (now (c .before .before .before .before .before .args .texts)) (now (c .before .before .before .before .before .args .qualifiers)) (c .before .before .before .before .before .args .how) (c .before .before .before .before .before .args .s))
+returns c = rw (c .before .enum-told .given .1, c .refused .ensures) (let a = c .before .before .before .before .before .before .args in judge-outside (now (a .texts)) (now (a .qualifiers)) (a .how) (a .s) (now (a .locations)))
 
 returns-2 : tie.Need-returns-2
 returns-2 c = rw (c .before .before .fetched .given .1) (c .judge-row .ensures)

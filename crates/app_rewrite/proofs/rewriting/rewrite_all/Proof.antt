@@ -7,21 +7,48 @@ use Rattle.app_rewrite.proofs.rewriting.rewrite_all.Statement.{statemen
 use Rattle.app_rewrite.proofs.rewriting.rewrite_all.Tie as tie
 
 abbrev Inv-loop : tie.InvT-loop
-Inv-loop input texts₀ references₀ comments₀ qualifiers₀ letters₀ out₀ options at₀ ordinal₀ texts references comments qualifiers letters out at ordinal =
-    (length texts ≡ length texts₀) × (length references ≡ length references₀) × (length comments ≡ length comments₀) × (length qualifiers ≡ length qualifiers₀) × (length letters ≡ length letters₀) × (length out ≡ length out₀)
+Inv-loop input texts₀ references₀ comments₀ qualifiers₀ locations₀ letters₀ out₀ options at₀ ordinal₀ texts references comments qualifiers locations letters out at ordinal =
+    (length texts ≡ length texts₀) × (length references ≡ length references₀) × (length comments ≡ length comments₀) × (length qualifiers ≡ length qualifiers₀) × (length locations ≡ length locations₀) × (length letters ≡ length letters₀) × (length out ≡ length out₀)
 
 abbrev μ-loop : tie.MeasureT-loop
-μ-loop input texts₀ references₀ comments₀ qualifiers₀ letters₀ out₀ options at₀ ordinal₀ texts references comments qualifiers letters out at ordinal =
+μ-loop input texts₀ references₀ comments₀ qualifiers₀ locations₀ letters₀ out₀ options at₀ ordinal₀ texts references comments qualifiers locations letters out at ordinal =
     suc (length input) - ordinal
 
 loop-holds : tie.Need-loop-holds Inv-loop μ-loop
-loop-holds c = (refl, refl, refl, refl, refl, refl)
+loop-holds c = (refl, refl, refl, refl, refl, refl, refl)
 
 rewrite-at-requires : tie.Need-rewrite-at-requires Inv-loop μ-loop
 rewrite-at-requires c κs = search needs
 
 enum-told : tie.Need-enum-told Inv-loop μ-loop
 enum-told c = search needs
+
+returns : tie.Need-returns Inv-loop μ-loop
+returns c = search needs
+
+enum-known-number : tie.Need-enum-known-number Inv-loop μ-loop
+enum-known-number c = search needs
+
+complain-requires : tie.Need-complain-requires Inv-loop μ-loop
+complain-requires c κs = search needs
+
+returns-2 : tie.Need-returns-2 Inv-loop μ-loop
+returns-2 c = search needs
+
+enum-known-next : tie.Need-enum-known-next Inv-loop μ-loop
+enum-known-next c = search needs
+
+add-ordinal : tie.Need-add-ordinal Inv-loop μ-loop
+add-ordinal c = search needs
+
+loop-less : tie.Need-loop-less Inv-loop μ-loop
+loop-less c = search needs
+
+loop-again : tie.Need-loop-again Inv-loop μ-loop
+loop-again c = (search needs, search needs, search needs, search needs, search needs, search needs, search needs)
+
+returns-3 : tie.Need-returns-3 Inv-loop μ-loop
+returns-3 c = search needs
 
 same-length : tie.Need-same-length Inv-loop μ-loop
 same-length c = search needs
@@ -41,15 +68,6 @@ same-length-5 c = search needs
 same-length-6 : tie.Need-same-length-6 Inv-loop μ-loop
 same-length-6 c = search needs
 
-returns : tie.Need-returns Inv-loop μ-loop
-returns c = search needs
-
-enum-known-number : tie.Need-enum-known-number Inv-loop μ-loop
-enum-known-number c = search needs
-
-complain-requires : tie.Need-complain-requires Inv-loop μ-loop
-complain-requires c κs = search needs
-
 same-length-7 : tie.Need-same-length-7 Inv-loop μ-loop
 same-length-7 c = search needs
 
@@ -67,21 +85,6 @@ same-length-11 c = search needs
 
 same-length-12 : tie.Need-same-length-12 Inv-loop μ-loop
 same-length-12 c = search needs
-
-returns-2 : tie.Need-returns-2 Inv-loop μ-loop
-returns-2 c = search needs
-
-enum-known-next : tie.Need-enum-known-next Inv-loop μ-loop
-enum-known-next c = search needs
-
-add-ordinal : tie.Need-add-ordinal Inv-loop μ-loop
-add-ordinal c = search needs
-
-loop-less : tie.Need-loop-less Inv-loop μ-loop
-loop-less c = search needs
-
-loop-again : tie.Need-loop-again Inv-loop μ-loop
-loop-again c = (search needs, search needs, search needs, search needs, search needs, search needs)
 
 same-length-13 : tie.Need-same-length-13 Inv-loop μ-loop
 same-length-13 c = search needs
@@ -101,8 +104,14 @@ same-length-17 c = search needs
 same-length-18 : tie.Need-same-length-18 Inv-loop μ-loop
 same-length-18 c = search needs
 
-returns-3 : tie.Need-returns-3 Inv-loop μ-loop
-returns-3 c = search needs
+same-length-19 : tie.Need-same-length-19 Inv-loop μ-loop
+same-length-19 c = search needs
+
+same-length-20 : tie.Need-same-length-20 Inv-loop μ-loop
+same-length-20 c = search needs
+
+same-length-21 : tie.Need-same-length-21 Inv-loop μ-loop
+same-length-21 c = search needs
 
 pub rewrite-all-spec : {M : Type 1} → statement M
 rewrite-all-spec =
@@ -119,24 +128,27 @@ rewrite-all-spec =
     same-length-4
     same-length-5
     same-length-6
+    same-length-7
     returns
     enum-known-number
     complain-requires
-    same-length-7
     same-length-8
     same-length-9
     same-length-10
     same-length-11
     same-length-12
+    same-length-13
+    same-length-14
     returns-2
     enum-known-next
     add-ordinal
     loop-less
     loop-again
-    same-length-13
-    same-length-14
     same-length-15
     same-length-16
     same-length-17
     same-length-18
+    same-length-19
+    same-length-20
+    same-length-21
     returns-3)

@@ -5,10 +5,10 @@ use Rattle.test_stored_lines.proofs.counts.say_numbers.Statement.{state
 use Rattle.test_stored_lines.proofs.counts.say_numbers.Tie as tie
 
 abbrev Inv-loop : tie.InvT-loop
-Inv-loop counts n₀ t3 t4 n = n ≤ 14
+Inv-loop counts n₀ t3 t4 n = n ≤ 15
 
 abbrev μ-loop : tie.MeasureT-loop
-μ-loop counts n₀ t3 t4 n = 14 - n
+μ-loop counts n₀ t3 t4 n = 15 - n
 
 loop-holds : tie.Need-loop-holds Inv-loop μ-loop
 loop-holds c = search needs

@@ -1,0 +1,91 @@
+// A feature's location: a bare text that has a reading (document 02, ticket 1), found where it stands, its rows put into lent room; and number 14.
+use read_feature_bare::Bare;
+use read_feature_names::Kind;
+use read_location::Location;
+use scan_location_bytes::Laid;
+ghost use mathlib.Core.Path.{_≡_};
+ghost use mathlib.Core.Bool.{false};
+ghost use Prim.Native.Nat.{_≤_};
+ghost use lib.ListN.{length, drop};
+ghost use Rattle.spec_format.specs.Readers.{passing};
+ghost use Rattle.spec_format.specs.Features.{bare};
+ghost use Rattle.spec_format.specs.Location.{reading, isDeep, locates};
+ghost use Rattle.spec_format.specs.Deep.{deepFeature};
+ghost use Rattle.scan_location_bytes.specs.Views.{view};
+ghost use Rattle.read_feature_bare.specs.Bared.{bareText};
+ghost use Rattle.read_feature_location.specs.Places.{LocationFound, LocationPut};
+
+// A location's length, the place after it, and how many rows its reading has.
+pub enum Located {
+    Got {
+        length: usize,
+        next: usize,
+        rows: usize,
+    },
+    No,
+    Cut,
+}
+
+// Its rows are put into `out` from row `first` on; past the end of `out` nothing is put. A text that has no reading is not taken, be it too deep.
+pub fn put_location(s: &[u8], at: usize, indent: usize, out: &mut [usize], first: usize) -> Located
+    requires { ⌜ (at ≤ length (now s)) × (length (now s) ≤ 16777216) × (first ≤ 16777216) ⌝ }
+    ensures { λ r. ⌜ LocationPut (now (s .entry)) at (bareText indent (drop at (now (s .entry)))) (passing (locates false) (bare indent (drop at (now (s .entry))))) (now (out .entry)) (now (out .exit)) first r ⌝ }
+{
+    match read_feature_bare::bare_at(s, at, indent) {
+        Bare::Got {
+            length,
+            next,
+            state: _,
+        } => match read_location::location_at(
+            s,
+            Laid::Feature(indent),
+            false,
+            at,
+            out,
+            &[],
+            first,
+        ) {
+            Location::Read { rows, same: _ } => Located::Got { length, next, rows },
+            Location::None => Located::No,
+            Location::TooDeep => Located::No,
+        },
+        Bare::No => Located::No,
+        Bare::Cut => Located::Cut,
+    }
+}
+
+// The same, and nothing is put.
+pub fn location_at(s: &[u8], at: usize, indent: usize) -> Located
+    requires { ⌜ (at ≤ length (now s)) × (length (now s) ≤ 16777216) ⌝ }
+    ensures { λ r. ⌜ LocationFound (now (s .entry)) at (bareText indent (drop at (now (s .entry)))) (passing (locates false) (bare indent (drop at (now (s .entry))))) r ⌝ }
+{
+    put_location(s, at, indent, &mut [], 0)
+}
+
+// Whether a seventeenth word opens in the text so far, with no fault before it.
+pub fn too_deep(s: &[u8], laid: Laid, gaps: bool, at: usize) -> bool
+    requires { ⌜ (at ≤ length (now s)) × (length (now s) ≤ 16777216) ⌝ }
+    ensures { λ r. ⌜ r ≡ isDeep (reading gaps (view laid (now (s .entry)) at)) ⌝ }
+{
+    match read_location::location_at(s, laid, gaps, at, &mut [], &[], 0) {
+        Location::Read { rows: _, same: _ } => false,
+        Location::None => false,
+        Location::TooDeep => true,
+    }
+}
+
+// Whether a feature stands at `at` whose location is too deep.
+pub fn deep_feature_at(s: &[u8], at: usize) -> bool
+    requires { ⌜ (at ≤ length (now s)) × (length (now s) ≤ 16777216) ⌝ }
+    ensures { λ r. ⌜ r ≡ deepFeature (drop at (now (s .entry))) ⌝ }
+{
+    match read_feature_names::kind_at(s, at) {
+        Kind::Got {
+            first: _,
+            end: _,
+            next,
+        } => too_deep(s, Laid::Feature(next - at), false, next),
+        Kind::No => false,
+        Kind::Cut => false,
+    }
+}

@@ -1,0 +1,4 @@
+-- The laws that the proofs of the functions cite.
+mod Spots
+mod Cycle
+mod Ending

@@ -1,0 +1,2 @@
+-- What it means to have read a location at a place.
+pub mod Reads
