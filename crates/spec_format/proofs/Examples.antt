@@ -16,7 +16,8 @@ use Rattle.spec_format.specs.Wrap.{fill, closing, linesAfter, wrapped, w
 use Rattle.spec_format.specs.Write.{lengthText, white, blanked, words, printedName, locusText, fieldLines, headerLines, commaKey, bareKey, valueLines, qualifierLines, featureLines, featuresLines, letterLines, originLines, written}
 use Rattle.spec_format.specs.WellFormed.{headerTexts, locusFine, qualifierFine, featureFine, lettersFine, wellFormed}
 use Rattle.spec_format.specs.Keeping.{locusKept, linesKept, valueKept, qualifierKept, featureKept, keeps}
-use Rattle.spec_format.specs.Rooms.{layout, headOf, piecesText, piecesRow, textsOf, rowsOf, featureText, featureRows, qualifierRows, rowsFrom, qualifierIn, featureIn, referenceIn, commentIn, tableOf, rowsFine, referenceRowFine, qualifierRowFine, qualifiersFine, featuresFine, lengthsFine, headFine, countsFine, roomsFine, locationNumbers, locationCount, locationRowIn, locationFine, featureRowFine}
+use Rattle.spec_format.specs.Rooms.{layout, headOf, piecesText, piecesRow, textsOf, rowsOf, featureText, featureRows, qualifierRows, rowsFrom, qualifierIn, featureIn, referenceIn, commentIn, tableOf, rowsFine, referenceRowFine, qualifierRowFine, qualifiersFine, featuresFine, lengthsFine, headFine, countsFine, roomsFine}
+use Rattle.spec_format.specs.Rooms.{locationNumbers, locationCount, locationRowIn, locationFine, featureRowFine}
 use Rattle.spec_format.specs.Numbers.{writeNumber}
 use Rattle.spec_format.specs.Answers.{plainAnswer, keepingAnswer}
 use Rattle.spec_format.specs.declared.Dated.the-variants as dated
