@@ -56,7 +56,7 @@ fn comma_at(s: &[u8], laid: Laid, form: usize, spot: Spot) -> Word
     if form == 4 {
         return Word::Other;
     }
-    scan_location_bytes::word_at(s, laid, spot, b",")
+    scan_location_bytes::mark_at(s, laid, spot, b',')
 }
 
 // A word's members were read from row `first` on: its bracket, and its own row.
@@ -73,7 +73,7 @@ fn closed_by(
     ensures { λ r. ⌜ Closes form first laid (now (s .entry)) (now (seen .entry)) (now (out .entry)) (now (out .exit)) members r ⌝ }
 {
     match members {
-        RowsAt::Got { spot, pen } => match scan_location_bytes::word_at(s, laid, spot, b")") {
+        RowsAt::Got { spot, pen } => match scan_location_bytes::mark_at(s, laid, spot, b')') {
             Word::Past(behind) => {
                 let row = Row {
                     form,
