@@ -7,12 +7,15 @@ use scan_location_bytes::Laid;
 use scan_location_bytes::Peek;
 use scan_location_bytes::Spot;
 use scan_location_bytes::Word;
-ghost use mathlib.Core.List.{[]};
+use scan_location_usual::Usual;
+ghost use mathlib.Core.List.{[], _∷_};
 ghost use Prim.Native.Nat.{suc, _≤_};
 ghost use lib.ListN.{length};
-ghost use Rattle.spec_format.specs.Location.{word, commaIn, single, plain, membersIn, locationFrom, location, reading};
+ghost use Rattle.spec_format.specs.Location.{word, commaIn, single, plain, wordRow, membersIn, locationFrom, location, reading};
 ghost use Rattle.scan_location_bytes.specs.Views.{view, total, Ready, Reached};
-ghost use Rattle.read_location.specs.Reads.{Stands, Located, Closable, Closes, Answered, Ends};
+ghost use Rattle.scan_location_usual.specs.Usuals.{rangeRow};
+ghost use Rattle.read_location_row.specs.Rows.{Noted};
+ghost use Rattle.read_location.specs.Reads.{starting, Stands, Located, Closable, Closes, Answered, Ends};
 
 // ---- the cycle: a location, a word, its members
 
@@ -225,4 +228,67 @@ pub fn location_at(
     };
     let r = location_in(s, laid, gaps, spot, 16, out, seen, pen);
     ended(s, laid, first, r)
+}
+
+// The row of a range, from row `first` on.
+fn range_noted(out: &mut [usize], seen: &[usize], first: usize, from: usize, to: usize) -> Pen
+    requires { ⌜ first ≤ 16777216 ⌝ }
+    ensures { λ r. ⌜ Noted (now (seen .entry)) (now (out .entry)) (starting first) (rangeRow from to ∷ []) (now (out .exit)) r ⌝ }
+{
+    let pen = Pen {
+        row: first,
+        same: true,
+    };
+    let row = Row {
+        form: 2,
+        marks: 0,
+        from,
+        to,
+        start: 0,
+        length: 0,
+        inside: 0,
+    };
+    read_location_row::note_row(out, seen, pen, row)
+}
+
+// The same, and the row of its complement.
+fn complement_noted(out: &mut [usize], seen: &[usize], first: usize, from: usize, to: usize) -> Pen
+    requires { ⌜ first ≤ 16777216 ⌝ }
+    ensures { λ r. ⌜ Noted (now (seen .entry)) (now (out .entry)) (starting first) (rangeRow from to ∷ wordRow 4 1 ∷ []) (now (out .exit)) r ⌝ }
+{
+    let pen = range_noted(out, seen, first, from, to);
+    let row = Row {
+        form: 4,
+        marks: 0,
+        from: 0,
+        to: 0,
+        start: 0,
+        length: 0,
+        inside: 1,
+    };
+    read_location_row::note_row(out, seen, pen, row)
+}
+
+// The location whose text is all of `s`: mostly a range or its complement, whose rows are known at once.
+pub fn piece_at(s: &[u8], gaps: bool, out: &mut [usize], seen: &[usize], first: usize) -> Location
+    requires { ⌜ (length (now s) ≤ 16777216) × (first ≤ 16777216) ⌝ }
+    ensures { λ r. ⌜ Answered (reading gaps (now (s .entry))) (now (seen .entry)) (now (out .entry)) first (now (out .exit)) r ⌝ }
+{
+    match scan_location_usual::usual_at(s) {
+        Usual::Range { from, to } => {
+            let pen = range_noted(out, seen, first, from, to);
+            Location::Read {
+                rows: 1,
+                same: pen.same,
+            }
+        }
+        Usual::Complement { from, to } => {
+            let pen = complement_noted(out, seen, first, from, to);
+            Location::Read {
+                rows: 2,
+                same: pen.same,
+            }
+        }
+        Usual::Other => location_at(s, Laid::Piece, gaps, 0, out, seen, first),
+    }
 }
