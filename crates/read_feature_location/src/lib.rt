@@ -51,7 +51,7 @@ pub fn put_location(s: &[u8], at: usize, indent: usize, out: &mut [usize], first
     match read_feature_bare::stretch_at(s, at, indent) {
         Stretch::Line { end, next } => {
             let text = &s[at..end];
-            let found = read_location::location_at(text, Laid::Piece, false, 0, out, &[], first);
+            let found = read_location::piece_at(text, false, out, &[], first);
             taken(found, end - at, next, true)
         }
         Stretch::Lines { length, next } => {

@@ -19,11 +19,11 @@ part-text-start c = search (locating, needs)
 part-text-end : tie.Need-part-text-end
 part-text-end c = search (locating, needs)
 
-slice-aggregate-location-at : tie.Need-slice-aggregate-location-at
-slice-aggregate-location-at c = search needs
+slice-aggregate-piece-at : tie.Need-slice-aggregate-piece-at
+slice-aggregate-piece-at c = search needs
 
-location-at-requires : tie.Need-location-at-requires
-location-at-requires c κs = search (locating, needs)
+piece-at-requires : tie.Need-piece-at-requires
+piece-at-requires c κs = search (locating, needs)
 
 sub-taken : tie.Need-sub-taken
 sub-taken c = search (locating, needs)
@@ -34,11 +34,11 @@ taken-requires c κs = search needs
 enum-known-length : tie.Need-enum-known-length
 enum-known-length c = search needs
 
-slice-aggregate-location-at-2 : tie.Need-slice-aggregate-location-at-2
-slice-aggregate-location-at-2 c = search needs
+slice-aggregate-location-at : tie.Need-slice-aggregate-location-at
+slice-aggregate-location-at c = search needs
 
-location-at-requires-2 : tie.Need-location-at-requires-2
-location-at-requires-2 c κs = search needs
+location-at-requires : tie.Need-location-at-requires
+location-at-requires c κs = search needs
 
 taken-requires-2 : tie.Need-taken-requires-2
 taken-requires-2 c κs = search needs
@@ -76,13 +76,13 @@ put-location-spec =
     sub-text
     part-text-start
     part-text-end
-    slice-aggregate-location-at
-    location-at-requires
+    slice-aggregate-piece-at
+    piece-at-requires
     sub-taken
     taken-requires
     enum-known-length
-    slice-aggregate-location-at-2
-    location-at-requires-2
+    slice-aggregate-location-at
+    location-at-requires
     taken-requires-2
     enum-told
     enum-told-2
