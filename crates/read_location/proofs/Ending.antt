@@ -111,7 +111,7 @@ pub row-behind : (seen old mid new : List ℕ) (p q r : Pen) (a b : LocationRow)
     → Noted seen old p (a ∷ b ∷ []) new r
 row-behind seen old mid new p q r a b f g = rows-append f g
 
-pub row-next : (seen old new : List ℕ) (first : ℕ) (q : Pen) (a : LocationRow) → Noted seen old (starting first) (a ∷ []) new q → first ≤ 16777216 → q .row ≤ 100000000
-row-next seen old new first q a h l = omega (arith, h .row)
+pub row-next : (seen old new : List ℕ) (p q : Pen) (a : LocationRow) → Noted seen old p (a ∷ []) new q → p .row ≤ 16777216 → q .row ≤ 100000000
+row-next seen old new p q a h l = omega (arith, h .row)
 
 pub ruleset usually = (usual-range, usual-complement, row-behind, row-next)

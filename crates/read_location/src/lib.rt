@@ -7,6 +7,7 @@ use scan_location_bytes::Laid;
 use scan_location_bytes::Peek;
 use scan_location_bytes::Spot;
 use scan_location_bytes::Word;
+use scan_location_usual::Ranged;
 use scan_location_usual::Usual;
 ghost use mathlib.Core.List.{[], _∷_};
 ghost use Prim.Native.Nat.{suc, _≤_};
@@ -15,7 +16,7 @@ ghost use Rattle.spec_format.specs.Location.{word, commaIn, single, plain, word
 ghost use Rattle.scan_location_bytes.specs.Views.{view, total, Ready, Reached};
 ghost use Rattle.scan_location_usual.specs.Usuals.{rangeRow};
 ghost use Rattle.read_location_row.specs.Rows.{Noted};
-ghost use Rattle.read_location.specs.Reads.{starting, Stands, Located, Closable, Closes, Answered, Ends};
+ghost use Rattle.read_location.specs.Reads.{Stands, Located, Closable, Closes, Answered, Ends};
 
 // ---- the cycle: a location, a word, its members
 
@@ -26,8 +27,25 @@ enum RowsAt {
     Deep,
 }
 
-// A location of one row.
-fn plain_in(
+// The row of a range.
+fn range_noted(out: &mut [usize], seen: &[usize], pen: Pen, from: usize, to: usize) -> Pen
+    requires { ⌜ pen .row ≤ 100000000 ⌝ }
+    ensures { λ r. ⌜ Noted (now (seen .entry)) (now (out .entry)) pen (rangeRow from to ∷ []) (now (out .exit)) r ⌝ }
+{
+    let row = Row {
+        form: 2,
+        marks: 0,
+        from,
+        to,
+        start: 0,
+        length: 0,
+        inside: 0,
+    };
+    read_location_row::note_row(out, seen, pen, row)
+}
+
+// A location of one row, whatever it is made of.
+fn any_plain_in(
     s: &[u8],
     laid: Laid,
     gaps: bool,
@@ -48,6 +66,35 @@ fn plain_in(
             }
         }
         Plain::Fault => RowsAt::Fault,
+    }
+}
+
+// The same, mostly a range.
+fn plain_in(
+    s: &[u8],
+    laid: Laid,
+    gaps: bool,
+    spot: Spot,
+    out: &mut [usize],
+    seen: &[usize],
+    pen: Pen,
+) -> RowsAt
+    requires { ⌜ Stands laid (now s) spot pen ⌝ }
+    ensures { λ r. ⌜ Located (single (plain gaps (total laid (now (s .entry)) spot) (view laid (now (s .entry)) (spot .at)))) laid (now (s .entry)) (now (seen .entry)) (now (out .entry)) spot pen (now (out .exit)) r ⌝ }
+{
+    match scan_location_usual::range_at(s, laid, spot) {
+        Ranged::Is {
+            from,
+            to,
+            spot: behind,
+        } => {
+            let next = range_noted(out, seen, pen, from, to);
+            RowsAt::Got {
+                spot: behind,
+                pen: next,
+            }
+        }
+        Ranged::Other => any_plain_in(s, laid, gaps, spot, out, seen, pen),
     }
 }
 
@@ -195,7 +242,7 @@ fn ended(s: &[u8], laid: Laid, first: usize, r: RowsAt) -> Location
     ensures { λ t. ⌜ Ends laid (now (s .entry)) first r t ⌝ }
 {
     match r {
-        RowsAt::Got { spot, pen } => match scan_location_bytes::byte_at(s, laid, spot.at) {
+        RowsAt::Got { spot, pen } => match scan_location_bytes::byte_or_end(s, laid, spot.at) {
             Peek::End => Location::Read {
                 rows: pen.row - first,
                 same: pen.same,
@@ -230,33 +277,12 @@ pub fn location_at(
     ended(s, laid, first, r)
 }
 
-// The row of a range, from row `first` on.
-fn range_noted(out: &mut [usize], seen: &[usize], first: usize, from: usize, to: usize) -> Pen
-    requires { ⌜ first ≤ 16777216 ⌝ }
-    ensures { λ r. ⌜ Noted (now (seen .entry)) (now (out .entry)) (starting first) (rangeRow from to ∷ []) (now (out .exit)) r ⌝ }
+// The row of a range's complement, behind that of the range.
+fn complement_noted(out: &mut [usize], seen: &[usize], pen: Pen, from: usize, to: usize) -> Pen
+    requires { ⌜ pen .row ≤ 16777216 ⌝ }
+    ensures { λ r. ⌜ Noted (now (seen .entry)) (now (out .entry)) pen (rangeRow from to ∷ wordRow 4 1 ∷ []) (now (out .exit)) r ⌝ }
 {
-    let pen = Pen {
-        row: first,
-        same: true,
-    };
-    let row = Row {
-        form: 2,
-        marks: 0,
-        from,
-        to,
-        start: 0,
-        length: 0,
-        inside: 0,
-    };
-    read_location_row::note_row(out, seen, pen, row)
-}
-
-// The same, and the row of its complement.
-fn complement_noted(out: &mut [usize], seen: &[usize], first: usize, from: usize, to: usize) -> Pen
-    requires { ⌜ first ≤ 16777216 ⌝ }
-    ensures { λ r. ⌜ Noted (now (seen .entry)) (now (out .entry)) (starting first) (rangeRow from to ∷ wordRow 4 1 ∷ []) (now (out .exit)) r ⌝ }
-{
-    let pen = range_noted(out, seen, first, from, to);
+    let next = range_noted(out, seen, pen, from, to);
     let row = Row {
         form: 4,
         marks: 0,
@@ -266,7 +292,7 @@ fn complement_noted(out: &mut [usize], seen: &[usize], first: usize, from: usize
         length: 0,
         inside: 1,
     };
-    read_location_row::note_row(out, seen, pen, row)
+    read_location_row::note_row(out, seen, next, row)
 }
 
 // The location whose text is all of `s`: mostly a range or its complement, whose rows are known at once.
@@ -274,19 +300,23 @@ pub fn piece_at(s: &[u8], gaps: bool, out: &mut [usize], seen: &[usize], first: 
     requires { ⌜ (length (now s) ≤ 16777216) × (first ≤ 16777216) ⌝ }
     ensures { λ r. ⌜ Answered (reading gaps (now (s .entry))) (now (seen .entry)) (now (out .entry)) first (now (out .exit)) r ⌝ }
 {
+    let pen = Pen {
+        row: first,
+        same: true,
+    };
     match scan_location_usual::usual_at(s) {
         Usual::Range { from, to } => {
-            let pen = range_noted(out, seen, first, from, to);
+            let behind = range_noted(out, seen, pen, from, to);
             Location::Read {
                 rows: 1,
-                same: pen.same,
+                same: behind.same,
             }
         }
         Usual::Complement { from, to } => {
-            let pen = complement_noted(out, seen, first, from, to);
+            let behind = complement_noted(out, seen, pen, from, to);
             Location::Read {
                 rows: 2,
-                same: pen.same,
+                same: behind.same,
             }
         }
         Usual::Other => location_at(s, Laid::Piece, gaps, 0, out, seen, first),

@@ -1,12 +1,10 @@
 -- A range, and a whole text that is one or its complement: what is read of it, by the definitions. Assumes nothing.
-use Prim.Native.Nat.{ℕ, zero, suc, _+_, _-_, _≤_, _<_}
+use Prim.Native.Nat.{ℕ, zero, suc, _+_, _-_, _^_, _≤_, _<_}
 use mathlib.Core.Path.{_≡_, refl, sym, ap, _∙_}
 use mathlib.Core.Bool.{Bool, true, false}
 use mathlib.Core.List.{List, [], _∷_}
-use native.Mathlib.Numerals.{add-one}
 use native.Mathlib.Omega.{arith}
 use lib.ListN.{length, getD, drop, drop-of-length-le}
-use lib.Seq.{drop-cons}
 use lib.Dec.{eqb, leb}
 use borrow.Author.Tests.{eqb-true, leb-true, ne-eqb}
 use Rattle.spec_format.specs.Bytes.{pick, May, absent, is, bytes, some, starts, digit, letter}
@@ -21,12 +19,20 @@ use Rattle.scan_bytes.specs.declared.Step.{Step}
 use Rattle.scan_bytes.specs.declared.Step.the-variants as step
 use Rattle.scan_bytes.specs.Views.{Stepped}
 use Rattle.scan_bytes.specs.Sequence.{step-is, step-places}
-use Rattle.scan_location_bytes.specs.Spots.{run-none, past-none}
+use Rattle.scan_location_bytes.specs.declared.Laid.{Laid}
+use Rattle.scan_location_bytes.specs.declared.Laid.the-variants as laids
+use Rattle.scan_location_bytes.specs.declared.Spot.{Spot}
+use Rattle.scan_location_bytes.specs.declared.Peek.{Peek}
+use Rattle.scan_location_bytes.specs.declared.Peek.the-variants as peek
+use Rattle.scan_location_bytes.specs.Views.{view, Ready, Peeked}
+use Rattle.scan_location_bytes.specs.Spots.{spot, drop-more, view-byte, peek-byte, peek-none, run-none, past-none}
 use Rattle.scan_location_usual.specs.declared.Run.{Run}
 use Rattle.scan_location_usual.specs.declared.Range.{Range}
 use Rattle.scan_location_usual.specs.declared.Range.the-variants as ranges
+use Rattle.scan_location_usual.specs.declared.Ranged.the-variants as rangeds
 use Rattle.scan_location_usual.specs.declared.Usual.the-variants as usuals
-use Rattle.scan_location_usual.specs.Usuals.{rangeRow, NumberTo, RangeThen, AtRange, RangeTo, Opened, Known}
+use Rattle.scan_location_usual.specs.Usuals.{rangeRow, Onward, NumberTo, RangeThen, AtRange, RangeTo, RangedAt, Opened, Known}
+use Rattle.scan_location_usual.proofs.Numbers.{onward-then}
 
 -- ---- a text that begins with a base number
 
@@ -109,23 +115,28 @@ module _ (t w z : List ℕ) (n m : ℕ) (e : baseNumber t ≡ found n (dotted w)
 
 -- ---- in a slice
 
-drop-more : (s : List ℕ) (i : ℕ) → i < length s → drop i s ≡ getD s i 0 ∷ drop (i + 1) s
-drop-more s i h = rw (add-one, drop-cons s i 0)
+-- a dot of the text, and then the rest
+dot-more : (s : List ℕ) (i : ℕ) → i < length s → getD s i 0 ≡ 46 → (laid : Laid) → view laid s i ≡ 46 ∷ view laid s (i + 1)
+dot-more s i h e laid = view-byte laid s i h (omega arith) .is ∙ ap (λ (b : ℕ). b ∷ view laid s (i + 1)) e
 
 module _ (s : List ℕ) (at : ℕ) (a : Run) (h : NumberTo s at a) (x : a .value ≡ 0 → ⊥) (room : 2 ≤ length s - a .next) (d : getD s (a .next) 0 ≡ 46)
     (d′ : getD s (a .next + 1) 0 ≡ 46) (b : Run) (g : NumberTo s (a .next + 2) b) (y : b .value ≡ 0 → ⊥) where
-  dots-are : drop (a .next) s ≡ dotted (drop (a .next + 2) s)
-  dots-are =
+  dots-are : (laid : Laid) → view laid s (a .next) ≡ dotted (view laid s (a .next + 2))
+  dots-are laid =
       let k : a .next + 1 + 1 ≡ a .next + 2 = omega arith in
-      drop-more s (a .next) (omega arith) ∙ rw (d, drop-more s (a .next + 1) (omega arith), d′, k)
+      dot-more s (a .next) (omega arith) d laid ∙ ap (λ (z : List ℕ). 46 ∷ z) (dot-more s (a .next + 1) (omega arith) d′ laid ∙ rw k)
+
+  dots-on : Onward s (a .next) (a .next + 2)
+  dots-on = record { long = λ laid. omega (arith, ap length (dots-are laid)); from = omega arith; within = omega arith }
 
   pub range-stands : RangeTo s at (ranges.Is (a .value) (b .value) (b .next))
   range-stands =
       record {
         by = record {
-          is = λ n. range-then (drop at s) (drop (a .next + 2) s) (drop (b .next) s) (a .value) (b .value)
-              (h .is x (ap (starts digit) dots-are) ∙ ap (found (a .value)) dots-are) (g .is y n);
-          within = g .within;
+          is = λ laid n. range-then (view laid s at) (view laid s (a .next + 2)) (view laid s (b .next)) (a .value) (b .value)
+              (h .is laid x (ap (starts digit) (dots-are laid)) ∙ ap (found (a .value)) (dots-are laid)) (g .is laid y n);
+          on = onward-then (onward-then (h .on) dots-on) (g .on);
+          up = omega (arith, h .on .from, g .on .from);
         };
       }
 
@@ -133,9 +144,51 @@ pub range-none : (s : List ℕ) (at : ℕ) → RangeTo s at ranges.Other
 range-none s at = record { by = tt }
 
 pub dots-within : (s : List ℕ) (at : ℕ) (a : Run) → NumberTo s at a → a .next ≤ length s
-dots-within s at a h = h .within
+dots-within s at a h = h .on .within
 
 pub ruleset ranging = (range-stands, range-none, dots-within)
+
+module _ (s : List ℕ) (at : ℕ) (r : Range) (h : RangeTo s at r) (n m next : ℕ) (e : r ≡ ranges.Is n m next) where
+  at-range : AtRange s at n m next
+  at-range = rw e at (h .by)
+
+  pub range-within : next ≤ length s
+  range-within = at-range .on .within
+
+  pub range-from : at ≤ next
+  range-from = at-range .on .from
+
+-- ---- at a spot
+
+module _ (laid : Laid) (s : List ℕ) (at : ℕ) (r : Peek) (h : Peeked laid s at r) where
+  pub follows-byte : (b n : ℕ) → r ≡ peek.Byte b n → (t : Bool) → t ≡ digit b → t ≡ starts digit (view laid s at)
+  follows-byte b n e t k = k ∙ sym (ap (starts digit) (peek-byte laid s at r h b n e .is))
+
+  pub follows-end : r ≡ peek.End → false ≡ starts digit (view laid s at)
+  follows-end e = sym (ap (starts digit) (peek-none laid s at r h e))
+
+pub ruleset following = (follows-byte, follows-end)
+
+module _ (laid : Laid) (s : List ℕ) (p : Spot) (g : Ready laid s p) (r : Range) (h : RangeTo s (p .at) r) (n m next : ℕ) (e : r ≡ ranges.Is n m next) where
+  pub spot-fits : p .off + (next - p .at) < 2 ^ 64
+  spot-fits = let a = at-range s (p .at) r h n m next e in omega (arith, g .below, g .short, a .on .from, a .on .within)
+
+  pub spot-ranged : (t : Bool) → t ≡ starts digit (view laid s next) → t ≡ false → RangedAt laid s p (rangeds.Is n m (spot next (p .off + (next - p .at))))
+  spot-ranged t k f =
+      let a = at-range s (p .at) r h n m next e in
+      let l = a .on .long laid in
+      let u = a .up in
+      record {
+        by = record {
+          is = a .is laid (sym k ∙ f);
+          past = record { up = u; within = a .on .within; ahead = omega arith; below = omega (arith, g .below); less = omega arith; total = omega arith };
+        };
+      }
+
+pub spot-other : (laid : Laid) (s : List ℕ) (p : Spot) → RangedAt laid s p rangeds.Other
+spot-other laid s p = record { by = tt }
+
+pub ruleset spotting = (range-within, range-from, spot-fits, spot-ranged, spot-other)
 
 -- ---- a whole text
 
@@ -164,25 +217,19 @@ word-is t r n m e h gaps =
     rw (e, members-last (length r) 4 (location gaps (length t) 15) r (rows n m) (41 ∷ []) (location-is r (41 ∷ []) n m h gaps (length t) 15) refl)
 
 module _ (s : List ℕ) (at : ℕ) (r : Range) (h : RangeTo s at r) (n m next : ℕ) (e : r ≡ ranges.Is n m next) where
-  at-range : AtRange s at n m next
-  at-range = rw e at (h .by)
-
-  pub range-within : next ≤ length s
-  range-within = at-range .within
-
   pub known-complement : Opened s at → (room : length s - next ≡ 1) → getD s next 0 ≡ 41 → Known s (usuals.Complement n m)
   known-complement o room d =
-      let w = range-within in
+      let w = range-within s at r h n m next e in
       let l : length s ≤ next + 1 = omega arith in
       let k : drop (next + 1) s ≡ [] = drop-of-length-le s l in
       let z : drop next s ≡ 41 ∷ [] = drop-more s next (omega arith) ∙ rw (d, k) in
-      record { by = word-is s (drop at s) n m (tag-behind (bytes "complement(") s (drop at s) (o .is)) (rw z at (at-range .is (ap (starts digit) z))) }
+      record { by = word-is s (drop at s) n m (tag-behind (bytes "complement(") s (drop at s) (o .is)) (rw z at (at-range s at r h n m next e .is laids.Piece (ap (starts digit) z))) }
 
 pub known-range : (s : List ℕ) (r : Range) → RangeTo s 0 r → (n m next : ℕ) → r ≡ ranges.Is n m next → length s ≤ next → Known s (usuals.Range n m)
 unfolding reading
 known-range s r h n m next e l =
     let z : drop next s ≡ [] = drop-of-length-le s l in
-    let a : RangeThen s n m [] = rw z at (at-range s 0 r h n m next e .is (ap (starts digit) z)) in
+    let a : RangeThen s n m [] = rw z at (at-range s 0 r h n m next e .is laids.Piece (ap (starts digit) z)) in
     record { by = λ gaps. ap whole (location-is s [] n m a gaps (length s) 16) }
 
 pub known-none : (s : List ℕ) → Known s usuals.Other

@@ -1,10 +1,15 @@
-// Most locations are a range or the complement of one, `n..m` or `complement(n..m)`, in one piece: these are known in one pass over their bytes, and of any other text nothing
-// is said. Who reads a location asks this first, since the reader that calls itself looks at each byte several times.
+// Most locations are a range or the complement of one, `n..m` or `complement(n..m)`, and most members of a join are ranges: these are known in one pass over their bytes, and of
+// any other text nothing is said. Who reads a location asks this first, since other readers look at each byte several times.
 use scan_bytes::Step;
+use scan_location_bytes::Laid;
+use scan_location_bytes::Peek;
+use scan_location_bytes::Spot;
 ghost use mathlib.Core.Path.{_≡_};
 ghost use Prim.Native.Nat.{_-_, _≤_};
 ghost use lib.ListN.{length};
-ghost use Rattle.scan_location_usual.specs.Usuals.{DigitsTo, NumberTo, RangeTo, Opened, Known};
+ghost use Rattle.spec_format.specs.Bytes.{starts, digit};
+ghost use Rattle.scan_location_bytes.specs.Views.{view, Ready};
+ghost use Rattle.scan_location_usual.specs.Usuals.{DigitsTo, NumberTo, RangeTo, RangedAt, Opened, Known};
 
 fn value_of(digit: u8) -> usize
     requires { ⌜ 48 ≤ digit ⌝ }
@@ -89,6 +94,49 @@ fn range_on(s: &[u8], at: usize) -> Range
         next: last.next,
     }
 }
+
+// ---- at a spot of any text
+
+pub enum Ranged {
+    Is { from: usize, to: usize, spot: Spot },
+    Other,
+}
+
+fn digit_follows(s: &[u8], laid: Laid, at: usize) -> bool
+    requires { ⌜ at ≤ length (now s) ⌝ }
+    ensures { λ r. ⌜ r ≡ starts digit (view laid (now (s .entry)) at) ⌝ }
+{
+    match scan_location_bytes::byte_at(s, laid, at) {
+        Peek::Byte { byte, next: _ } => scan_bytes::is_digit(byte),
+        Peek::End => false,
+    }
+}
+
+// A range in one piece.
+pub fn range_at(s: &[u8], laid: Laid, spot: Spot) -> Ranged
+    requires { ⌜ Ready laid (now s) spot ⌝ }
+    ensures { λ r. ⌜ RangedAt laid (now (s .entry)) spot r ⌝ }
+{
+    match range_on(s, spot.at) {
+        Range::Is { from, to, next } => {
+            if digit_follows(s, laid, next) {
+                return Ranged::Other;
+            }
+            let behind = Spot {
+                at: next,
+                off: spot.off + (next - spot.at),
+            };
+            Ranged::Is {
+                from,
+                to,
+                spot: behind,
+            }
+        }
+        Range::Other => Ranged::Other,
+    }
+}
+
+// ---- a whole text
 
 pub enum Usual {
     Range { from: usize, to: usize },

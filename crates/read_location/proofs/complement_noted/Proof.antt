@@ -1,7 +1,6 @@
 -- `read_location::complement_noted` meets its contract. Assumes nothing.
 use Rattle.read_location.proofs.Ending.{usually}
 use borrow.Author.Needs.{needs}
-use borrow.Author.Needs.{needs}
 use Rattle.read_location.proofs.complement_noted.Statement.{statement}
 use Rattle.read_location.proofs.complement_noted.Tie as tie
 

@@ -1,7 +1,6 @@
 -- `read_location::piece_at` meets its contract. Assumes nothing.
 use Rattle.read_location.proofs.Ending.{usually}
 use borrow.Author.Needs.{needs}
-use borrow.Author.Needs.{needs}
 use Rattle.read_location.proofs.piece_at.Statement.{statement}
 use Rattle.read_location.proofs.piece_at.Tie as tie
 

@@ -1,7 +1,6 @@
 -- `scan_location_usual::complement_on` meets its contract. Assumes nothing.
 use Rattle.scan_location_usual.proofs.Ranges.{knowing}
 use borrow.Author.Needs.{needs}
-use borrow.Author.Needs.{needs}
 use Rattle.scan_location_usual.proofs.complement_on.Statement.{statement}
 use Rattle.scan_location_usual.proofs.complement_on.Tie as tie
 

@@ -1,7 +1,6 @@
 -- `scan_location_usual::number_on` meets its contract. Assumes nothing.
 use Rattle.scan_location_usual.proofs.Numbers.{numbering}
 use borrow.Author.Needs.{needs}
-use borrow.Author.Needs.{needs}
 use Rattle.scan_location_usual.proofs.number_on.Statement.{statement}
 use Rattle.scan_location_usual.proofs.number_on.Tie as tie
 

@@ -1,7 +1,6 @@
 -- `scan_location_usual::range_on` meets its contract. Assumes nothing.
 use Rattle.scan_location_usual.proofs.Ranges.{ranging}
 use borrow.Author.Needs.{needs}
-use borrow.Author.Needs.{needs}
 use Rattle.scan_location_usual.proofs.range_on.Statement.{statement}
 use Rattle.scan_location_usual.proofs.range_on.Tie as tie
 

@@ -1,7 +1,6 @@
 -- `scan_location_usual::range_only` meets its contract. Assumes nothing.
 use Rattle.scan_location_usual.proofs.Ranges.{knowing}
 use borrow.Author.Needs.{needs}
-use borrow.Author.Needs.{needs}
 use Rattle.scan_location_usual.proofs.range_only.Statement.{statement}
 use Rattle.scan_location_usual.proofs.range_only.Tie as tie
 

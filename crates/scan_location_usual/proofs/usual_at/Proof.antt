@@ -1,7 +1,6 @@
 -- `scan_location_usual::usual_at` meets its contract. Assumes nothing.
 use Rattle.scan_location_usual.proofs.Ranges.{knowing}
 use borrow.Author.Needs.{needs}
-use borrow.Author.Needs.{needs}
 use Rattle.scan_location_usual.proofs.usual_at.Statement.{statement}
 use Rattle.scan_location_usual.proofs.usual_at.Tie as tie
 
