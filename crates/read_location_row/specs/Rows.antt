@@ -11,7 +11,7 @@ use lib.Dec.{eqb}
 use Rattle.spec_format.specs.Bytes.{same}
 use Rattle.spec_format.specs.Table.{LocationRow}
 use Rattle.spec_format.specs.Rooms.{rowNumbers, locationNumbers}
-use Rattle.base_pen.specs.Pen.{Wrote, Writes, sets-append, wrote-append}
+use Rattle.base_pen.specs.Pen.{Wrote, Writes, sets-append, wrote-append, sets-past}
 use Rattle.read_location_row.specs.declared.Pen.{Pen}
 
 -- whether numbers stand in a list from a place on
@@ -46,8 +46,12 @@ module _ (l : LocationRow) (at : ℕ) {a b c d e f g h : List ℕ} {i j k m n o 
       let x : Wrote a at (l .form ∷ []) b (at + 1) = record { is = q .fit (omega arith) .is; to = refl } in
       put-next (omega arith) (put-next (omega arith) (put-next (omega arith) (put-next (omega arith) (put-next (omega arith) (put-next (omega arith) x r) s) t) u) v) w .is
 
+pub past-none-put : (old : List ℕ) (at : ℕ) (ns : List ℕ) → length old ≤ at → old ≡ sets old at ns
+past-none-put old at ns h = sym (sets-past ns old at h)
+
 -- numbers compared one behind the other
-number-stands : (seen : List ℕ) (at k v : ℕ) (ns : List ℕ) (r t : Bool) → at + k < length seen → t ≡ stand seen (at + (k + 1)) ns → r ≡ eqb v (getD seen (at + k) 0) && t → r ≡ stand seen (at + k) (v ∷ ns)
+number-stands : (seen : List ℕ) (at k v : ℕ) (ns : List ℕ) (r t : Bool) → at + k < length seen → t ≡ stand seen (at + (k + 1)) ns → r ≡ eqb v (getD seen (at + k) 0) && t
+    → r ≡ stand seen (at + k) (v ∷ ns)
 number-stands seen at k v ns r t h p q = let e : at + (k + 1) ≡ suc (at + k) = omega arith in rw (q, p, e, drop-cons seen (at + k) 0 h)
 
 same-short : (ns l : List ℕ) → length l < length ns → false ≡ same ns (take (length ns) l)

@@ -9,7 +9,7 @@ ghost use Rattle.spec_format.specs.Rooms.{rowNumbers};
 ghost use Rattle.scan_location.specs.Views.{rowOf};
 ghost use Rattle.read_location_row.specs.Rows.{stand, Noted};
 
-// The row's numbers, one behind the other. Past the room's end nothing is put.
+// The row's numbers, one behind the other.
 fn put_seven(out: &mut [usize], at: usize, row: Row)
     requires { ⌜ at ≤ 700000000 ⌝ }
     ensures { λ _. ⌜ now (out .exit) ≡ sets (now (out .entry)) at (rowNumbers (rowOf row)) ⌝ }
@@ -21,6 +21,17 @@ fn put_seven(out: &mut [usize], at: usize, row: Row)
     base_pen::put_number(out, at + 4, row.start);
     base_pen::put_number(out, at + 5, row.length);
     base_pen::put_number(out, at + 6, row.inside);
+}
+
+// The same. Past the room's end nothing is put, and who only counts rows lends none.
+fn put_row(out: &mut [usize], at: usize, row: Row)
+    requires { ⌜ at ≤ 700000000 ⌝ }
+    ensures { λ _. ⌜ now (out .exit) ≡ sets (now (out .entry)) at (rowNumbers (rowOf row)) ⌝ }
+{
+    if out.len() <= at {
+        return;
+    }
+    put_seven(out, at, row)
 }
 
 // Whether the row's numbers are there. All seven are compared, with no branch between them.
@@ -60,7 +71,7 @@ pub fn note_row(out: &mut [usize], seen: &[usize], pen: Pen, row: Row) -> Pen
     ensures { λ r. ⌜ Noted (now (seen .entry)) (now (out .entry)) pen (rowOf row ∷ []) (now (out .exit)) r ⌝ }
 {
     let at = 7 * pen.row;
-    put_seven(out, at, row);
+    put_row(out, at, row);
     let here = stands_seven(seen, at, row);
     let same = both(pen.same, here);
     let row = pen.row + 1;

@@ -7,8 +7,8 @@ use Rattle.read_location_row.proofs.note_row.Tie as tie
 mul-at : tie.Need-mul-at
 mul-at c = search needs
 
-put-seven-requires : tie.Need-put-seven-requires
-put-seven-requires c κs = search needs
+put-row-requires : tie.Need-put-row-requires
+put-row-requires c κs = search needs
 
 stands-seven-requires : tie.Need-stands-seven-requires
 stands-seven-requires c κs = search needs
@@ -30,7 +30,7 @@ note-row-spec =
     tie.close
     (tie.spec
     mul-at
-    put-seven-requires
+    put-row-requires
     stands-seven-requires
     both-requires
     add-row
