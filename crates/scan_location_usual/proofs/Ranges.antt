@@ -6,12 +6,11 @@ use mathlib.Core.List.{List, [], _∷_}
 use native.Mathlib.Omega.{arith}
 use lib.ListN.{length, getD, drop, drop-of-length-le}
 use lib.Dec.{eqb, leb}
-use borrow.Author.Tests.{eqb-true, leb-true, ne-eqb}
+use borrow.Author.Tests.{leb-true, ne-eqb}
 use Rattle.spec_format.specs.Bytes.{pick, May, absent, is, bytes, some, starts, digit, letter}
 use Rattle.spec_format.specs.Table.{LocationRow}
 use Rattle.spec_format.specs.Readers.{Got, tag}
-use Rattle.spec_format.specs.Location.{Found, found, fault, run, past, behind, baseFine, baseNumber, bases, inAccession, versionColon, accession, leaf, plain, word, other, begin}
-use Rattle.spec_format.specs.Location.{wordRow, closed, membersIn, single, locationFrom, location, reading, one, whole}
+use Rattle.spec_format.specs.Location.{found, run, past, behind, baseFine, baseNumber, bases, inAccession, accession, leaf, plain, other, begin, wordRow, locationFrom, location, reading, one, whole}
 use Rattle.spec_format.specs.Impossible.{impossible}
 use Rattle.spec_location.specs.Bytes.{members-last}
 use Rattle.spec_location.specs.Tests.{and-right}
