@@ -145,7 +145,7 @@ fn over_lines(text: Bare) -> Stretch
     }
 }
 
-// The same without the test of UTF-8: a text in one line, as most are, is found by its line end alone.
+// The text that `bare_at` finds, without the test of UTF-8: one in a single line, as most are, is found by its line end alone.
 pub fn stretch_at(s: &[u8], at: usize, indent: usize) -> Stretch
     requires { ⌜ at ≤ length (now s) ⌝ }
     ensures { λ r. ⌜ Stretched (now (s .entry)) at (bareText indent (drop at (now (s .entry)))) (bare indent (drop at (now (s .entry)))) r ⌝ }
