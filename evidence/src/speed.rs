@@ -27,7 +27,7 @@ pub fn run(rounds: u64) -> bool {
     println!("speed: {rounds} rounds, turn by turn; nanoseconds for a byte of the record's text, best and worst round;");
     println!("how many times the speed of the faster gb-io (best against best; worst round), and how many times memcpy's time");
     inputs.into_iter().all(|(name, table)| measured(name, &table, rounds).is_some())
-        && headers().into_iter().all(|(name, text)| measured_reading(name, &text, rounds).is_some())
+        && headers().into_iter().chain(locations()).all(|(name, text)| measured_reading(name, &text, rounds).is_some())
 }
 
 /// Records of very many header lines, which are only read.
@@ -38,6 +38,21 @@ fn headers() -> [(&'static str, Vec<u8>); 4] {
         ("half a million REFERENCE lines without TITLE", header(500_000, "REFERENCE   1\n")), ("four million empty lines before LOCUS", record("\n".repeat(4_000_000), String::new()))]
 }
 
+/// Records of one feature whose location has very many members, of one, two and four times as many, also 16 words deep; and of features with some members each.
+fn locations() -> [(&'static str, Vec<u8>); 5] {
+    let record = |features: String| format!("LOCUS       x 1 bp    DNA     linear   SYN 01-JAN-2024\nFEATURES             Location/Qualifiers\n{features}ORIGIN\n        1 a\n//\n").into_bytes();
+    let members = |n: usize| (0..n).map(|i| format!("{}..{}", 10 + i % 90, 100 + i % 900)).collect::<Vec<_>>();
+    // seven members to a line
+    let lines = |open: &str, n: usize, close: &str| {
+        let text: Vec<String> = members(n).chunks(7).map(|line| line.join(",")).collect();
+        format!("     CDS             {open}{}{close}\n                     /gene=\"a\"\n", text.join(",\n                     "))
+    };
+    let deep = |n: usize| record(lines(&"complement(join(".repeat(8), n, &")".repeat(16)));
+    [("a location of 350,000 members", record(lines("join(", 350_000, ")"))), ("a location of 700,000 members", record(lines("join(", 700_000, ")"))),
+        ("a location of 1,400,000 members", record(lines("join(", 1_400_000, ")"))), ("the same, 16 words deep", deep(1_400_000)),
+        ("40,000 features of six members", record(lines("join(", 6, ")").repeat(40_000)))]
+}
+
 fn measured_reading(name: &str, text: &[u8], rounds: u64) -> Option<()> {
     let seq = parse_slice(text).ok()?.pop()?;
     let mut room = read_asked(text)?;
@@ -46,7 +61,7 @@ fn measured_reading(name: &str, text: &[u8], rounds: u64) -> Option<()> {
     for _ in 0..rounds {
         time_reading(&mut reading, text, &mut room, &mut out, 1);
     }
-    println!("\n{name}: {} bytes, {} comments", text.len(), seq.comments.len());
+    println!("\n{name}: {} bytes, {} comments, {} features", text.len(), seq.comments.len(), seq.features.len());
     show("reading", text.len(), &GB_IO, &reading);
     Some(())
 }

@@ -11,6 +11,7 @@ use borrow.Author.Tests.{eqb-true, eq-eqb}
 use Rattle.spec_format.specs.Bytes.{same}
 use Rattle.spec_format.specs.Rooms.{Rooms, locationNumbers, rowsFrom, locationRowIn, locationsFrom}
 use Rattle.spec_format.specs.Table.{LocationRow}
+use Rattle.read_location_row.specs.Rows.{numbers-length}
 
 drop-more : (l : List ℕ) (i : ℕ) → i < length l → drop i l ≡ getD l i 0 ∷ drop (i + 1) l
 drop-more l i h = let e : i + 1 ≡ suc i = omega arith in drop-cons l i 0 h ∙ rw e
@@ -42,12 +43,6 @@ numbers-in r row (suc n) h =
     let next : 7 * (row + 1) ≡ 7 * row + 7 = omega arith in
     let rest : locationNumbers (locationsFrom r (row + 1) n) ≡ take (7 * n) (drop (7 * row + 7) (r .locations)) = (rw next at (numbers-in r (row + 1) n (omega arith))) in
     rw (seven-more n, drop-seven (r .locations) (7 * row) (omega arith), rest)
-
--- as many numbers as seven times the rows
-numbers-length : (ls : List LocationRow) → length (locationNumbers ls) ≡ 7 * length ls
-unfolding locationNumbers
-numbers-length [] = refl
-numbers-length (l ∷ ls) = rw (numbers-length ls) (omega arith)
 
 rows-length : (r : Rooms) (row rows : ℕ) → length (locationsFrom r row rows) ≡ rows
 unfolding rowsFrom

@@ -2,8 +2,7 @@
 use base_arith::both;
 use judge_rooms::span_fine;
 use read_location::Location;
-use read_location::location_at;
-use scan_location_bytes::Laid;
+use read_location::piece_at;
 use spec_format::ContigText;
 use spec_format::Span;
 ghost use mathlib.Core.Path.{_≡_};
@@ -50,7 +49,7 @@ fn inside_told(text: &[u8], gaps: bool, locations: &[usize], row: usize, rows: u
     requires { ⌜ (length (now text) ≤ most) × (row ≤ most) × (7 * (row + rows) ≤ length (now locations)) ⌝ }
     ensures { λ r. ⌜ r ≡ toldBy (readAs (reading gaps (now (text .entry))) (locationsFrom (locationRooms [] (now (locations .entry))) row rows)) (locates gaps (now (text .entry))) ⌝ }
 {
-    let found = location_at(text, Laid::Piece, gaps, 0, &mut [], locations, row);
+    let found = piece_at(text, gaps, &mut [], locations, row);
     found_told(found, rows)
 }
 

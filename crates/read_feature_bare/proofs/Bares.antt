@@ -45,7 +45,7 @@ module _ (s : List ℕ) (at : ℕ) (o : Ans (List ℕ)) (l : Line) (e n : ℕ) (
 -- ---- the first line
 
 module _ (s : List ℕ) (at indent : ℕ) (l : Line) where
-  bare-line : {first z : List ℕ} → line (drop at s) ≡ Got first z → bare indent (drop at s) ≡ mapped (λ t. first ++ t) (gathered (bareMore indent) z)
+  pub bare-line : {first z : List ℕ} → line (drop at s) ≡ Got first z → bare indent (drop at s) ≡ mapped (λ t. first ++ t) (gathered (bareMore indent) z)
   unfolding bare gathered
   bare-line {first} {z} e = rw e (go (loop (bareMore indent) z))
     where
@@ -54,7 +54,7 @@ module _ (s : List ℕ) (at indent : ℕ) (l : Line) where
       go No = refl
       go Cut = refl
 
-  text-line : {first z : List ℕ} → line (drop at s) ≡ Got first z → bareText indent (drop at s) ≡ first ++ taken (bareMore indent) z
+  pub text-line : {first z : List ℕ} → line (drop at s) ≡ Got first z → bareText indent (drop at s) ≡ first ++ taken (bareMore indent) z
   unfolding bareText
   text-line e = rw e
 

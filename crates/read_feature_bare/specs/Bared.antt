@@ -16,6 +16,8 @@ use Rattle.read_feature_bare.specs.declared.Further.{Further}
 use Rattle.read_feature_bare.specs.declared.Further.the-variants as further
 use Rattle.read_feature_bare.specs.declared.Bare.{Bare}
 use Rattle.read_feature_bare.specs.declared.Bare.the-variants as bare′
+use Rattle.read_feature_bare.specs.declared.Stretch.{Stretch}
+use Rattle.read_feature_bare.specs.declared.Stretch.the-variants as stretch
 
 -- the text after a first line was read
 abbrev pub bareFrom : ℕ → Ans (List ℕ) → List ℕ
@@ -71,6 +73,34 @@ pub record Bared (s : List ℕ) (at first : ℕ) (before : State) (t : List ℕ)
   pub is : bareOf s t r ≡ o
   pub place : PastBare s at first before t r
 
+-- the same without the test
+abbrev pub overLines : Bare → Stretch
+overLines (bare′.Got n next state) = stretch.Lines n next
+overLines bare′.No = stretch.No
+overLines bare′.Cut = stretch.Cut
+
+abbrev pub stretchOf : List ℕ → List ℕ → Stretch → Ans (List ℕ)
+stretchOf s t (stretch.Line end next) = Got t (drop next s)
+stretchOf s t (stretch.Lines n next) = Got t (drop next s)
+stretchOf s t stretch.No = No
+stretchOf s t stretch.Cut = Cut
+
+-- the text t stands in one line, from `at` up to `end`
+pub record InLine (s : List ℕ) (at : ℕ) (t : List ℕ) (end next : ℕ) : Type 0 where
+  pub is : t ≡ part at end s
+  pub from : at ≤ end
+  pub span : Span s at t (end - at) next
+
+abbrev pub PastStretch : List ℕ → ℕ → List ℕ → Stretch → Type 0
+PastStretch s at t (stretch.Line end next) = InLine s at t end next
+PastStretch s at t (stretch.Lines n next) = Span s at t n next
+PastStretch s at t stretch.No = Unit
+PastStretch s at t stretch.Cut = Unit
+
+pub record Stretched (s : List ℕ) (at : ℕ) (t : List ℕ) (o : Ans (List ℕ)) (r : Stretch) : Type 0 where
+  pub is : stretchOf s t r ≡ o
+  pub place : PastStretch s at t r
+
 -- ---- what is known once the answer is
 
 module _ {s : List ℕ} {at first : ℕ} {before : State} {t : List ℕ} {o : Ans (List ℕ)} {r : Bare} {n next : ℕ} {state : State}
@@ -90,3 +120,10 @@ bared-places s at indent r n next state h q =
     let i : length (drop next s) ≡ length s - next = length-drop next s in
     let j : length (drop at s) ≡ length s - at = length-drop at s in
     record { from = omega arith; within = w; long = omega arith; short = omega arith }
+
+module _ {s : List ℕ} {at : ℕ} {t : List ℕ} {o : Ans (List ℕ)} {r : Stretch} (h : Stretched s at t o r) where
+  pub stretched-is : {x : Stretch} → r ≡ x → o ≡ stretchOf s t x
+  stretched-is q = rw (← h .is, q)
+
+  pub stretched-places : {x : Stretch} → r ≡ x → PastStretch s at t x
+  stretched-places q = subst (λ (x : Stretch). PastStretch s at t x) q (h .place)

@@ -3,6 +3,7 @@ use read_feature_joined::Value;
 use scan_bytes::Line;
 use scan_bytes::Step;
 use scan_utf8::State;
+ghost use mathlib.Core.Path.{_≡_};
 ghost use Prim.Native.Nat.{_≤_};
 ghost use lib.ListN.{length, drop};
 ghost use Rattle.spec_format.specs.Bytes.{spaces};
@@ -13,7 +14,7 @@ ghost use Rattle.read_feature_joined.specs.Taken.{taken, gathered};
 ghost use Rattle.read_feature_joined.specs.Views.{Valued};
 ghost use Rattle.base_pen.specs.Pen.{Writes};
 ghost use Rattle.scan_utf8.specs.States.{start};
-ghost use Rattle.read_feature_bare.specs.Bared.{bareText, Furthered, Bared};
+ghost use Rattle.read_feature_bare.specs.Bared.{bareText, Furthered, Bared, overLines, Stretched};
 
 // A further line's text, and the line after it; or that none stands here.
 enum Further {
@@ -34,6 +35,14 @@ pub enum Bare {
         next: usize,
         state: State,
     },
+    No,
+    Cut,
+}
+
+// A bare text where it stands, in one line up to `end` or over several with this length together, and the place after it.
+pub enum Stretch {
+    Line { end: usize, next: usize },
+    Lines { length: usize, next: usize },
     No,
     Cut,
 }
@@ -118,6 +127,37 @@ pub fn bare_at(s: &[u8], at: usize, indent: usize) -> Bare
         }
         Line::No => Bare::No,
         Line::Cut => Bare::Cut,
+    }
+}
+
+// A text over several lines, by what is known of the tested one.
+fn over_lines(text: Bare) -> Stretch
+    ensures { λ r. ⌜ r ≡ overLines text ⌝ }
+{
+    match text {
+        Bare::Got {
+            length,
+            next,
+            state: _,
+        } => Stretch::Lines { length, next },
+        Bare::No => Stretch::No,
+        Bare::Cut => Stretch::Cut,
+    }
+}
+
+// The text that `bare_at` finds, without the test of UTF-8: one in a single line, as most are, is found by its line end alone.
+pub fn stretch_at(s: &[u8], at: usize, indent: usize) -> Stretch
+    requires { ⌜ at ≤ length (now s) ⌝ }
+    ensures { λ r. ⌜ Stretched (now (s .entry)) at (bareText indent (drop at (now (s .entry)))) (bare indent (drop at (now (s .entry)))) r ⌝ }
+{
+    match scan_bytes::line_at(s, at) {
+        Line::Got { end, next } => match further_start(s, next, indent) {
+            Step::No => Stretch::Line { end, next },
+            Step::Got(_) => over_lines(bare_at(s, at, indent)),
+            Step::Cut => Stretch::Cut,
+        },
+        Line::No => Stretch::No,
+        Line::Cut => Stretch::Cut,
     }
 }
 

@@ -1,5 +1,5 @@
 // A feature's location: a bare text that has a reading (document 02, ticket 1), found where it stands, its rows put into lent room; and number 14.
-use read_feature_bare::Bare;
+use read_feature_bare::Stretch;
 use read_feature_names::Kind;
 use read_location::Location;
 use scan_location_bytes::Laid;
@@ -13,44 +13,54 @@ ghost use Rattle.spec_format.specs.Location.{reading, isDeep, locates};
 ghost use Rattle.spec_format.specs.Deep.{deepFeature};
 ghost use Rattle.scan_location_bytes.specs.Views.{view};
 ghost use Rattle.read_feature_bare.specs.Bared.{bareText};
-ghost use Rattle.read_feature_location.specs.Places.{LocationFound, LocationPut};
+ghost use Rattle.read_feature_location.specs.Places.{takenOf, LocationFound, LocationPut};
 
-// A location's length, the place after it, and how many rows its reading has.
+// A location's length, the place after it, how many rows its reading has, and whether it is known to stand in one line.
 pub enum Located {
     Got {
         length: usize,
         next: usize,
         rows: usize,
+        line: bool,
     },
     No,
     Cut,
 }
 
-// Its rows are put into `out` from row `first` on; past the end of `out` nothing is put. A text that has no reading is not taken, be it too deep.
+// A text that has no reading is not taken, be it too deep.
+fn taken(found: Location, length: usize, next: usize, line: bool) -> Located
+    ensures { λ r. ⌜ r ≡ takenOf found length next line ⌝ }
+{
+    match found {
+        Location::Read { rows, same: _ } => Located::Got {
+            length,
+            next,
+            rows,
+            line,
+        },
+        Location::None => Located::No,
+        Location::TooDeep => Located::No,
+    }
+}
+
+// Its rows are put into `out` from row `first` on; past the end of `out` nothing is put. A text in one line, as most are, is read by itself, with no look for further lines.
 pub fn put_location(s: &[u8], at: usize, indent: usize, out: &mut [usize], first: usize) -> Located
     requires { ⌜ (at ≤ length (now s)) × (length (now s) ≤ 16777216) × (first ≤ 16777216) ⌝ }
     ensures { λ r. ⌜ LocationPut (now (s .entry)) at (bareText indent (drop at (now (s .entry)))) (passing (locates false) (bare indent (drop at (now (s .entry))))) (now (out .entry)) (now (out .exit)) first r ⌝ }
 {
-    match read_feature_bare::bare_at(s, at, indent) {
-        Bare::Got {
-            length,
-            next,
-            state: _,
-        } => match read_location::location_at(
-            s,
-            Laid::Feature(indent),
-            false,
-            at,
-            out,
-            &[],
-            first,
-        ) {
-            Location::Read { rows, same: _ } => Located::Got { length, next, rows },
-            Location::None => Located::No,
-            Location::TooDeep => Located::No,
-        },
-        Bare::No => Located::No,
-        Bare::Cut => Located::Cut,
+    match read_feature_bare::stretch_at(s, at, indent) {
+        Stretch::Line { end, next } => {
+            let text = &s[at..end];
+            let found = read_location::piece_at(text, false, out, &[], first);
+            taken(found, end - at, next, true)
+        }
+        Stretch::Lines { length, next } => {
+            let laid = Laid::Feature(indent);
+            let found = read_location::location_at(s, laid, false, at, out, &[], first);
+            taken(found, length, next, false)
+        }
+        Stretch::No => Located::No,
+        Stretch::Cut => Located::Cut,
     }
 }
 

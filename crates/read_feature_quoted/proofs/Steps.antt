@@ -1,6 +1,6 @@
 -- Quotes, line ends and indents in a row, as escapes. Assumes nothing.
-use Prim.Native.Nat.{ℕ, _+_, _≤_, _<_}
-use mathlib.Core.Path.{_≡_, refl, subst}
+use Prim.Native.Nat.{ℕ, zero, suc, _+_, _-_, _≤_, _<_}
+use mathlib.Core.Path.{_≡_, refl, sym, subst}
 use mathlib.Core.Bool.{Bool, true, false}
 use mathlib.Core.List.{List, [], _∷_}
 use native.Mathlib.Omega.{arith}
@@ -13,12 +13,12 @@ use Rattle.spec_format.specs.Bytes.{spaces}
 use Rattle.spec_format.specs.Readers.{Ans, Got, No, Cut, bind, mapped, orElse, tag, lineEnd}
 use Rattle.spec_format.specs.Features.{escape}
 use Rattle.scan_bytes.specs.Views.{Stepped, Emptied}
-use Rattle.scan_bytes.specs.Sequence.{empty-places}
+use Rattle.scan_bytes.specs.Sequence.{step-places, empty-places}
 use Rattle.scan_bytes.specs.declared.Step.{Step}
 use Rattle.scan_bytes.specs.declared.Step.the-variants as step
 use Rattle.read_feature_quoted.specs.declared.Escape.{Escape}
 use Rattle.read_feature_quoted.specs.declared.Escape.the-variants as escape′
-use Rattle.read_feature_quoted.specs.Escapes.{feed, splitQuote, laterEscape, QuoteSpan, PastQuote, QuoteStep, StepOne, Escaped}
+use Rattle.read_feature_quoted.specs.Escapes.{feed, secondQuote, splitQuote, laterEscape, QuoteSpan, PastQuote, QuoteStep, StepOne, Escaped}
 
 module _ (s : List ℕ) (at : ℕ) where
   pub quote-cut : length s ≤ at → Cut ≡ tag (34 ∷ []) (drop at s)
@@ -47,7 +47,7 @@ quote-within s at o r n h e = quote-span h e .within
 one-is : {s : List ℕ} {at : ℕ} {o : Ans Unit} {r : Step} {n : ℕ} → StepOne s at o r → r ≡ step.Got n → o ≡ Got tt (drop n s)
 one-is h e = rw (← h .is, e)
 
-pub one-places : {s : List ℕ} {at : ℕ} {o : Ans Unit} {r : Step} {n : ℕ} → StepOne s at o r → r ≡ step.Got n → (at < n) × (n ≤ length s)
+one-places : {s : List ℕ} {at : ℕ} {o : Ans Unit} {r : Step} {n : ℕ} → StepOne s at o r → r ≡ step.Got n → (at < n) × (n ≤ length s)
 one-places {s} {at} h e = subst (λ (x : Step). one s at x) e (h .place)
   where
     one : List ℕ → ℕ → Step → Type 0
@@ -55,17 +55,20 @@ one-places {s} {at} h e = subst (λ (x : Step). one s at x) e (h .place)
     one s at step.No = Unit
     one s at step.Cut = Unit
 
-pub one-within : (s : List ℕ) (at : ℕ) (o : Ans Unit) (r : Step) (n : ℕ) → StepOne s at o r → r ≡ step.Got n → n ≤ length s
-one-within s at o r n h e = one-places h e .1
-
 -- what follows a quote: the quote stays the first byte
-module _ (s : List ℕ) (at n m : ℕ) (o : Ans Unit) (h : QuoteSpan s at n) (k : n ≤ m) where
-  from-quote : (x : Step) → QuoteStep s m o x → QuoteStep s at o x
-  from-quote (step.Got l) q =
+module _ (s : List ℕ) (at n : ℕ) (o : Ans Unit) where
+  from-quote : QuoteSpan s at n → (x : Step) → StepOne s n o x → QuoteStep s at o x
+  from-quote h (step.Got l) q =
       let p = q .place in
-      record { is = q .is; place = record { from = let a = h .from in let b = p .from in omega arith; within = p .within; byte = h .byte } }
-  from-quote step.No q = record { is = q .is; place = tt }
-  from-quote step.Cut q = record { is = q .is; place = tt }
+      record { is = q .is; place = record { from = let a = h .from in omega arith; within = p .1; byte = h .byte } }
+  from-quote h step.No q = record { is = q .is; place = tt }
+  from-quote h step.Cut q = record { is = q .is; place = tt }
+
+  -- a quote is a step of one byte at least, from any place before it
+  to-quote : at ≤ n → (x : Step) → QuoteStep s n o x → StepOne s at o x
+  to-quote h (step.Got l) q = let p = q .place in record { is = q .is; place = (let a = p .from in omega arith, p .within) }
+  to-quote h step.No q = record { is = q .is; place = tt }
+  to-quote h step.Cut q = record { is = q .is; place = tt }
 
 -- ---- two quotes
 
@@ -86,7 +89,7 @@ module _ (s : List ℕ) (at : ℕ) (r : Step) (h : QuoteStep s at (tag (34 ∷ [
   double-cut e = rw (double-is (drop at s)) (record { is = rw (← h .is, e); place = tt })
 
   pub double-got : (n : ℕ) (x : Step) → r ≡ step.Got n → QuoteStep s n (tag (34 ∷ []) (drop n s)) x → QuoteStep s at (tag (34 ∷ 34 ∷ []) (drop at s)) x
-  double-got n x e q = rw (double-is (drop at s), quote-is h e) (from-quote s at n n _ (quote-span h e) (omega arith) x q)
+  double-got n x e q = rw (double-is (drop at s), quote-is h e) (from-quote s at n _ (quote-span h e) x (to-quote s n n _ (omega arith) x q))
 
 pub ruleset doubles = (quote-within, double-no, double-cut, double-got)
 
@@ -112,6 +115,54 @@ module _ (s : List ℕ) (at indent : ℕ) (r : Step) (h : Emptied s at (lineEnd 
 
 pub ruleset feeds = (feed-no, feed-cut, feed-got)
 
+-- ---- a line's end, the indent and a quote
+
+-- whatever stands before it, a byte after the indent that is no quote says No
+else-after : (s : List ℕ) (n i : ℕ) → i + n < length s → (getD s (i + n) 0 ≡ 34 → ⊥) → bind (tag (spaces n) (drop i s)) (λ _ z. tag (34 ∷ []) z) ≡ No
+unfolding tag
+else-after s zero i h e = let f : i + 0 ≡ i = omega arith in sym (quote-no s i (omega arith) (rw f at e))
+else-after s (suc n) i h e = go (else-after s n (suc i)) (eqb (getD s i 0) 32) refl
+  where
+    f : suc i + n ≡ i + suc n
+    f = omega arith
+
+    go : (suc i + n < length s → (getD s (suc i + n) 0 ≡ 34 → ⊥) → bind (tag (spaces n) (drop (suc i) s)) (λ _ z. tag (34 ∷ []) z) ≡ No) → (x : Bool) → eqb (getD s i 0) 32 ≡ x
+        → bind (tag (spaces (suc n)) (drop i s)) (λ _ z. tag (34 ∷ []) z) ≡ No
+    go ih true q = let k : i < length s = omega arith in rw (drop-cons s i 0, tag, q) (ih (omega arith) (rw f e))
+    go ih false q = let k : i < length s = omega arith in rw (drop-cons s i 0, tag, q)
+
+module _ (s : List ℕ) (at indent : ℕ) (r : Step) (h : Emptied s at (lineEnd (drop at s)) r) where
+  pub second-no : r ≡ step.No → StepOne s at (secondQuote indent (drop at s)) step.No
+  unfolding secondQuote feed
+  second-no e = record { is = rw (← h .is, e); place = tt }
+
+  pub second-cut : r ≡ step.Cut → StepOne s at (secondQuote indent (drop at s)) step.Cut
+  unfolding secondQuote feed
+  second-cut e = record { is = rw (← h .is, e); place = tt }
+
+  module _ (n : ℕ) (e : r ≡ step.Got n) where
+    pub second-else : indent < length s - n → (getD s (n + indent) 0 ≡ 34 → ⊥) → StepOne s at (secondQuote indent (drop at s)) step.No
+    unfolding secondQuote feed
+    second-else l f = record { is = rw (← h .is, e) (sym (else-after s indent n (omega arith) f)); place = tt }
+
+    module _ (q : Step) (g : Stepped s n (tag (spaces indent) (drop n s)) q) where
+      pub second-unfed : q ≡ step.No → StepOne s at (secondQuote indent (drop at s)) step.No
+      unfolding secondQuote feed
+      second-unfed f = record { is = rw (← h .is, e, ← g .is, f); place = tt }
+
+      pub second-unclear : q ≡ step.Cut → StepOne s at (secondQuote indent (drop at s)) step.Cut
+      unfolding secondQuote feed
+      second-unclear f = record { is = rw (← h .is, e, ← g .is, f); place = tt }
+
+      pub second-got : (m : ℕ) (x : Step) → q ≡ step.Got m → QuoteStep s m (tag (34 ∷ []) (drop m s)) x → StepOne s at (secondQuote indent (drop at s)) x
+      unfolding secondQuote feed
+      second-got m x f p =
+          let a = empty-places h e in
+          let b = step-places g f in
+          rw (← h .is, e, ← g .is, f) (to-quote s at m _ (omega arith) x p)
+
+pub ruleset seconds = (second-no, second-cut, second-else, second-unfed, second-unclear, second-got)
+
 -- ---- two quotes with a line's end between them
 
 module _ (s : List ℕ) (at indent : ℕ) (r : Step) (h : QuoteStep s at (tag (34 ∷ []) (drop at s)) r) where
@@ -123,21 +174,11 @@ module _ (s : List ℕ) (at indent : ℕ) (r : Step) (h : QuoteStep s at (tag (3
   unfolding splitQuote
   split-cut e = record { is = rw (← h .is, e); place = tt }
 
-  module _ (n : ℕ) (e : r ≡ step.Got n) (q : Step) (g : StepOne s n (feed indent (drop n s)) q) where
-    pub split-unfed : q ≡ step.No → QuoteStep s at (splitQuote indent (drop at s)) step.No
-    unfolding splitQuote
-    split-unfed f = record { is = rw (quote-is h e, ← g .is, f); place = tt }
+  pub split-got : (n : ℕ) (x : Step) → r ≡ step.Got n → StepOne s n (secondQuote indent (drop n s)) x → QuoteStep s at (splitQuote indent (drop at s)) x
+  unfolding splitQuote
+  split-got n x e q = rw (quote-is h e) (from-quote s at n _ (quote-span h e) x q)
 
-    pub split-unclear : q ≡ step.Cut → QuoteStep s at (splitQuote indent (drop at s)) step.Cut
-    unfolding splitQuote
-    split-unclear f = record { is = rw (quote-is h e, ← g .is, f); place = tt }
-
-    pub split-got : (m : ℕ) (x : Step) → q ≡ step.Got m → QuoteStep s m (tag (34 ∷ []) (drop m s)) x → QuoteStep s at (splitQuote indent (drop at s)) x
-    unfolding splitQuote
-    split-got m x f p =
-        let k = one-places g f in rw (quote-is h e, one-is g f) (from-quote s at n m _ (quote-span h e) (omega arith) x p)
-
-pub ruleset splits = (quote-within, one-within, split-no, split-cut, split-unfed, split-unclear, split-got)
+pub ruleset splits = (quote-within, split-no, split-cut, split-got)
 
 -- ---- escapes
 
@@ -166,7 +207,7 @@ module _ (indent : ℕ) where
   fed Cut = refl
 
   escape-is : (z : List ℕ) → escape indent z ≡ orElse (mapped (λ _. 34) (tag (34 ∷ 34 ∷ []) z)) (laterEscape indent z)
-  unfolding escape laterEscape splitQuote feed
+  unfolding escape laterEscape splitQuote secondQuote feed
   escape-is z = rw (outer (tag (34 ∷ []) z), fed (lineEnd z))
 
 module _ (s : List ℕ) (at indent : ℕ) (r : Step) (h : QuoteStep s at (splitQuote indent (drop at s)) r) where

@@ -25,9 +25,13 @@ use Rattle.read_feature_quoted.specs.declared.Turn.the-variants as turn
 unfoldable pub feed : ℕ → List ℕ → Ans Unit
 feed indent s = bind (lineEnd s) λ _ s. tag (spaces indent) s
 
+-- a line's end, the indent and a quote
+unfoldable pub secondQuote : ℕ → List ℕ → Ans Unit
+secondQuote indent s = bind (feed indent s) λ _ s. tag (34 ∷ []) s
+
 -- two quotes that a line's end parts
 unfoldable pub splitQuote : ℕ → List ℕ → Ans Unit
-splitQuote indent s = bind (tag (34 ∷ []) s) λ _ s. bind (feed indent s) λ _ s. tag (34 ∷ []) s
+splitQuote indent s = bind (tag (34 ∷ []) s) λ _ s. secondQuote indent s
 
 -- the escapes but two quotes side by side
 unfoldable pub laterEscape : ℕ → List ℕ → Ans ℕ

@@ -16,7 +16,7 @@ ghost use Rattle.read_feature_joined.specs.Views.{Valued};
 ghost use Rattle.base_pen.specs.Pen.{Writes};
 ghost use Rattle.scan_bytes.specs.Places.{part};
 ghost use Rattle.scan_utf8.specs.States.{ascii, Ran};
-ghost use Rattle.read_feature_quoted.specs.Escapes.{feed, splitQuote, laterEscape, QuoteStep, StepOne, Escaped, Known, Onward, Plain, PlainRun, Closed, Turned, feedText, Pieced, quotedText};
+ghost use Rattle.read_feature_quoted.specs.Escapes.{feed, secondQuote, splitQuote, laterEscape, QuoteStep, StepOne, Escaped, Known, Onward, Plain, PlainRun, Closed, Turned, feedText, Pieced, quotedText};
 
 // What an escape stands for, a quote or a LF, and the place after it.
 enum Escape {
@@ -96,17 +96,36 @@ fn feed_at(s: &[u8], at: usize, indent: usize) -> Step
     }
 }
 
+// A line's end, the indent and a quote. Mostly no quote stands there, and then it does not matter what stands before it.
+fn second_quote(s: &[u8], at: usize, indent: usize) -> Step
+    requires { ⌜ at ≤ length (now s) ⌝ }
+    ensures { λ r. ⌜ StepOne (now (s .entry)) at (secondQuote indent (drop at (now (s .entry)))) r ⌝ }
+{
+    match scan_bytes::line_end(s, at) {
+        Step::Got(i) => {
+            if indent < s.len() - i {
+                if s[i + indent] != b'"' {
+                    return Step::No;
+                }
+            }
+            match scan_bytes::indent(s, i, indent) {
+                Step::Got(j) => quote_at(s, j),
+                Step::No => Step::No,
+                Step::Cut => Step::Cut,
+            }
+        }
+        Step::No => Step::No,
+        Step::Cut => Step::Cut,
+    }
+}
+
 // Two quotes with a line's end and the indent between them.
 fn split_at(s: &[u8], at: usize, indent: usize) -> Step
     requires { ⌜ at ≤ length (now s) ⌝ }
     ensures { λ r. ⌜ QuoteStep (now (s .entry)) at (splitQuote indent (drop at (now (s .entry)))) r ⌝ }
 {
     match quote_at(s, at) {
-        Step::Got(i) => match feed_at(s, i, indent) {
-            Step::Got(j) => quote_at(s, j),
-            Step::No => Step::No,
-            Step::Cut => Step::Cut,
-        },
+        Step::Got(i) => second_quote(s, i, indent),
         Step::No => Step::No,
         Step::Cut => Step::Cut,
     }

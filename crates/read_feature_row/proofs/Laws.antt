@@ -1,6 +1,6 @@
 -- One feature put into rooms, and its row. Assumes nothing.
 use Prim.Native.Nat.{ℕ, _+_, _-_, _≤_, _<_, _^_}
-use mathlib.Core.Bool.{false}
+use mathlib.Core.Bool.{Bool, true, false}
 use mathlib.Core.Path.{_≡_, refl, sym, ap, subst}
 use mathlib.Core.List.{List, [], _∷_}
 use native.Mathlib.Omega.{arith}
@@ -12,9 +12,9 @@ use Rattle.spec_format.specs.Location.{locates, rowsIn}
 use Rattle.spec_format.specs.Rooms.{piecesText, piecesRow, featurePieces, qualifierPieces, textsOf, rowsOf, featureText}
 use Rattle.scan_bytes.specs.Places.{part}
 use Rattle.scan_bytes.specs.Parts.{length-part}
-use Rattle.base_pen.specs.Pen.{Wrote, Writes, wrote-append}
+use Rattle.base_pen.specs.Pen.{Wrote, Writes, wrote-append, writes-as}
 use Rattle.base_pen.specs.Filling.{wrote-as}
-use Rattle.read_feature_location.specs.Places.{LocationPut, location-put}
+use Rattle.read_feature_location.specs.Places.{LocationPut, location-places, location-put}
 use Rattle.read_feature_location.specs.declared.Located.{Located}
 use Rattle.read_feature_location.specs.declared.Located.the-variants as located
 use Rattle.read_feature_bare.specs.Bared.{bareText}
@@ -29,7 +29,14 @@ use Rattle.read_feature_qualifier_rows.specs.declared.Run.{Run}
 use Rattle.read_feature_qualifier_rows.specs.Puts.{WroteTwo, PutTwo, QualifiersPut}
 use Rattle.read_feature_row.specs.declared.Reached.{Reached}
 use Rattle.read_feature_row.specs.declared.Made.{Made}
-use Rattle.read_feature_row.specs.Makes.{Ahead, noRow, rowOf, underOf, FeatureWrote, RowThen, RowMade, LocationsThen, FeaturePut}
+use Rattle.read_feature_row.specs.Makes.{Ahead, LineTold, noRow, rowOf, underOf, FeatureWrote, RowThen, RowMade, LocationsThen, FeaturePut}
+
+-- ---- the text of a location
+
+-- in one line it is a part of the slice
+pub told-put : (s : List ℕ) (at indent long : ℕ) (line : Bool) (old new : List ℕ) (place next : ℕ)
+    → LineTold s at indent long line → line ≡ true → Writes old place (part at (at + long) s) new next → Writes old place (bareText indent (drop at s)) new next
+told-put s at indent long line old new place next h e w = writes-as (sym (h .single e)) w
 
 -- ---- one feature
 
@@ -136,8 +143,15 @@ module _ (s : List ℕ) (p : Reached) (first end′ location long rows rest : �
 
 pub location-placed : (s : List ℕ) (p : Reached) (first end′ location : ℕ) (l₀ l₁ : List ℕ) (v : Located)
     → LocationPut s location (bareText (location - p .at) (drop location s)) (passing (locates false) (bare (location - p .at) (drop location s))) l₀ l₁ (p .location) v
-    → (long rest rows : ℕ) → p .at < first → first < end′ → end′ < location → v ≡ located.Got long rest rows → Placed s (p .at) first end′ location long rows rest
-location-placed s p first end′ location l₀ l₁ v h long rest rows a b c e = placed s (p .at) first end′ location v (h .found) long rest rows a b c e
+    → (long rest rows : ℕ) (line : Bool) → p .at < first → first < end′ → end′ < location → v ≡ located.Got long rest rows line → Placed s (p .at) first end′ location long rows rest
+location-placed s p first end′ location l₀ l₁ v h long rest rows line a b c e = placed s (p .at) first end′ location v (h .found) long rest rows line a b c e
+
+pub location-told : (s : List ℕ) (p : Reached) (location : ℕ) (l₀ l₁ : List ℕ) (v : Located)
+    → LocationPut s location (bareText (location - p .at) (drop location s)) (passing (locates false) (bare (location - p .at) (drop location s))) l₀ l₁ (p .location) v
+    → (long rest rows : ℕ) (line : Bool) → v ≡ located.Got long rest rows line → LineTold s location (location - p .at) long line
+location-told s p location l₀ l₁ v h long rest rows line e =
+    let k = location-places (h .found) e in
+    record { within = omega (arith, k .span .short, k .span .within); single = k .single }
 
 module _ (s : List ℕ) (p : Reached) (t₀ t₁ q₀ q₁ l₀ l₁ : List ℕ) (r : Made) where
   -- where none starts
@@ -148,8 +162,8 @@ module _ (s : List ℕ) (p : Reached) (t₀ t₁ q₀ q₁ l₀ l₁ : List ℕ)
   module _ (first end′ location : ℕ) (v : Located)
       (h : LocationPut s location (bareText (location - p .at) (drop location s)) (passing (locates false) (bare (location - p .at) (drop location s))) l₀ l₁ (p .location) v) where
     -- the rows that were put are those of the feature, whatever its qualifiers
-    rows-put : (long rest rows : ℕ) → v ≡ located.Got long rest rows → LocationsThen p (featureRest s (p .at) first end′ location rest) l₀ l₁
-    rows-put long rest rows e = go (end (fitTurn (qualifier (location - p .at))) (drop rest s))
+    rows-put : (long rest rows : ℕ) (line : Bool) → v ≡ located.Got long rest rows line → LocationsThen p (featureRest s (p .at) first end′ location rest) l₀ l₁
+    rows-put long rest rows line e = go (end (fitTurn (qualifier (location - p .at))) (drop rest s))
       where
         go : (o : Ans Unit) → LocationsThen p
             (bind (bind o λ _ z. Got (qualifiersIn s (location - p .at) rest) z) λ qualifiers z.
@@ -163,10 +177,10 @@ module _ (s : List ℕ) (p : Reached) (t₀ t₁ q₀ q₁ l₀ l₁ : List ℕ)
         go No = tt
         go Cut = tt
 
-    pub location-got : (long rest rows : ℕ) → v ≡ located.Got long rest rows → RowMade s p (featureRest s (p .at) first end′ location rest) t₀ t₁ q₀ q₁ r
+    pub location-got : (long rest rows : ℕ) (line : Bool) → v ≡ located.Got long rest rows line → RowMade s p (featureRest s (p .at) first end′ location rest) t₀ t₁ q₀ q₁ r
         → FeaturePut s p (featureFrom (location - p .at) (part first end′ s) (drop location s)) t₀ t₁ q₀ q₁ l₀ l₁ r
-    location-got long rest rows e g =
-        rw (location-is s (p .at) first end′ location v (h .found) long rest rows e) (record { made = g; locations = rows-put long rest rows e })
+    location-got long rest rows line e g =
+        rw (location-is s (p .at) first end′ location v (h .found) long rest rows line e) (record { made = g; locations = rows-put long rest rows line e })
 
     pub location-no : Ahead s p → v ≡ located.No → r ≡ noRow p →
         FeaturePut s p (featureFrom (location - p .at) (part first end′ s) (drop location s)) t₀ t₁ q₀ q₁ l₀ l₁ r
@@ -191,6 +205,6 @@ module _ (s : List ℕ) (p : Reached) (t₀ t₁ q₀ q₁ l₀ l₁ : List ℕ)
     pub kind-cut : Ahead s p → k ≡ kind.Cut → r ≡ noRow p → FeaturePut s p (feature (drop (p .at) s)) t₀ t₁ q₀ q₁ l₀ l₁ r
     kind-cut ready e d = let b = kind-short s (p .at) k h e in none-made _ ready (rw b tt) (rw b tt) d
 
-pub ruleset placing = (location-placed, location-got, location-no, location-cut)
+pub ruleset placing = (location-placed, location-told, location-got, location-no, location-cut)
 
 pub ruleset naming = (kinded, kind-got, kind-no, kind-cut)

@@ -1,6 +1,7 @@
 -- What a made row is: its numbers are those that the feature has in flat rooms, and the feature's texts, its qualifiers' and its location's rows are put.
 use Prim.Native.Nat.{ℕ, _+_, _*_, _≤_, _<_, _^_}
 use mathlib.Core.Path.{_≡_}
+use mathlib.Core.Bool.{Bool, true}
 use mathlib.Core.List.{List, [], _∷_, _++_}
 use lib.ListN.{length, drop}
 use lib.Seq.{sets}
@@ -8,8 +9,10 @@ use Rattle.spec_format.specs.Table.{Feature}
 use Rattle.spec_format.specs.Readers.{Ans, Got, No, Cut}
 use Rattle.spec_format.specs.Record.{most}
 use Rattle.spec_format.specs.Rooms.{piecesText, piecesRow, featurePieces, qualifierPieces, rowsOf, featureText, featureLocations}
+use Rattle.scan_bytes.specs.Places.{part}
 use Rattle.base_pen.specs.Pen.{Wrote}
 use Rattle.base_rows.specs.Rows.{numbers}
+use Rattle.read_feature_bare.specs.Bared.{bareText}
 use Rattle.read_feature_row.specs.declared.Reached.{Reached}
 use Rattle.read_feature_row.specs.declared.Made.{Made}
 
@@ -20,6 +23,11 @@ pub record Ahead (s : List ℕ) (p : Reached) : Type 0 where
   pub within : p .at ≤ length s
   pub short : length s ≤ most
   pub next : p .row + 1 < 2 ^ 64
+
+-- a bare text of `long` bytes from `at` on, of which `line` is said only where it stands in one line
+pub record LineTold (s : List ℕ) (at indent long : ℕ) (line : Bool) : Type 0 where
+  pub within : at + long ≤ length s
+  pub single : line ≡ true → bareText indent (drop at s) ≡ part at (at + long) s
 
 -- where none starts
 abbrev pub noRow : Reached → Made

@@ -8,8 +8,10 @@ ghost use Prim.Native.Nat.{_+_, _-_, _≤_, _<_, _^_};
 ghost use lib.ListN.{length, drop};
 ghost use Rattle.spec_format.specs.Features.{featureFrom, feature};
 ghost use Rattle.scan_bytes.specs.Places.{part};
+ghost use Rattle.base_pen.specs.Pen.{Writes};
+ghost use Rattle.read_feature_bare.specs.Bared.{bareText};
 ghost use Rattle.read_feature_table.specs.Reads.{Placed, featureRest};
-ghost use Rattle.read_feature_row.specs.Makes.{noRow, Ahead, RowMade, FeaturePut};
+ghost use Rattle.read_feature_row.specs.Makes.{noRow, Ahead, LineTold, RowMade, FeaturePut};
 
 // Where reading goes on; where the next text goes; which row is the next; where the next qualifier's row goes; and how many qualifiers and location rows were put.
 pub struct Reached {
@@ -57,6 +59,25 @@ fn no_row(reached: Reached) -> Made
     }
 }
 
+// The text of a location that is `long` bytes; where `line` says that it stands in one line, with no look for further ones.
+fn put_text(
+    s: &[u8],
+    at: usize,
+    indent: usize,
+    long: usize,
+    line: bool,
+    texts: &mut [u8],
+    place: usize,
+) -> usize
+    requires { ⌜ LineTold (now s) at indent long line ⌝ }
+    ensures { λ r. ⌜ Writes (now (texts .entry)) place (bareText indent (drop at (now (s .entry)))) (now (texts .exit)) r ⌝ }
+{
+    if line {
+        return base_pen::put_part(texts, place, s, at, at + long);
+    }
+    read_feature_bare::put_bare(s, at, indent, texts, place)
+}
+
 // A feature whose kind is scanned and whose location is too, with its rows put.
 fn make_located(
     s: &[u8],
@@ -66,17 +87,18 @@ fn make_located(
     long: usize,
     rows: usize,
     rest: usize,
+    line: bool,
     texts: &mut [u8],
     qualifiers: &mut [usize],
     reached: Reached,
 ) -> Made
-    requires { ⌜ Ahead (now s) reached × Placed (now s) (reached .at) first end location long rows rest ⌝ }
+    requires { ⌜ Ahead (now s) reached × Placed (now s) (reached .at) first end location long rows rest × LineTold (now s) location (location - reached .at) long line ⌝ }
     ensures { λ r. ⌜ RowMade (now (s .entry)) reached (featureRest (now (s .entry)) (reached .at) first end location rest) (now (texts .entry)) (now (texts .exit)) (now (qualifiers .entry)) (now (qualifiers .exit)) r ⌝ }
 {
     let indent = location - reached.at;
     let place = reached.text;
     let start = base_pen::put_part(texts, place, s, first, end);
-    let stop = read_feature_bare::put_bare(s, location, indent, texts, start);
+    let stop = put_text(s, location, indent, long, line, texts, start);
     let run = read_feature_qualifier_rows::put_qualifiers(
         s,
         rest,
@@ -131,7 +153,12 @@ fn make_kinded(
 {
     let indent = location - reached.at;
     match read_feature_location::put_location(s, location, indent, locations, reached.location) {
-        Located::Got { length, next, rows } => make_located(
+        Located::Got {
+            length,
+            next,
+            rows,
+            line,
+        } => make_located(
             s,
             first,
             end,
@@ -139,6 +166,7 @@ fn make_kinded(
             length,
             rows,
             next,
+            line,
             texts,
             qualifiers,
             reached,

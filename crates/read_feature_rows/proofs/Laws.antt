@@ -9,7 +9,7 @@ use Rattle.spec_format.specs.Bytes.{each}
 use Rattle.spec_format.specs.Table as table
 use Rattle.spec_format.specs.Readers.{Ans, Got, No, Cut}
 use Rattle.spec_format.specs.Features.{feature}
-use Rattle.spec_format.specs.Rooms.{piecesRow, featureText, featureRows, qualifierRows, featureLocations, locationNumbers}
+use Rattle.spec_format.specs.Rooms.{piecesRow, featureText, featureRows, qualifierRows, featureLocations}
 use Rattle.spec_loops.specs.Loops.{try-members-more, try-members-no, try-members-cut}
 use Rattle.spec_loops.specs.Shrinks.{feature-small}
 use Rattle.base_pen.specs.Pen.{Wrote}
@@ -17,6 +17,7 @@ use Rattle.base_pen.specs.Filling.{Filling, filling-start, filling-as, filling-
 use Rattle.base_rows.specs.declared.Feature.{Feature}
 use Rattle.base_rows.specs.Rows.{flat}
 use Rattle.base_rows.specs.Flat.{flat-set}
+use Rattle.read_location_row.specs.Rows.{numbers-length}
 use Rattle.read_feature_table.specs.Reads.{featuresIn}
 use Rattle.read_feature_qualifier_rows.specs.Puts.{Fits, FeaturesPut}
 use Rattle.read_feature_row.specs.declared.Reached.{Reached}
@@ -46,11 +47,6 @@ row-long : (at q l : ℕ) (f : table.Feature) → length (rowOf at q l f) ≡ 8
 unfolding piecesRow
 row-long at q l f = refl
 
-numbers-long : (ls : List table.LocationRow) → length (locationNumbers ls) ≡ 7 * length ls
-unfolding locationNumbers
-numbers-long [] = refl
-numbers-long (l ∷ ls) = rw (numbers-long ls) (omega arith)
-
 no-more : (fs : List table.Feature) → length fs ≡ 0 → fs ≡ []
 no-more [] e = refl
 no-more (f ∷ fs) e = absurd (omega arith)
@@ -78,7 +74,7 @@ module _ {place : ℕ} {all : List table.Feature} {t₀ : List ℕ} {l₀ : List
       let e : p .location + length (x .rows) ≡ m .reached .location = sym (w .located) in
       let r : Wrote (flat l) (8 * p .row) (rowOf (p .text) (p .count) (p .location) x) (flat (set l (p .row) (m .row))) (8 * m .reached .row) =
       record { is = rw (← v .row) (flat-set l (p .row) (m .row)); to = omega (arith, n, row-long (p .text) (p .count) (p .location) x) } in
-      let y : Wrote n′ (7 * p .location) (featureLocations x) n″ (7 * m .reached .location) = record { is = u; to = omega (arith, w .located, numbers-long (x .rows)) } in
+      let y : Wrote n′ (7 * p .location) (featureLocations x) n″ (7 * m .reached .location) = record { is = u; to = omega (arith, w .located, numbers-length (x .rows)) } in
       record {
         texts = filling-step (h .texts) (v .texts);
         rows = rw (← d, ← c, ← e) (filling-step g r);

@@ -1,7 +1,7 @@
 -- One feature by its kind, its location and its qualifiers, and the loop over features: each turn, and each way out. Assumes nothing.
 use Prim.Native.Nat.{ℕ, _+_, _-_, _≤_, _<_}
 use mathlib.Core.Path.{_≡_, refl, ap, subst, _∙_}
-use mathlib.Core.Bool.{false}
+use mathlib.Core.Bool.{Bool, false}
 use mathlib.Core.List.{List, [], _∷_}
 use native.Mathlib.Omega.{arith}
 use lib.ListN.{length, drop, length-append}
@@ -87,9 +87,9 @@ pub ruleset resting = (rest-got, rest-fits, rest-cut)
 
 module _ (s : List ℕ) (at first end location : ℕ) (r : Located)
     (h : LocationFound s location (bareText (location - at) (drop location s)) (passing (locates false) (bare (location - at) (drop location s))) r) where
-  pub location-got : (long rest rows : ℕ) (x : FeatureAt) → r ≡ located.Got long rest rows → FeatureRead s at (featureRest s at first end location rest) x
+  pub location-got : (long rest rows : ℕ) (line : Bool) (x : FeatureAt) → r ≡ located.Got long rest rows line → FeatureRead s at (featureRest s at first end location rest) x
       → FeatureRead s at (featureFrom (location - at) (part first end s) (drop location s)) x
-  location-got long rest rows x e g = rw (location-is s at first end location r h long rest rows e) g
+  location-got long rest rows line x e g = rw (location-is s at first end location r h long rest rows line e) g
 
   pub location-no : r ≡ located.No → FeatureRead s at (featureFrom (location - at) (part first end s) (drop location s)) one.No
   location-no e = record { is = location-bad s at first end location r h e }

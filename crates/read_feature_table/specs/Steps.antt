@@ -1,7 +1,7 @@
 -- A feature by what was read of it first: its kind, then its location.
 use Prim.Native.Nat.{ℕ, _-_, _≤_, _<_}
 use mathlib.Core.Path.{_≡_, subst}
-use mathlib.Core.Bool.{false}
+use mathlib.Core.Bool.{Bool, false}
 use mathlib.Core.List.{List}
 use lib.ListN.{length, drop}
 use Rattle.spec_format.specs.Readers.{No, Cut, passing}
@@ -51,9 +51,9 @@ pub ruleset kinded = (kind-before, kind-some, kind-gap, kind-within)
 
 module _ (s : List ℕ) (at first end location : ℕ) (r : Located)
     (h : LocationFound s location (bareText (location - at) (drop location s)) (passing (locates false) (bare (location - at) (drop location s))) r) where
-  pub placed : (long rest rows : ℕ) → at < first → first < end → end < location → r ≡ located.Got long rest rows → Placed s at first end location long rows rest
-  placed long rest rows a b c e =
-      let k : LocationSpan s location (bareText (location - at) (drop location s)) long rest rows = location-places h e in
+  pub placed : (long rest rows : ℕ) (line : Bool) → at < first → first < end → end < location → r ≡ located.Got long rest rows line → Placed s at first end location long rows rest
+  placed long rest rows line a b c e =
+      let k : LocationSpan s location (bareText (location - at) (drop location s)) long rest rows line = location-places h e in
       record {
         before = a;
         kind = b;
@@ -66,10 +66,10 @@ module _ (s : List ℕ) (at first end location : ℕ) (r : Located)
         within = k .span .within;
       }
 
-  pub location-is : (long rest rows : ℕ) → r ≡ located.Got long rest rows
+  pub location-is : (long rest rows : ℕ) (line : Bool) → r ≡ located.Got long rest rows line
       → featureFrom (location - at) (part first end s) (drop location s) ≡ featureRest s at first end location rest
   unfolding featureFrom
-  location-is long rest rows e = rw (found-is h e)
+  location-is long rest rows line e = rw (found-is h e)
 
   pub location-bad : r ≡ located.No → featureFrom (location - at) (part first end s) (drop location s) ≡ No
   unfolding featureFrom

@@ -60,9 +60,12 @@ fn feature_from(s: &[u8], at: usize, first: usize, end: usize, location: usize) 
     ensures { λ r. ⌜ FeatureRead (now (s .entry)) at (featureFrom (location - at) (part first end (now (s .entry))) (drop location (now (s .entry)))) r ⌝ }
 {
     match read_feature_location::location_at(s, location, location - at) {
-        Located::Got { length, next, rows } => {
-            feature_rest(s, at, first, end, location, length, rows, next)
-        }
+        Located::Got {
+            length,
+            next,
+            rows,
+            line: _,
+        } => feature_rest(s, at, first, end, location, length, rows, next),
         Located::No => FeatureAt::No,
         Located::Cut => FeatureAt::Cut,
     }

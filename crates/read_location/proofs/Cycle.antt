@@ -23,6 +23,9 @@ use Rattle.scan_location.specs.declared.Plain.the-variants as plains
 use Rattle.scan_location.specs.declared.Begun.{Begun}
 use Rattle.scan_location.specs.declared.Begun.the-variants as begun
 use Rattle.scan_location.specs.Views.{rowOf, AtPlain, Plained, AtBegun, Begins}
+use Rattle.scan_location_usual.specs.declared.Ranged.{Ranged}
+use Rattle.scan_location_usual.specs.declared.Ranged.the-variants as rangeds
+use Rattle.scan_location_usual.specs.Usuals.{rangeRow, AtRanged, RangedAt}
 use Rattle.read_location_row.specs.declared.Pen.{Pen}
 use Rattle.read_location.specs.declared.RowsAt.{RowsAt}
 use Rattle.read_location.specs.declared.RowsAt.the-variants as rowsAt
@@ -42,6 +45,13 @@ module _ (o : Found LocationRow) (laid : Laid) (s : List ℕ) (p : Spot) (z : Pl
   plain-fault e seen old pen new = let a : o ≡ fault = rw e at (h .by) in record { by = ap single a }
 
 pub ruleset plainly = (plain-row, plain-fault)
+
+-- mostly a range
+pub range-row : (laid : Laid) (s : List ℕ) (p : Spot) (z : Ranged) → RangedAt laid s p z → (n m : ℕ) (q : Spot) → z ≡ rangeds.Is n m q → (gaps : Bool) (k : ℕ) (seen old : List ℕ) (pen : Pen) (new : List ℕ) (to : Pen)
+    → Noted seen old pen (rangeRow n m ∷ []) new to → Located (single (plain gaps k (view laid s (p .at)))) laid s seen old p pen new (rowsAt.Got q to)
+range-row laid s p z h n m q e gaps k seen old pen new to w =
+    let a : AtRanged laid s p n m q = rw e at (h .by) in
+    record { by = record { rows = rangeRow n m ∷ []; is = ap single (a .is .plain gaps k); noted = w; past = a .past; few = omega (arith, a .past .ahead) } }
 
 -- ---- a comma, a bracket
 pub comma-some : (laid : Laid) (s : List ℕ) (p : Spot) (form : ℕ) → (form ≡ 4 → ⊥) → (r : Word) → Reached laid s p (behind (44 ∷ []) (view laid s (p .at))) r

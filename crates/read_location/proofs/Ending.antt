@@ -4,12 +4,15 @@ use native.Mathlib.Nat.{zero-add}
 use native.Mathlib.Omega.{arith}
 use mathlib.Core.Path.{_≡_, refl, sym, ap, _∙_}
 use mathlib.Core.Bool.{Bool, true}
-use mathlib.Core.List.{List}
+use mathlib.Core.List.{List, [], _∷_}
 use lib.ListN.{length, take, drop}
 use Rattle.spec_format.specs.Bytes.{same}
 use Rattle.spec_format.specs.Table.{LocationRow}
 use Rattle.spec_format.specs.Rooms.{locationNumbers}
-use Rattle.spec_format.specs.Location.{Found, found, fault, deep, location, Reading, one, none, tooDeep, whole, reading}
+use Rattle.spec_format.specs.Location.{Found, found, fault, deep, location, Reading, one, none, tooDeep, whole, wordRow, reading}
+use Rattle.scan_location_usual.specs.declared.Usual.{Usual}
+use Rattle.scan_location_usual.specs.declared.Usual.the-variants as usuals
+use Rattle.scan_location_usual.specs.Usuals.{rangeRow, Known}
 use Rattle.scan_location_bytes.specs.declared.Laid.{Laid}
 use Rattle.scan_location_bytes.specs.declared.Spot.{Spot}
 use Rattle.scan_location_bytes.specs.declared.Peek.{Peek}
@@ -21,9 +24,9 @@ use Rattle.read_location.specs.declared.RowsAt.{RowsAt}
 use Rattle.read_location.specs.declared.RowsAt.the-variants as rowsAt
 use Rattle.read_location.specs.declared.Location.{Location}
 use Rattle.read_location.specs.declared.Location.the-variants as locations
-use Rattle.read_location_row.specs.Rows.{Noted, numbers-length}
+use Rattle.read_location_row.specs.Rows.{Noted, numbers-length, rows-append}
 use Rattle.read_location.proofs.Spots.{located-behind}
-use Rattle.read_location.specs.Reads.{Stands, AtGot, Located, Closable, locationOf, Answered, Ends}
+use Rattle.read_location.specs.Reads.{starting, Stands, AtGot, Located, Closable, locationOf, Answered, Ends}
 
 -- ---- the answers
 answer-none : {x : Reading} {seen old new : List ℕ} {first : ℕ} → x ≡ none → Answered x seen old first new locations.None
@@ -49,7 +52,7 @@ module _ (laid : Laid) (s : List ℕ) (first : ℕ) (r : RowsAt) where
   end-read q to e z h f =
       record {
         by = λ o seen old p new l.
-            let a : AtGot o laid s seen old p (record { row = first; same = true }) new q to = rw e at (l .by) in
+            let a : AtGot o laid s seen old p (starting first) new q to = rw e at (l .by) in
             let b = peek-none laid s _ z h f in answer-read (ap whole (a .is ∙ ap (found (a .rows)) b)) refl (a .noted);
       }
 
@@ -57,7 +60,7 @@ module _ (laid : Laid) (s : List ℕ) (first : ℕ) (r : RowsAt) where
   end-more q to e z h b next f =
       record {
         by = λ o seen old p new l.
-            let a : AtGot o laid s seen old p (record { row = first; same = true }) new q to = rw e at (l .by) in
+            let a : AtGot o laid s seen old p (starting first) new q to = rw e at (l .by) in
             let g = peek-byte laid s _ z h b next f in answer-none (ap whole (a .is ∙ ap (found (a .rows)) (g .is)));
       }
 
@@ -71,20 +74,44 @@ pub ruleset ending = (end-read, end-more, end-fault, end-deep)
 
 -- ---- the entry
 pub first-stands : (laid : Laid) (s : List ℕ) (at first : ℕ) → at ≤ length s → length s ≤ 16777216 → first ≤ 16777216
-    → Stands laid s (spot at 0) (record { row = first; same = true })
+    → Stands laid s (spot at 0) (starting first)
 first-stands laid s at first h g f =
     record { ready = record { within = h; short = g; below = omega arith }; room = omega arith }
 
 pub first-behind : (o : Found (List LocationRow)) (laid : Laid) (s seen old : List ℕ) (at first : ℕ) (new : List ℕ) (r : RowsAt) → at ≤ length s → length s ≤ 16777216 → first ≤ 16777216
-    → Located o laid s seen old (spot at 0) (record { row = first; same = true }) new r → Closable laid s first r
+    → Located o laid s seen old (spot at 0) (starting first) new r → Closable laid s first r
 first-behind o laid s seen old at first new r h g f l =
-    located-behind o laid s seen old (spot at 0) (record { row = first; same = true }) new r (first-stands laid s at first h g f) l
+    located-behind o laid s seen old (spot at 0) (starting first) new r (first-stands laid s at first h g f) l
 
 pub first-answered : (gaps : Bool) (laid : Laid) (s seen old : List ℕ) (at first : ℕ) (new : List ℕ) (r : RowsAt)
-    → Located (location gaps (total laid s (spot at 0)) 16 (view laid s at)) laid s seen old (spot at 0) (record { row = first; same = true }) new r
+    → Located (location gaps (total laid s (spot at 0)) 16 (view laid s at)) laid s seen old (spot at 0) (starting first) new r
     → (t : Location) → Ends laid s first r t → Answered (reading gaps (view laid s at)) seen old first new t
 unfolding reading
 first-answered gaps laid s seen old at first new r l t k =
     rw zero-add at (k .by (location gaps (total laid s (spot at 0)) 16 (view laid s at)) seen old (spot at 0) new l)
 
 pub ruleset entering = (first-stands, first-behind, first-answered)
+
+-- ---- a text in one piece that is a range or its complement
+module _ (s seen old : List ℕ) (first : ℕ) (new : List ℕ) (u : Usual) (h : Known s u) (n m : ℕ) (to : Pen) (gaps : Bool) where
+  pub usual-range : u ≡ usuals.Range n m → Noted seen old (starting first) (rangeRow n m ∷ []) new to → Answered (reading gaps s) seen old first new (locations.Read 1 (to .same))
+  usual-range e k =
+      let a : (g : Bool) → reading g s ≡ one (rangeRow n m ∷ []) = rw e at (h .by) in
+      let r : to .row - first ≡ 1 = omega (arith, k .row) in
+      rw r at (answer-read {pen = starting first} (a gaps) refl k)
+
+  pub usual-complement : u ≡ usuals.Complement n m → Noted seen old (starting first) (rangeRow n m ∷ wordRow 4 1 ∷ []) new to
+      → Answered (reading gaps s) seen old first new (locations.Read 2 (to .same))
+  usual-complement e k =
+      let a : (g : Bool) → reading g s ≡ one (rangeRow n m ∷ wordRow 4 1 ∷ []) = rw e at (h .by) in
+      let r : to .row - first ≡ 2 = omega (arith, k .row) in
+      rw r at (answer-read {pen = starting first} (a gaps) refl k)
+
+pub row-behind : (seen old mid new : List ℕ) (p q r : Pen) (a b : LocationRow) → Noted seen old p (a ∷ []) mid q → Noted seen mid q (b ∷ []) new r
+    → Noted seen old p (a ∷ b ∷ []) new r
+row-behind seen old mid new p q r a b f g = rows-append f g
+
+pub row-next : (seen old new : List ℕ) (p q : Pen) (a : LocationRow) → Noted seen old p (a ∷ []) new q → p .row ≤ 16777216 → q .row ≤ 100000000
+row-next seen old new p q a h l = omega (arith, h .row)
+
+pub ruleset usually = (usual-range, usual-complement, row-behind, row-next)

@@ -19,6 +19,10 @@ use Rattle.read_location.specs.declared.Location.{Location}
 use Rattle.read_location.specs.declared.Location.the-variants as locations
 use Rattle.read_location_row.specs.Rows.{Noted}
 
+-- the pen that puts rows from `first` on
+abbrev pub starting : ℕ → Pen
+starting first = record { row = first; same = true }
+
 -- a spot and a pen from which to read: each row so far has a byte of its own, so that no number of a row wraps
 pub record Stands (laid : Laid) (s : List ℕ) (p : Spot) (pen : Pen) : Type 0 where
   pub ready : Ready laid s p
@@ -73,5 +77,5 @@ pub record Answered (x : Reading) (seen old : List ℕ) (first : ℕ) (new : Lis
 
 -- whatever r says of what was read from row `first` on, t answers of the whole text
 pub record Ends (laid : Laid) (s : List ℕ) (first : ℕ) (r : RowsAt) (t : Location) : Type 0 where
-  pub by : (o : Found (List LocationRow)) (seen old : List ℕ) (p : Spot) (new : List ℕ) → Located o laid s seen old p (record { row = first; same = true }) new r
+  pub by : (o : Found (List LocationRow)) (seen old : List ℕ) (p : Spot) (new : List ℕ) → Located o laid s seen old p (starting first) new r
       → Answered (whole o) seen old first new t

@@ -7,11 +7,15 @@ use scan_location_bytes::Laid;
 use scan_location_bytes::Peek;
 use scan_location_bytes::Spot;
 use scan_location_bytes::Word;
-ghost use mathlib.Core.List.{[]};
+use scan_location_usual::Ranged;
+use scan_location_usual::Usual;
+ghost use mathlib.Core.List.{[], _∷_};
 ghost use Prim.Native.Nat.{suc, _≤_};
 ghost use lib.ListN.{length};
-ghost use Rattle.spec_format.specs.Location.{word, commaIn, single, plain, membersIn, locationFrom, location, reading};
+ghost use Rattle.spec_format.specs.Location.{word, commaIn, single, plain, wordRow, membersIn, locationFrom, location, reading};
 ghost use Rattle.scan_location_bytes.specs.Views.{view, total, Ready, Reached};
+ghost use Rattle.scan_location_usual.specs.Usuals.{rangeRow};
+ghost use Rattle.read_location_row.specs.Rows.{Noted};
 ghost use Rattle.read_location.specs.Reads.{Stands, Located, Closable, Closes, Answered, Ends};
 
 // ---- the cycle: a location, a word, its members
@@ -23,8 +27,25 @@ enum RowsAt {
     Deep,
 }
 
-// A location of one row.
-fn plain_in(
+// The row of a range.
+fn range_noted(out: &mut [usize], seen: &[usize], pen: Pen, from: usize, to: usize) -> Pen
+    requires { ⌜ pen .row ≤ 100000000 ⌝ }
+    ensures { λ r. ⌜ Noted (now (seen .entry)) (now (out .entry)) pen (rangeRow from to ∷ []) (now (out .exit)) r ⌝ }
+{
+    let row = Row {
+        form: 2,
+        marks: 0,
+        from,
+        to,
+        start: 0,
+        length: 0,
+        inside: 0,
+    };
+    read_location_row::note_row(out, seen, pen, row)
+}
+
+// A location of one row, whatever it is made of.
+fn any_plain_in(
     s: &[u8],
     laid: Laid,
     gaps: bool,
@@ -48,6 +69,35 @@ fn plain_in(
     }
 }
 
+// The same, mostly a range.
+fn plain_in(
+    s: &[u8],
+    laid: Laid,
+    gaps: bool,
+    spot: Spot,
+    out: &mut [usize],
+    seen: &[usize],
+    pen: Pen,
+) -> RowsAt
+    requires { ⌜ Stands laid (now s) spot pen ⌝ }
+    ensures { λ r. ⌜ Located (single (plain gaps (total laid (now (s .entry)) spot) (view laid (now (s .entry)) (spot .at)))) laid (now (s .entry)) (now (seen .entry)) (now (out .entry)) spot pen (now (out .exit)) r ⌝ }
+{
+    match scan_location_usual::range_at(s, laid, spot) {
+        Ranged::Is {
+            from,
+            to,
+            spot: behind,
+        } => {
+            let next = range_noted(out, seen, pen, from, to);
+            RowsAt::Got {
+                spot: behind,
+                pen: next,
+            }
+        }
+        Ranged::Other => any_plain_in(s, laid, gaps, spot, out, seen, pen),
+    }
+}
+
 // A comma, where the word of this form may have more members.
 fn comma_at(s: &[u8], laid: Laid, form: usize, spot: Spot) -> Word
     requires { ⌜ Ready laid (now s) spot ⌝ }
@@ -56,7 +106,7 @@ fn comma_at(s: &[u8], laid: Laid, form: usize, spot: Spot) -> Word
     if form == 4 {
         return Word::Other;
     }
-    scan_location_bytes::word_at(s, laid, spot, b",")
+    scan_location_bytes::mark_at(s, laid, spot, b',')
 }
 
 // A word's members were read from row `first` on: its bracket, and its own row.
@@ -73,7 +123,7 @@ fn closed_by(
     ensures { λ r. ⌜ Closes form first laid (now (s .entry)) (now (seen .entry)) (now (out .entry)) (now (out .exit)) members r ⌝ }
 {
     match members {
-        RowsAt::Got { spot, pen } => match scan_location_bytes::word_at(s, laid, spot, b")") {
+        RowsAt::Got { spot, pen } => match scan_location_bytes::mark_at(s, laid, spot, b')') {
             Word::Past(behind) => {
                 let row = Row {
                     form,
@@ -192,7 +242,7 @@ fn ended(s: &[u8], laid: Laid, first: usize, r: RowsAt) -> Location
     ensures { λ t. ⌜ Ends laid (now (s .entry)) first r t ⌝ }
 {
     match r {
-        RowsAt::Got { spot, pen } => match scan_location_bytes::byte_at(s, laid, spot.at) {
+        RowsAt::Got { spot, pen } => match scan_location_bytes::byte_or_end(s, laid, spot.at) {
             Peek::End => Location::Read {
                 rows: pen.row - first,
                 same: pen.same,
@@ -225,4 +275,50 @@ pub fn location_at(
     };
     let r = location_in(s, laid, gaps, spot, 16, out, seen, pen);
     ended(s, laid, first, r)
+}
+
+// The row of a range's complement, behind that of the range.
+fn complement_noted(out: &mut [usize], seen: &[usize], pen: Pen, from: usize, to: usize) -> Pen
+    requires { ⌜ pen .row ≤ 16777216 ⌝ }
+    ensures { λ r. ⌜ Noted (now (seen .entry)) (now (out .entry)) pen (rangeRow from to ∷ wordRow 4 1 ∷ []) (now (out .exit)) r ⌝ }
+{
+    let next = range_noted(out, seen, pen, from, to);
+    let row = Row {
+        form: 4,
+        marks: 0,
+        from: 0,
+        to: 0,
+        start: 0,
+        length: 0,
+        inside: 1,
+    };
+    read_location_row::note_row(out, seen, next, row)
+}
+
+// The location whose text is all of `s`: mostly a range or its complement, whose rows are known at once.
+pub fn piece_at(s: &[u8], gaps: bool, out: &mut [usize], seen: &[usize], first: usize) -> Location
+    requires { ⌜ (length (now s) ≤ 16777216) × (first ≤ 16777216) ⌝ }
+    ensures { λ r. ⌜ Answered (reading gaps (now (s .entry))) (now (seen .entry)) (now (out .entry)) first (now (out .exit)) r ⌝ }
+{
+    let pen = Pen {
+        row: first,
+        same: true,
+    };
+    match scan_location_usual::usual_at(s) {
+        Usual::Range { from, to } => {
+            let behind = range_noted(out, seen, pen, from, to);
+            Location::Read {
+                rows: 1,
+                same: behind.same,
+            }
+        }
+        Usual::Complement { from, to } => {
+            let behind = complement_noted(out, seen, pen, from, to);
+            Location::Read {
+                rows: 2,
+                same: behind.same,
+            }
+        }
+        Usual::Other => location_at(s, Laid::Piece, gaps, 0, out, seen, first),
+    }
 }

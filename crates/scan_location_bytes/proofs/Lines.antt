@@ -3,7 +3,6 @@ use Prim.Native.Nat.{ℕ, _+_, _-_, _≤_, _<_}
 use mathlib.Core.Path.{_≡_, refl, sym, ap, subst, _∙_}
 use mathlib.Core.Bool.{Bool, true, false}
 use mathlib.Core.List.{List, [], _∷_}
-use native.Mathlib.Numerals.{add-one}
 use native.Mathlib.Omega.{arith}
 use lib.ListN.{length, getD, drop, drop-of-length-le}
 use lib.Seq.{drop-cons}
@@ -23,6 +22,7 @@ use Rattle.scan_location_bytes.specs.declared.Laid.the-variants as laids
 use Rattle.scan_location_bytes.specs.declared.Peek.{Peek}
 use Rattle.scan_location_bytes.specs.declared.Peek.the-variants as peek
 use Rattle.scan_location_bytes.specs.Views.{joined, overLines, lineFurther, Further, Peeked}
+use Rattle.scan_location_bytes.specs.Spots.{drop-more, view-byte}
 
 -- ---- the start of a further line
 
@@ -91,9 +91,6 @@ lines-cut contig indent s e = go (lineEnd s) refl
     go No f = impossible cc
     go Cut f = soFar-ends contig indent s f
 
-drop-more : (s : List ℕ) (i : ℕ) → i < length s → drop i s ≡ getD s i 0 ∷ drop (i + 1) s
-drop-more s i h = rw (add-one, drop-cons s i 0)
-
 starts-at : (s : List ℕ) (i : ℕ) → i < length s → inLine (getD s i 0) ≡ false → starts inLine (drop i s) ≡ false
 starts-at s i h e = ap (starts inLine) (drop-more s i h) ∙ e
 
@@ -154,18 +151,10 @@ pub ruleset linewise = (same-here, same-end, same-byte, same-on, same-less, same
 
 -- ---- the next byte, however the text lies
 
-above-in-line : (b : ℕ) → 13 < b → inLine b ≡ true
-above-in-line b h = rw (ne-eqb b 13 (λ e. omega arith), ne-eqb b 10 (λ e. omega arith))
-
 joined-nil : (laid : Laid) → joined laid [] ≡ []
 joined-nil laids.Piece = refl
 joined-nil (laids.Feature n) = soFar-nil false n
 joined-nil (laids.Contig n) = soFar-nil true n
-
-joined-byte : (laid : Laid) (b : ℕ) (s : List ℕ) → inLine b ≡ true → joined laid (b ∷ s) ≡ b ∷ joined laid s
-joined-byte laids.Piece b s h = refl
-joined-byte (laids.Feature n) b s h = soFar-byte false n b s h
-joined-byte (laids.Contig n) b s h = soFar-byte true n b s h
 
 module _ (s : List ℕ) (at : ℕ) where
   pub peek-end : (laid : Laid) → length s ≤ at → Peeked laid s at peek.End
@@ -173,13 +162,7 @@ module _ (s : List ℕ) (at : ℕ) where
 
   pub peek-above : (laid : Laid) → at < length s → 13 < getD s at 0 → Peeked laid s at (peek.Byte (getD s at 0) (at + 1))
   peek-above laid h g =
-      record {
-        by = record {
-          is = ap (joined laid) (drop-more s at h) ∙ joined-byte laid (getD s at 0) (drop (at + 1) s) (above-in-line _ g);
-          up = omega arith;
-          within = omega arith;
-        };
-      }
+      record { by = view-byte laid s at h g }
 
   pub peek-piece : (laid : Laid) → laid ≡ laids.Piece → at < length s → Peeked laid s at (peek.Byte (getD s at 0) (at + 1))
   peek-piece laid e h = rw e (record { by = record { is = drop-more s at h; up = omega arith; within = omega arith } })

@@ -1,22 +1,50 @@
 -- Laws of spots and of runs of bytes, for whoever reads on from an answer.
 use Prim.Native.Nat.{ℕ, _+_, _-_, _≤_, _<_}
-use mathlib.Core.Path.{_≡_, refl, ap}
+use mathlib.Core.Path.{_≡_, refl, ap, _∙_}
 use mathlib.Core.Bool.{Bool, true, false}
 use mathlib.Core.List.{List, [], _∷_}
+use native.Mathlib.Numerals.{add-one}
 use native.Mathlib.Omega.{arith}
-use lib.ListN.{length}
+use lib.ListN.{length, getD, drop}
+use lib.Seq.{drop-cons}
+use borrow.Author.Tests.{ne-eqb}
 use Rattle.spec_format.specs.Bytes.{May, absent, is, starts}
 use Rattle.spec_format.specs.Location.{run, past}
+use Rattle.spec_format.specs.Deep.{inLine}
+use Rattle.spec_location.specs.SoFar.{soFar-byte}
 use Rattle.scan_location_bytes.specs.declared.Laid.{Laid}
+use Rattle.scan_location_bytes.specs.declared.Laid.the-variants as laids
 use Rattle.scan_location_bytes.specs.declared.Spot.{Spot}
 use Rattle.scan_location_bytes.specs.declared.Peek.{Peek}
 use Rattle.scan_location_bytes.specs.declared.Peek.the-variants as peek
 use Rattle.scan_location_bytes.specs.declared.Word.{Word}
 use Rattle.scan_location_bytes.specs.declared.Word.the-variants as words
-use Rattle.scan_location_bytes.specs.Views.{view, total, Ready, Past, Onto, AtByte, Peeked, AtReached, Reached}
+use Rattle.scan_location_bytes.specs.Views.{joined, view, total, Ready, Past, Onto, AtByte, Peeked, AtReached, Reached}
 
 abbrev pub spot : ℕ → ℕ → Spot
 spot at off = record { at = at; off = off }
+
+-- ---- bytes
+
+pub drop-more : (s : List ℕ) (i : ℕ) → i < length s → drop i s ≡ getD s i 0 ∷ drop (i + 1) s
+drop-more s i h = rw (add-one, drop-cons s i 0)
+
+above-in-line : (b : ℕ) → 13 < b → inLine b ≡ true
+above-in-line b h = rw (ne-eqb b 13 (λ e. omega arith), ne-eqb b 10 (λ e. omega arith))
+
+joined-byte : (laid : Laid) (b : ℕ) (s : List ℕ) → inLine b ≡ true → joined laid (b ∷ s) ≡ b ∷ joined laid s
+joined-byte laids.Piece b s h = refl
+joined-byte (laids.Feature n) b s h = soFar-byte false n b s h
+joined-byte (laids.Contig n) b s h = soFar-byte true n b s h
+
+-- a byte above CR
+pub view-byte : (laid : Laid) (s : List ℕ) (at : ℕ) → at < length s → 13 < getD s at 0 → AtByte laid s at (getD s at 0) (at + 1)
+view-byte laid s at h g =
+    record {
+      is = ap (joined laid) (drop-more s at h) ∙ joined-byte laid (getD s at 0) (drop (at + 1) s) (above-in-line _ g);
+      up = omega arith;
+      within = omega arith;
+    }
 
 -- ---- spots
 

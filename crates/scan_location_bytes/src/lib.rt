@@ -99,28 +99,39 @@ fn byte_in_lines(s: &[u8], contig: bool, indent: usize, at: usize) -> Peek
     Peek::End
 }
 
-pub fn byte_at(s: &[u8], laid: Laid, at: usize) -> Peek
+// Where the text or a line of it may end.
+pub fn byte_or_end(s: &[u8], laid: Laid, at: usize) -> Peek
     requires { ⌜ at ≤ length (now s) ⌝ }
     ensures { λ r. ⌜ Peeked laid (now (s .entry)) at r ⌝ }
 {
     if s.len() <= at {
         return Peek::End;
     }
-    let b = s[at];
-    if b'\r' < b {
-        return Peek::Byte {
-            byte: b,
-            next: at + 1,
-        };
-    }
     match laid {
         Laid::Piece => Peek::Byte {
-            byte: b,
+            byte: s[at],
             next: at + 1,
         },
         Laid::Feature(indent) => byte_in_lines(s, false, indent, at),
         Laid::Contig(indent) => byte_in_lines(s, true, indent, at),
     }
+}
+
+// A byte above CR is the next one however the text lies.
+pub fn byte_at(s: &[u8], laid: Laid, at: usize) -> Peek
+    requires { ⌜ at ≤ length (now s) ⌝ }
+    ensures { λ r. ⌜ Peeked laid (now (s .entry)) at r ⌝ }
+{
+    if at < s.len() {
+        let b = s[at];
+        if b'\r' < b {
+            return Peek::Byte {
+                byte: b,
+                next: at + 1,
+            };
+        }
+    }
+    byte_or_end(s, laid, at)
 }
 
 // ---- words and runs of bytes

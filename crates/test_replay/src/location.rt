@@ -18,21 +18,31 @@ fn number_of(r: Location) -> usize {
     }
 }
 
-// The text is read as stored; its rows count only where it has a reading.
-fn read_as_stored(text: &[u8], gaps: bool, number: usize, rows: &[usize]) -> bool {
-    if 4096 < text.len() {
-        return false;
-    }
-    let mut room = number_room();
-    let none: [usize; 0] = [];
-    let r = read_location::location_at(text, Laid::Piece, gaps, 0, &mut room, &none, 0);
+// Its rows count only where it has a reading.
+fn as_stored(r: Location, number: usize, room: &[usize], rows: &[usize]) -> bool {
     if number_of(r) != number {
         return false;
     }
     if number != 0 {
         return true;
     }
-    same_numbers(&room, rows)
+    same_numbers(room, rows)
+}
+
+// The text is read as stored, by the reader that calls itself and by the one that knows usual texts at once.
+fn read_as_stored(text: &[u8], gaps: bool, number: usize, rows: &[usize]) -> bool {
+    if 4096 < text.len() {
+        return false;
+    }
+    let none: [usize; 0] = [];
+    let mut room = number_room();
+    let r = read_location::location_at(text, Laid::Piece, gaps, 0, &mut room, &none, 0);
+    if !as_stored(r, number, &room, rows) {
+        return false;
+    }
+    let mut again = number_room();
+    let r = read_location::piece_at(text, gaps, &mut again, &none, 0);
+    as_stored(r, number, &again, rows)
 }
 
 // The first n bytes are the text.

@@ -1,20 +1,18 @@
 -- What the reader of locations found, held against the rows.
-use Prim.Native.Nat.{_-_}
 use borrow.Author.Needs.{needs}
 use denote.Ref.{now}
 use mathlib.Core.List.{[]}
 use mathlib.Core.Path.{_∙_}
-use native.Mathlib.Omega.{arith}
 use Rattle.spec_format.specs.Location.{reading}
 use Rattle.judge_location.specs.Told.{locationRooms, found-told}
 use Rattle.judge_location.proofs.inside_told.Statement.{statement}
 use Rattle.judge_location.proofs.inside_told.Tie as tie
 
-slice-aggregate-location-at : tie.Need-slice-aggregate-location-at
-slice-aggregate-location-at c = search needs
+slice-aggregate-piece-at : tie.Need-slice-aggregate-piece-at
+slice-aggregate-piece-at c = search needs
 
-location-at-requires : tie.Need-location-at-requires
-location-at-requires c κs = (omega arith, (c .before .before .before .pre .0, c .before .before .before .pre .1))
+piece-at-requires : tie.Need-piece-at-requires
+piece-at-requires c κs = (c .before .before .before .pre .0, c .before .before .before .pre .1)
 
 found-told-requires : tie.Need-found-told-requires
 found-told-requires c κs = search needs
@@ -22,7 +20,7 @@ found-told-requires c κs = search needs
 returns : tie.Need-returns
 returns c =
     let a = c .before .before .before .before .before .before .args in
-    c .found-told .ensures ∙ rw (c .before .before .location-at .ensures .is) (found-told (locationRooms [] (now (a .locations))) (a .row) (a .rows) (reading (a .gaps) (now (a .text))) (c .before .before .before .before .before .before .pre .2))
+    c .found-told .ensures ∙ rw (c .before .before .piece-at .ensures .is) (found-told (locationRooms [] (now (a .locations))) (a .row) (a .rows) (reading (a .gaps) (now (a .text))) (c .before .before .before .before .before .before .pre .2))
 
 pub inside-told-spec : {M : Type 1} → statement M
-inside-told-spec = tie.close (tie.spec slice-aggregate-location-at location-at-requires found-told-requires returns)
+inside-told-spec = tie.close (tie.spec slice-aggregate-piece-at piece-at-requires found-told-requires returns)

@@ -14,7 +14,7 @@ enum-known-length : tie.Need-enum-known-length
 enum-known-length c = search needs
 
 make-located-requires : tie.Need-make-located-requires
-make-located-requires c κs = search (placing, needs)
+make-located-requires c κs = (search needs, search (placing, needs), search (placing, needs))
 
 enum-told : tie.Need-enum-told
 enum-told c = search needs

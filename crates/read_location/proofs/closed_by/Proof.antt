@@ -8,17 +8,14 @@ use Rattle.read_location.proofs.closed_by.Tie as tie
 enum-known-members : tie.Need-enum-known-members
 enum-known-members c = search needs
 
-slice-aggregate-word-at : tie.Need-slice-aggregate-word-at
-slice-aggregate-word-at c = search needs
-
-word-at-requires : tie.Need-word-at-requires
-word-at-requires c κs = search (behinds, needs)
+mark-at-requires : tie.Need-mark-at-requires
+mark-at-requires c κs = search (behinds, needs)
 
 enum-known-behind : tie.Need-enum-known-behind
 enum-known-behind c = search needs
 
-sub-t19 : tie.Need-sub-t19
-sub-t19 c = search (behinds, needs)
+sub-t16 : tie.Need-sub-t16
+sub-t16 c = search (behinds, needs)
 
 note-row-requires : tie.Need-note-row-requires
 note-row-requires c κs = search (behinds, needs)
@@ -52,10 +49,9 @@ closed-by-spec =
     tie.close
     (tie.spec
     enum-known-members
-    slice-aggregate-word-at
-    word-at-requires
+    mark-at-requires
     enum-known-behind
-    sub-t19
+    sub-t16
     note-row-requires
     enum-told
     enum-told-2

@@ -7,14 +7,11 @@ use Rattle.read_location.proofs.comma_at.Tie as tie
 returns : tie.Need-returns
 returns c = search needs
 
-slice-aggregate-word-at : tie.Need-slice-aggregate-word-at
-slice-aggregate-word-at c = search needs
-
-word-at-requires : tie.Need-word-at-requires
-word-at-requires c κs = search needs
+mark-at-requires : tie.Need-mark-at-requires
+mark-at-requires c κs = search needs
 
 returns-2 : tie.Need-returns-2
 returns-2 c = search (comma-some, needs)
 
 pub comma-at-spec : {M : Type 1} → statement M
-comma-at-spec = tie.close (tie.spec returns slice-aggregate-word-at word-at-requires returns-2)
+comma-at-spec = tie.close (tie.spec returns mark-at-requires returns-2)

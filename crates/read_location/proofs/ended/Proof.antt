@@ -8,8 +8,8 @@ use Rattle.read_location.proofs.ended.Tie as tie
 enum-known-r : tie.Need-enum-known-r
 enum-known-r c = search needs
 
-byte-at-requires : tie.Need-byte-at-requires
-byte-at-requires c κs = search (behinds, needs)
+byte-or-end-requires : tie.Need-byte-or-end-requires
+byte-or-end-requires c κs = search (behinds, needs)
 
 enum-told : tie.Need-enum-told
 enum-told c = search needs
@@ -43,7 +43,7 @@ ended-spec =
     tie.close
     (tie.spec
     enum-known-r
-    byte-at-requires
+    byte-or-end-requires
     enum-told
     sub-t10
     enum-told-2
