@@ -12,7 +12,7 @@
  *    4  no LOCUS line
  *    5  a second DEFINITION
  *    6  the room is too small
- *    7  a line that is no feature, qualifier, section or //
+ *    7  this line is no feature, qualifier, section or //
  *    8  the letters are not as many as LOCUS says
  *    9  a byte that cannot stand among the letters
  *   10  a text or row of the table lies outside its room, or location rows are not those of their text
@@ -21,6 +21,16 @@
  *   13  a keeping rule is broken: it may not read back the same
  *   14  a location opens more than 16 words of complement, join and order
  * With any number but 0 no lent byte is changed: nothing is lent for the answer itself.
+ *
+ * LINES. With every number but 0, 1 and 3 reading tells a line: its number, counted from 1 at the place given, and the offset in `s` of its first byte. It is
+ *    with 2        the end of the input
+ *    with 4        the line that stopped the search for LOCUS, or the end
+ *    with 5        the first line of the second DEFINITION
+ *    with 6        the LOCUS line
+ *    with 7        the line where the sections end
+ *    with 8, 9     the line of the `/` after the letters, that of the byte
+ *    with 14       the first line of the feature, or of CONTIG
+ * Only LF ends a line. Line 1 begins at the place given, in the middle of a line too. The line of the file is 1 plus the LFs before the offset.
  *
  * ROOMS. A table lies in seven rooms: bytes of texts, five of rows, bytes of letters. A text in `texts` is a start and a length; one that may be absent is a start
  * and its length plus one, and 0, 0 where it is absent.
@@ -89,6 +99,7 @@ struct vilggodan_sizes {
 struct vilggodan_reading {
     size_t number;                /* 0 to 9, or 14 */
     size_t place;                 /* with 0 the place after the record, with 3 it is 0, else the place given */
+    size_t line, offset;          /* the line that a refusal tells and where it begins; with 0, 1 and 3 both are 0 */
     size_t head[VILGGODAN_HEAD];  /* with 0 the head, else zeros */
     struct vilggodan_sizes sizes; /* with 6 what the record takes, exactly, else zeros */
 };

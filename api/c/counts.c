@@ -1,4 +1,5 @@
-/* Reads the first record on standard input and prints the answer's number, the place after it and how much it has of what. Status 0: it was read. */
+/* Reads the first record on standard input and prints the answer's number, the place after it and how much it has of what; or the number, the line that it is about
+ * and where that begins. Status 0: it was read. */
 #include <stdio.h>
 #include <stdlib.h>
 
@@ -34,6 +35,10 @@ int main(void) {
             room(n.qualifiers, 4 * sizeof(size_t)), 4 * n.qualifiers,
             room(n.locations, 7 * sizeof(size_t)), 7 * n.locations,
             room(n.letters, 1), n.letters);
+    }
+    if (answer.line != 0) {
+        printf("number %zu, line %zu, which begins at byte %zu\n", answer.number, answer.line, answer.offset);
+        return 1;
     }
     printf("number %zu, place %zu: references %zu, comments %zu, features %zu, letters %zu\n",
         answer.number, answer.place, answer.head[25], answer.head[26], answer.head[27], answer.head[32]);

@@ -5,12 +5,14 @@ use crate::table::{Rooms, HEAD, ROWS};
 #[repr(C)]
 struct Feature([usize; ROWS[2]]);
 
-/// What reading answers: a number and a place; with 0 the head, with 6 the sizes, else zeros.
+/// What reading answers: a number and a place; with a refusal but 1 and 3 the line and its offset, with 0 the head, with 6 the sizes, else zeros.
 #[repr(C)]
 #[derive(Clone, Copy, PartialEq)]
 pub struct Answer {
     pub number: usize,
     pub place: usize,
+    pub line: usize,
+    pub offset: usize,
     pub head: [usize; HEAD],
     pub sizes: [usize; 7],
 }
@@ -18,7 +20,7 @@ pub struct Answer {
 impl Answer {
     /// A number and a place, and zeros.
     pub fn new(number: usize, place: usize) -> Answer {
-        Answer { number, place, head: [0; HEAD], sizes: [0; 7] }
+        Answer { number, place, line: 0, offset: 0, head: [0; HEAD], sizes: [0; 7] }
     }
 
     /// It is 0 with this place and the head of these rooms.

@@ -1,6 +1,7 @@
 //! Holds the proved library against the Rust gb-io in one process, and measures both. `evidence/run` says how to call it.
 mod files;
 mod library;
+mod lines;
 mod location;
 mod random;
 mod reading;
@@ -26,6 +27,7 @@ mod departed {
 }
 
 use std::panic::set_hook;
+use std::path::PathBuf;
 use std::process::{exit, Command, Stdio};
 use std::time::Instant;
 use table::Table;
@@ -111,6 +113,18 @@ fn on_large_stack(work: impl FnOnce() -> bool + Send + 'static) -> ! {
     exit(if done.unwrap_or(false) { 0 } else { 1 });
 }
 
+/// The program, under the emulator that evidence/run names on a machine that is no x86-64 one.
+fn under_emulator(program: PathBuf) -> Command {
+    match std::env::var_os("EVIDENCE_EMULATOR") {
+        None => Command::new(program),
+        Some(emulator) => {
+            let mut command = Command::new(emulator);
+            command.arg(program);
+            command
+        }
+    }
+}
+
 /// The departures of a copy of gb-io are switches of the whole process, so each worker is a process.
 fn all_workers(asked: &Asked) -> bool {
     let start = Instant::now();
@@ -118,7 +132,7 @@ fn all_workers(asked: &Asked) -> bool {
     let children: Vec<_> = (0..workers).map(|worker| {
         let count = asked.count / workers + (worker < asked.count % workers) as u64;
         let numbers = [count, asked.seed, worker].map(|n| n.to_string());
-        Command::new(std::env::current_exe().unwrap())
+        under_emulator(std::env::current_exe().unwrap())
             .args([&asked.mode, "--count", &numbers[0], "--seed", &numbers[1], "--worker", &numbers[2]])
             .stdout(Stdio::piped())
             .spawn()

@@ -1,5 +1,6 @@
 //! Differential reading: each slice from two places, with rooms empty, exact, one short and too large.
 use crate::library::{Answer, Lent};
+use crate::lines;
 use crate::random::Random;
 use crate::slices::Slices;
 use crate::table::{Rooms, ROWS};
@@ -91,8 +92,8 @@ pub fn judged(slice: &[u8], at: usize, r: &mut Random) -> Result<Judged, &'stati
         Reading::Done(table, used) => done(slice, at, &Rooms::of(table, || 0), at + used, r)?,
         _ if bytes.is_empty() => refused(slice, at, &[1], at)?,
         Reading::Panicked => refused(slice, at, &[2], at)?,
-        Reading::Refused if unchanged != Reading::None => refused(slice, at, &[2, 4, 5, 7, 8, 9, 14], at)?,
-        Reading::None | Reading::Refused => refused(slice, at, &[2, 4], at)?,
+        Reading::Refused => refused(slice, at, &[2, 4, 5, 7, 8, 9, 14], at)?,
+        Reading::None => refused(slice, at, &[2, 4], at)?,
     };
     let verdict = match expected {
         Reading::Panicked => Some("departure 5, the Rust panics"),
@@ -137,9 +138,11 @@ fn refused(slice: &[u8], at: usize, numbers: &[usize], place: usize) -> Result<u
         if !rooms.holds(&Rooms::default()) {
             return Err("a refusal touched a room");
         }
-        if answer != Answer::new(number, place) {
+        let Answer { line, offset, .. } = answer;
+        if answer != (Answer { line, offset, ..Answer::new(number, place) }) {
             return Err("another place with a refusal, or a head or sizes");
         }
+        lines::right(slice, at, number, line, offset)?;
     }
     Ok(first)
 }
@@ -157,9 +160,11 @@ fn done(slice: &[u8], at: usize, rooms: &Rooms, place: usize, r: &mut Random) ->
         if answer.number != 6 {
             return Err("not 6, though the rooms are too small");
         }
-        if answer != (Answer { sizes: rooms.sizes(), ..Answer::new(6, at) }) {
+        let Answer { line, offset, .. } = answer;
+        if answer != (Answer { line, offset, sizes: rooms.sizes(), ..Answer::new(6, at) }) {
             return Err("other sizes with 6, or another place, or a head");
         }
+        lines::right(slice, at, 6, line, offset)?;
         if !room.holds(&Rooms::default()) {
             return Err("6 touched a room");
         }
@@ -172,7 +177,7 @@ fn done(slice: &[u8], at: usize, rooms: &Rooms, place: usize, r: &mut Random) ->
             return Err("not 0, though the rooms are large enough");
         }
         if !answer.done(rooms, place) {
-            return Err("another place or head, or sizes");
+            return Err("another place or head, or a line, or sizes");
         }
         if !room.holds(rooms) {
             return Err("other texts, rows or letters, or a canary is dead");

@@ -1,6 +1,9 @@
 """A table in rooms, as crates/spec_format/specs/Rooms.antt lays it out, and its head as the 33 numbers of crates/api_head."""
 import tables
 
+NAMES = "text", "references", "comments", "features", "qualifiers", "locations", "letters"  # of the rooms, as the vectors have them
+WIDTHS = 1, 14, 2, 8, 4, 7, 1  # numbers of a row, room by room; a text and the letters are bytes
+
 
 class Rooms:
     """What a table leaves in each room, and its head; nothing without a table."""
@@ -57,4 +60,4 @@ class Rooms:
 
     def sizes(self):
         """The sizes that come with number 6: bytes, rows, letters."""
-        return [n // w for n, w in zip(self.lengths(), (1, 14, 2, 8, 4, 7, 1))]
+        return [n // w for n, w in zip(self.lengths(), WIDTHS)]

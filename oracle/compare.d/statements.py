@@ -1,7 +1,7 @@
-"""States answers as equations about the definitions of crates/spec_format, and lets antt compute them.
+"""States answers as equations about the definitions of crates/spec_format and crates/spec_lines, and lets antt compute them.
 
 Each statement is closed by `refl`, so antt accepts it exactly if the definition computes to the answer. The statements stand in
-throw-away crates above a copy of `spec_format`, in a temporary folder.
+throw-away crates above a copy of both, in a temporary folder.
 """
 import os
 import pathlib
@@ -34,11 +34,25 @@ use Rattle.spec_format.specs.Table.{Locus, Source, Reference, Qualifier, Locati
 use Rattle.spec_format.specs.Record.{Outcome, Read, Not}
 use Rattle.spec_format.specs.Numbers.{unreadNumber, unreadPlace}
 use Rattle.spec_format.specs.declared.Dated.the-variants as dated
+use Rattle.spec_format.specs.declared.ReadAnswer.the-variants as answer
+use Rattle.spec_format.specs.declared.Sizes.{Sizes}
+use Rattle.spec_lines.specs.declared.Spot.{Spot}
 %s
 -- a refusal: its number and what is returned with it
 abbrev refusal : ℕ → Outcome → List ℕ
 refusal at (Read t r) = []
 refusal at (Not u) = unreadNumber u ∷ unreadPlace u at ∷ []
+
+-- the same with the line and the offset of its first byte; of a record that is read it is 6, with the sizes
+abbrev spotted : Spot → List ℕ → List ℕ
+spotted p more = p .line ∷ p .offset ∷ more
+
+abbrev sized : Sizes → List ℕ
+sized n = n .texts ∷ n .references ∷ n .comments ∷ n .features ∷ n .qualifiers ∷ n .locations ∷ n .letters ∷ []
+
+abbrev lined : List ℕ → ℕ → Outcome → List ℕ
+lined s at (Read t r) = 6 ∷ at ∷ spotted (Troubles.readSpot s at (answer.Room (Rooms.sizes t))) (sized (Rooms.sizes t))
+lined s at (Not u) = unreadNumber u ∷ unreadPlace u at ∷ spotted (Troubles.readSpot s at (answer.Refused u)) []
 
 -- refused with one of these numbers and the place given
 abbrev refusedBy : List (List ℕ) → ℕ → Outcome → Bool
@@ -77,6 +91,12 @@ def refuses(data, at, number, place):
     return "refusal %d (Record.readAt %s %d) ≡ %d ∷ %d ∷ []" % (at, tables.antt_bytes(data), at, number, place)
 
 
+def refuses_in(data, at, number, place, line, offset, sizes):
+    """A refusal with its line and offset, and with 6 the sizes."""
+    listed = "".join("%d ∷ " % n for n in [number, place, line, offset] + sizes)
+    return "lined %s %d (Record.readAt %s %d) ≡ %s[]" % (tables.antt_bytes(data), at, tables.antt_bytes(data), at, listed)
+
+
 def refuses_by(data, at, numbers):
     listed = "".join("(%d ∷ []) ∷ " % n for n in numbers)
     return "refusedBy (%s[]) %d (Record.readAt %s %d) ≡ true" % (listed, at, tables.antt_bytes(data), at)
@@ -97,13 +117,13 @@ def writes_not(width, truncate, escape, table, number):
 # ---- the definitions
 
 def _needed():
-    """`spec_format` and what it stands on, each with its line of crates.txt."""
+    """`spec_lines`, `spec_format` and what these stand on, each with its line of crates.txt."""
     lines = {}
     for line in (REPOSITORY / "crates.txt").read_text().splitlines():
         name, colon, rest = line.split("#")[0].partition(":")
         if colon:
             lines[name.strip()] = rest
-    wanted, found = ["spec_format"], {}
+    wanted, found = ["spec_format", "spec_lines"], {}
     while wanted:
         name = wanted.pop()
         if name not in found:
@@ -113,15 +133,15 @@ def _needed():
 
 
 def _unfoldable():
-    """What must be unfolded for the definitions below to compute: all that can be, in their modules and those they use."""
-    wanted, texts = ["Answers"], {}
+    """What must be unfolded for the definitions below to compute: all that can be, in their modules and those they use. Of each its crate, and its name after its module's."""
+    wanted, texts = [("spec_format", "Answers"), ("spec_lines", "Troubles")], {}
     while wanted:
-        module = wanted.pop()
-        path = REPOSITORY / "crates" / "spec_format" / "specs" / (module + ".antt")
-        if module not in texts and path.exists():
-            texts[module] = path.read_text()
-            wanted += re.findall(r"^use Rattle\.spec_format\.specs\.(\w+)", texts[module], re.M)
-    return ["%s.%s" % (m, n) for m, text in sorted(texts.items()) for n in re.findall(r"^\s*unfoldable pub (\S+)", text, re.M)]
+        crate, module = wanted.pop()
+        path = REPOSITORY / "crates" / crate / "specs" / (module + ".antt")
+        if (crate, module) not in texts and path.exists():
+            texts[crate, module] = path.read_text()
+            wanted += re.findall(r"^use Rattle·(\w+)(?:·specs)?\.specs\.(\w+)", texts[crate, module], re.M)
+    return [(c, "%s.%s" % (m, n)) for (c, m), text in sorted(texts.items()) for n in re.findall(r"^\s*unfoldable pub (\S+)", text, re.M)]
 
 
 def _short(says):
@@ -147,14 +167,15 @@ class Prover:
             (crate / part).mkdir(parents=True, exist_ok=True)
         (crate / "src" / "lib.rt").write_text(LIBRARY)
         (crate / "specs" / "Lib.antt").write_text("pub mod Held\n")
-        modules = sorted({n.split(".")[0] for n in self.names})
-        text = [OPENING % "".join("use Rattle.spec_format.specs.%s as %s\n" % (m, m) for m in modules)]
+        modules = sorted({(c, n.split(".")[0]) for c, n in self.names})
+        text = [OPENING % "".join("use Rattle.%s.specs.%s as %s\n" % (c, m, m) for c, m in modules)]
+        names = " ".join(n for _, n in self.names)
         for i, statement in statements:
-            text.append("case%d : %s\nunfolding %s\ncase%d = refl\n" % (i, statement, " ".join(self.names), i))
+            text.append("case%d : %s\nunfolding %s\ncase%d = refl\n" % (i, statement, names, i))
         (crate / "specs" / "Held.antt").write_text("\n".join(text))
 
     def _check(self, crates):
-        listed = ["%s:%s" % item for item in self.needed.items()] + ["%s: spec_format" % name for name in crates]
+        listed = ["%s:%s" % item for item in self.needed.items()] + ["%s: spec_format spec_lines" % name for name in crates]
         (self.folder / "crates.txt").write_text("\n".join(listed) + "\n")
         return subprocess.run(["rt", "check"] + list(crates), cwd=self.folder, env=dict(os.environ, RT_CUT="0"),
                               stdout=subprocess.PIPE, stderr=subprocess.STDOUT, text=True)

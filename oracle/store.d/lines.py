@@ -34,17 +34,17 @@ NOTHING = in_rooms(rooms.Rooms(None))
 
 
 class Reading:
-    """A place in a slice, rooms (whole ones, or of these lengths), the numbers that may be answered, what is told with them, the table."""
+    """A place in a slice, rooms (whole ones, or of these lengths), the numbers that may be answered, what is told with them, the table, and line and offset where they are known."""
     title = None
 
-    def __init__(self, data, at, permitted, told, table=None, departures=(), lent=()):
+    def __init__(self, data, at, permitted, told, table=None, departures=(), lent=(), spot=None):
         self.data, self.at, self.permitted, self.told, self.table = data, at, list(permitted), list(told), table
-        self.departures, self.lent = list(departures), list(lent)
+        self.departures, self.lent, self.spot = list(departures), list(lent), spot
 
     def line(self):
         found = rooms.Rooms(self.table) if self.permitted == [0] else None
         return "R " + numbers(self.departures) + text(self.data) + numbers([self.at] + self.lent) + numbers(self.permitted) + \
-            numbers(self.told + (found.head if found else [])) + (in_rooms(found) if found else NOTHING)
+            numbers(self.told + (found.head if found else [])) + (in_rooms(found) if found else NOTHING) + (numbers(self.spot) if self.spot else "")
 
 
 class Writing:

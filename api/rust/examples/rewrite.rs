@@ -2,19 +2,35 @@
 //! program's rooms are too small. Its answers are the proved library's; this loop around them is not proved.
 mod arguments;
 
-use std::io::Write;
+use std::io::{stderr, stdout, Write};
+use std::process::exit;
+use vilggodan::Record;
 
 fn main() -> std::io::Result<()> {
-    let Some((layout, keep)) = arguments::asked() else {
-        arguments::end("usage: rewrite [WIDTH] [keep] [truncate] [escape]   (WIDTH: 60 to 132, else 80)", 2)
+    let Some(asked) = arguments::asked() else {
+        eprintln!("usage: rewrite [FILE] [WIDTH] [keep] [truncate] [escape]   (WIDTH: 60 to 132, else 80)");
+        exit(2)
     };
     let input = arguments::input()?;
-    for (i, record) in vilggodan::records(&input).enumerate() {
-        let written = record.and_then(|record| if keep { record.keep(layout) } else { record.write(layout) });
-        match written {
-            Ok(text) => std::io::stdout().write_all(&text)?,
-            Err(error) => arguments::end(&format!("record {}: {error}", i + 1), 1),
+    let mut record = Record::new();
+    let mut at = 0;
+    for ordinal in 1.. {
+        let next = match record.read(&input, at) {
+            Ok(next) => next,
+            Err(error) if error.number == 1 => break,
+            Err(error) => {
+                stderr().write_all(&asked.unread(&input, ordinal, error))?;
+                exit(1)
+            }
+        };
+        match if asked.keep { record.keep(asked.layout) } else { record.write(asked.layout) } {
+            Ok(text) => stdout().write_all(&text)?,
+            Err(error) => {
+                stderr().write_all(&asked.unwritten(&input, at, ordinal, error))?;
+                exit(1)
+            }
         }
+        at = next;
     }
     Ok(())
 }

@@ -2,36 +2,54 @@
 //! is written and read again. The top script of that name starts it where the proved program's rooms are too small.
 mod arguments;
 
+use std::io::{stdout, Write};
+use std::process::exit;
 use vilggodan::{Layout, Record};
 
-/// The number and the reason where the record would not be kept.
-fn judged(record: &Record, layout: Layout) -> Result<(), String> {
-    let text = record.keep(layout).map_err(|error| error.to_string())?;
-    let mut again = Record::new();
-    let place = again.read(&text, 0).map_err(|error| format!("written, and then {error}"))?;
-    if place != text.len() || again.keep(layout).as_ref() != Ok(&text) {
-        return Err("written, and read again as another".to_string());
+/// What is said of a record that was written as this text.
+fn judged(text: &[u8], layout: Layout) -> String {
+    if text.len() > 16_777_216 {
+        return "longer than 16,777,216 bytes when written".to_string();
     }
-    Ok(())
+    let mut again = Record::new();
+    match again.read(text, 0) {
+        Err(error) => format!("written, and then {error}"),
+        Ok(place) if place != text.len() || again.keep(layout).as_deref() != Ok(text) => "written, and read again as another".to_string(),
+        Ok(_) => "kept".to_string(),
+    }
 }
 
 fn main() -> std::io::Result<()> {
-    let usage = "usage: still [WIDTH]   (WIDTH: 60 to 132, else 80)";
-    let Some((layout, false)) = arguments::asked().filter(|(layout, _)| !layout.truncate && !layout.escape) else {
-        arguments::end(usage, 2)
+    let Some(asked) = arguments::asked().filter(|asked| !asked.keep && !asked.layout.truncate && !asked.layout.escape) else {
+        eprintln!("usage: still [FILE] [WIDTH]   (WIDTH: 60 to 132, else 80)");
+        exit(2)
     };
     let input = arguments::input()?;
+    let mut record = Record::new();
+    let mut at = 0;
     let mut status = 0;
-    for (i, record) in vilggodan::records(&input).enumerate() {
-        let told = match &record {
-            Ok(record) => judged(record, layout),
-            Err(error) => Err(error.to_string()),
+    for ordinal in 1.. {
+        let next = match record.read(&input, at) {
+            Ok(next) => next,
+            Err(error) if error.number == 1 => break,
+            Err(error) => {
+                stdout().write_all(&asked.unread(&input, ordinal, error))?;
+                exit(1)
+            }
         };
-        let name = record.as_ref().ok().and_then(Record::name).map(|name| format!(", {}", String::from_utf8_lossy(name)));
-        println!("record {}{}: {}", i + 1, name.unwrap_or_default(), told.as_ref().err().map_or("kept", |why| why));
-        if told.is_err() {
+        let told = record.keep(asked.layout).map(|text| judged(&text, asked.layout));
+        match &told {
+            Ok(told) => {
+                let name = record.name().map(|name| [b", ", name].concat());
+                let line = [format!("record {ordinal}").as_bytes(), &name.unwrap_or_default(), b": ", told.as_bytes(), b"\n"].concat();
+                stdout().write_all(&line)?;
+            }
+            Err(error) => stdout().write_all(&asked.unwritten(&input, at, ordinal, *error))?,
+        }
+        if told.as_deref() != Ok("kept") {
             status = 1;
         }
+        at = next;
     }
-    std::process::exit(status)
+    exit(status)
 }

@@ -21,17 +21,45 @@ pub use location::{Location, Stretch};
 
 use std::fmt;
 
-/// Why a record was not read or not written.
+/// Why a record was not read or not written. It is printed as `line 12: 7, this line is no feature, qualifier, section or //`, or without the line where it has none.
 #[derive(Clone, Copy, Debug, PartialEq, Eq)]
 pub struct Error {
     /// The number of the answer, 1 to 14.
     pub number: usize,
     /// The same in words.
     pub reason: &'static str,
+    /// The line that it is about. Refusals to write have none, nor have 1 and 3.
+    pub line: Option<Line>,
+}
+
+/// A line of the input.
+#[derive(Clone, Copy, Debug, PartialEq, Eq)]
+pub struct Line {
+    /// Its number. [`Record::read`] counts from 1 at the place that it was given, [`records`] from 1 at the file's first byte.
+    pub number: usize,
+    /// The offset in the input of its first byte.
+    pub offset: usize,
+}
+
+impl Line {
+    /// The line of a file that begins at an offset, counted from the file's first byte.
+    pub fn of_file(s: &[u8], offset: usize) -> Line {
+        let number = 1 + s[..offset].iter().filter(|&&b| b == b'\n').count();
+        Line { number, offset }
+    }
+
+    /// Its bytes, without the LF, or CR and LF, that end it.
+    pub fn bytes<'a>(&self, s: &'a [u8]) -> &'a [u8] {
+        let rest = &s[self.offset..];
+        match rest.iter().position(|&b| b == b'\n') {
+            Some(end) => rest[..end].strip_suffix(b"\r").unwrap_or(&rest[..end]),
+            None => rest,
+        }
+    }
 }
 
 impl Error {
-    fn of(number: usize) -> Error {
+    fn of(number: usize, line: Option<Line>) -> Error {
         let reason = match number {
             1 => "the place is the end of the input: no more records",
             2 => "the input ends inside the record",
@@ -39,7 +67,7 @@ impl Error {
             4 => "no LOCUS line",
             5 => "a second DEFINITION",
             6 => "the room is too small",
-            7 => "a line that is no feature, qualifier, section or //",
+            7 => "this line is no feature, qualifier, section or //",
             8 => "the letters are not as many as LOCUS says",
             9 => "a byte that cannot stand among the letters",
             10 => "a text or row of the table lies outside its room, or location rows are not those of their text",
@@ -48,12 +76,15 @@ impl Error {
             13 => "a keeping rule is broken: it may not read back the same",
             _ => "a location opens more than 16 words of complement, join and order",
         };
-        Error { number, reason }
+        Error { number, reason, line }
     }
 }
 
 impl fmt::Display for Error {
     fn fmt(&self, f: &mut fmt::Formatter<'_>) -> fmt::Result {
+        if let Some(line) = self.line {
+            write!(f, "line {}: ", line.number)?;
+        }
         write!(f, "{}, {}", self.number, self.reason)
     }
 }
@@ -198,7 +229,10 @@ impl Record {
                     return Ok(answer.place);
                 }
                 6 => self.grow(answer.sizes),
-                number => return Err(Error::of(number)),
+                number => {
+                    let line = Line { number: answer.line, offset: answer.offset };
+                    return Err(Error::of(number, Some(line).filter(|line| line.number != 0)));
+                }
             }
         }
     }
@@ -261,7 +295,7 @@ impl Record {
                     return Ok(out);
                 }
                 6 => grow(&mut out, answer.count),
-                number => return Err(Error::of(number)),
+                number => return Err(Error::of(number, None)),
             }
         }
     }
@@ -403,7 +437,7 @@ fn grow<T: Copy + Default>(room: &mut Vec<T>, size: usize) {
     }
 }
 
-/// The records of a file, one after the other. A refusal is the last item.
+/// The records of a file, one after the other. A refusal is the last item, and its line is the file's: the lines of the records before it are counted in.
 pub fn records(s: &[u8]) -> Records<'_> {
     Records { s, next: Some(0) }
 }
@@ -430,7 +464,8 @@ impl Iterator for Records<'_> {
                 if error.number == 1 {
                     None
                 } else {
-                    Some(Err(error))
+                    let line = error.line.map(|line| Line::of_file(self.s, line.offset));
+                    Some(Err(Error { line, ..error }))
                 }
             }
         }

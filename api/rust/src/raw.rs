@@ -44,6 +44,9 @@ pub const HEAD: usize = 33;
 pub struct Reading {
     pub number: usize,
     pub place: usize,
+    /// The line that a refusal tells, and the offset of its first byte; 0 and 0 with 0, 1 and 3.
+    pub line: usize,
+    pub offset: usize,
     /// With 0 the head, else zeros.
     pub head: [usize; HEAD],
     /// With 6 what the record takes, else zeros.

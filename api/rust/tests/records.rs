@@ -1,5 +1,5 @@
 //! The safe wrapper on the examples of document 01 and at the edges of its answers.
-use vilggodan::{records, Layout, Location, Record};
+use vilggodan::{records, Error, Layout, Line, Location, Record};
 
 const P318: &[u8] = b"LOCUS       P318                      12 bp    DNA     circular SYN 01-MAR-2024
 DEFINITION  Test plasmid.
@@ -59,6 +59,51 @@ fn refusals_have_numbers() {
     let unread_locus = first(no_date.as_bytes());
     assert_eq!(unread_locus.keep(Layout::default()).unwrap_err().number, 13);
     assert!(unread_locus.write(Layout::default()).is_ok());
+}
+
+/// The line and the offset of the refusal at a place.
+fn spot(s: &[u8], at: usize) -> Option<(usize, usize)> {
+    let error = Record::new().read(s, at).unwrap_err();
+    error.line.map(|line| (line.number, line.offset))
+}
+
+#[test]
+fn refusals_have_lines() {
+    // 2: the end of the input, whose line may have bytes
+    assert_eq!(spot(&P318[..106], 0), Some((3, 106)));
+    assert_eq!(spot(&P318[..200], 0), Some((5, 174)));
+    // 4: the line that stopped the search, or the end
+    assert_eq!(spot(b"no record\n", 0), Some((2, 10)));
+    assert_eq!(spot(b"a line\nno \xff record\nLOCUS", 0), Some((2, 7)));
+    // 8: the line of the `/`; 9: that of the byte, and CR alone ends no line
+    let fewer = String::from_utf8(P318.to_vec()).unwrap().replace(" gt\n", " g\n");
+    assert_eq!(spot(fewer.as_bytes(), 0), Some((9, P318.len() - 4)));
+    let stray = [&P318[..P318.len() - 3], b"\r!\r\n//\n"].concat();
+    assert_eq!(spot(&stray, 0), Some((9, P318.len() - 3)));
+    // 14: the feature's line
+    let deep = located(&("join(".repeat(17) + "1" + &")".repeat(17)));
+    assert_eq!(spot(&deep, 0), Some((4, 147)));
+    // 1 and 3 have none
+    assert_eq!(spot(P318, P318.len()), None);
+    assert_eq!(spot(P318, P318.len() + 1), None);
+    // nor has a refusal to write
+    let wide = Layout { width: 133, ..Layout::default() };
+    assert_eq!(first(P318).write(wide).unwrap_err().line, None);
+}
+
+#[test]
+fn lines_are_counted_from_the_place_or_of_the_file() {
+    let two = [P318, &located("1..x")].concat();
+    let offset = P318.len() + 147;
+    assert_eq!(spot(&two, P318.len()), Some((4, offset)));
+    let error = records(&two).nth(1).unwrap().unwrap_err();
+    let line = Line { number: 13, offset };
+    assert_eq!(error.line, Some(line));
+    assert_eq!(Line::of_file(&two, offset), line);
+    assert_eq!(line.bytes(&two), b"     misc_feature    1..x");
+    assert_eq!(error.to_string(), "line 13: 7, this line is no feature, qualifier, section or //");
+    let unlined = Error { line: None, ..error };
+    assert_eq!(unlined.to_string(), "7, this line is no feature, qualifier, section or //");
 }
 
 #[test]

@@ -1,4 +1,5 @@
-// Reads GenBank records on standard input and writes them again on standard output, at width 80 or as the arguments say.
+// Reads GenBank records on standard input and writes them again on standard output, at width 80 or as the arguments say. The usage is that of the script, which takes a
+// file's name too.
 mod rewriting;
 
 use app_options::Asked;
@@ -7,7 +8,7 @@ use app_options::Options;
 fn help() {
     io::write_all(
         2,
-        b"usage: rewrite [WIDTH] [keep] [truncate] [escape]   (WIDTH: 60 to 132, else 80)\n",
+        b"usage: rewrite [FILE] [WIDTH] [keep] [truncate] [escape]   (WIDTH: 60 to 132, else 80)\n",
     );
 }
 

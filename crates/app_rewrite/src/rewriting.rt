@@ -1,29 +1,29 @@
-// Record after record out of an input: each is read, written again and put out. A refusal ends it with one line on standard error: which record, which
-// number, and why. The rooms are lent.
+// Record after record out of an input: each is read, written again and put out. A refusal ends it with a message on standard error: which line of the input, which record,
+// which number, and why; and then that line. The rooms are lent.
+use app_lines::Message;
 use app_options::Options;
 use app_round::Round;
 use spec_format::How;
 use spec_format::ReadAnswer;
 use spec_format::WriteAnswer;
+use spec_lines::Spot;
 
 // How a record went.
 enum Rewritten {
     // It was put out, and the next one starts there.
     On(usize),
-    // It was refused by that number.
-    Refused(usize),
-    // The input is at its end.
-    AtEnd,
+    // It was refused, and that was told; or there is none.
+    Ended,
 }
 
-fn complain(ordinal: usize, number: usize) {
-    io::write_all(2, b"record ");
-    io::print_decimal(2, ordinal as u64);
-    io::write_all(2, b": ");
-    io::print_decimal(2, number as u64);
-    io::write_all(2, b", ");
-    base_numbers::tell(2, number);
-    io::write_all(2, b"\n");
+fn refusal(options: Options, ordinal: usize, number: usize) -> Message {
+    Message {
+        ordinal: ordinal,
+        number: number,
+        fd: 2,
+        columns: options.columns,
+        name: options.name,
+    }
 }
 
 // Puts out the first n bytes.
@@ -43,30 +43,47 @@ fn put_written(answer: WriteAnswer, out: &[u8]) -> usize {
     base_numbers::write_number(answer)
 }
 
-// No record was read, by that number.
-fn unread(number: usize) -> Rewritten {
-    if number == 1 {
-        return Rewritten::AtEnd;
+// No record was read: the input is at its end, or that is told.
+fn unread(input: &[u8], spot: Spot, refusal: Message) -> Rewritten {
+    if refusal.number == 1 {
+        return Rewritten::Ended;
     }
-    Rewritten::Refused(number)
+    app_lines::tell_unread(input, spot, refusal);
+    Rewritten::Ended
 }
 
-// A record was written by that number.
-fn put_again(number: usize, place: usize) -> Rewritten {
-    if number == 0 {
-        return Rewritten::On(place);
+// A record was read at a place, and written by that number; the next one starts there.
+fn put_again(input: &[u8], at: usize, next: usize, refusal: Message) -> Rewritten {
+    if refusal.number == 0 {
+        return Rewritten::On(next);
     }
-    Rewritten::Refused(number)
+    app_lines::tell_unwritten(input, at, refusal);
+    Rewritten::Ended
 }
 
 // What becomes of a record that was read and written, or not.
-fn after_round(round: Round, out: &[u8]) -> Rewritten {
-    let read = round.read;
+fn after_round(
+    round: Round,
+    input: &[u8],
+    at: usize,
+    out: &[u8],
+    options: Options,
+    ordinal: usize,
+) -> Rewritten {
+    let reported = round.read;
+    let answer = reported.answer;
+    let spot = reported.spot;
     let wrote = round.wrote;
-    match read {
-        ReadAnswer::Room(_) => Rewritten::Refused(6),
-        ReadAnswer::Refused(why) => unread(base_numbers::unread_number(why)),
-        ReadAnswer::Done { head: _, place } => put_again(put_written(wrote, out), place),
+    match answer {
+        ReadAnswer::Room(_) => unread(input, spot, refusal(options, ordinal, 6)),
+        ReadAnswer::Refused(why) => {
+            let number = base_numbers::unread_number(why);
+            unread(input, spot, refusal(options, ordinal, number))
+        }
+        ReadAnswer::Done { head: _, place } => {
+            let number = put_written(wrote, out);
+            put_again(input, at, place, refusal(options, ordinal, number))
+        }
     }
 }
 
@@ -92,6 +109,7 @@ fn rewrite_at(
     letters: &mut [u8],
     out: &mut [u8],
     options: Options,
+    ordinal: usize,
 ) -> Rewritten {
     let round = app_round::read_and_write(
         input,
@@ -105,7 +123,7 @@ fn rewrite_at(
         out,
         how_asked(options),
     );
-    after_round(round, out)
+    after_round(round, input, at, out, options, ordinal)
 }
 
 // All records of the input. A record takes a byte at least, so there are no more records than bytes.
@@ -134,12 +152,9 @@ pub fn rewrite_all(
             letters,
             out,
             options,
+            ordinal,
         ) {
-            Rewritten::AtEnd => return,
-            Rewritten::Refused(number) => {
-                complain(ordinal, number);
-                return;
-            }
+            Rewritten::Ended => return,
             Rewritten::On(next) => {
                 at = next;
                 ordinal += 1;

@@ -14,7 +14,8 @@ use Rattle.spec_format.specs.declared.WriteAnswer.{WriteAnswer}
 use Rattle.base_rows.specs.declared.Feature.{Feature}
 use Rattle.base_rows.specs.Rows.{flat}
 use Rattle.spec_contracts.specs.Equal.{rooms-after}
-use Rattle.spec_contracts.specs.Reads.{Answered}
+use Rattle.spec_contracts.specs.declared.Reported.{Reported}
+use Rattle.spec_contracts.specs.Reads.{Answered, ReadReported}
 use Rattle.spec_contracts.specs.Rounds.{emptyHead, headOf, notAtAll, howAfter, Rounds}
 use Rattle.spec_contracts.specs.Writes.{WriteAnswered}
 
@@ -33,13 +34,15 @@ how-refused a why how e = rw e
 pub how-room : (a : ReadAnswer) (sizes : Sizes) (how : How) → a ≡ read.Room sizes → notAtAll how ≡ howAfter a how
 how-room a sizes how e = rw e
 
-module _ (s : List ℕ) (at : ℕ) (old : Rooms) (how : How) (t rf cm : List ℕ) (rows : List Feature) (q n l before after : List ℕ) (r : ReadAnswer) (w : WriteAnswer) where
+module _ (s : List ℕ) (at : ℕ) (old : Rooms) (how : How) (t rf cm : List ℕ) (rows : List Feature) (q n l before after : List ℕ) (r : Reported) (w : WriteAnswer) where
   -- the reader's contract and then the writer's
-  pub rounds : Answered s at old (roomsIn t rf cm (flat rows) q n l) r → WriteAnswered (howAfter r how) (roomsIn t rf cm (flat rows) q n l) (headOf r) before after w
+  pub rounds : ReadReported s at old (roomsIn t rf cm (flat rows) q n l) r → WriteAnswered (howAfter (r .answer) how) (roomsIn t rf cm (flat rows) q n l) (headOf (r .answer)) before after w
       → Rounds s at old how t rf cm q n l before after r w
-  rounds a b =
+  rounds x b =
+      let a : Answered s at old (roomsIn t rf cm (flat rows) q n l) (r .answer) = x .answered in
       record {
         is = a .is;
+        told = x .told;
         texts-are = a .texts;
         references-are = a .references;
         comments-are = a .comments;
@@ -47,6 +50,6 @@ module _ (s : List ℕ) (at : ℕ) (old : Rooms) (how : How) (t rf cm : List ℕ
         locations-are = a .locations;
         letters-are = a .letters;
         wrote =
-            subst (λ (rooms : Rooms). WriteAnswered (howAfter r how) rooms (headOf r) before after w)
-            (rooms-after s at old (roomsIn t rf cm (flat rows) q n l) r a) b;
+            subst (λ (rooms : Rooms). WriteAnswered (howAfter (r .answer) how) rooms (headOf (r .answer)) before after w)
+            (rooms-after s at old (roomsIn t rf cm (flat rows) q n l) (r .answer) a) b;
       }

@@ -1,5 +1,6 @@
 // A record read into rows of features that are structs, and written again from them. The rows are its own, so whoever calls it has plain parameters.
 use base_rows::Feature;
+use spec_contracts::Reported;
 use spec_format::ContigText;
 use spec_format::Dated;
 use spec_format::Head;
@@ -15,9 +16,9 @@ ghost use Rattle.base_rows.specs.Rows.{flat};
 ghost use Rattle.spec_contracts.specs.Rounds.{emptyHead, emptyRows, headOf, howAfter, Rounds};
 ghost use Rattle.spec_format.specs.Rooms.{roomsIn};
 
-// What the reader answered, and then the writer.
+// What the reader answered, with the line that it tells, and then the writer.
 pub struct Round {
-    pub read: ReadAnswer,
+    pub read: Reported,
     pub wrote: WriteAnswer,
 }
 
@@ -121,8 +122,9 @@ pub fn read_and_write(
         locations,
         letters,
     );
-    let head = head_of(read);
-    let after = how_after(read, how);
+    let answer = read.answer;
+    let head = head_of(answer);
+    let after = how_after(answer, how);
     let wrote = write_record::write(
         out,
         texts,

@@ -1,6 +1,8 @@
 // The member's question, record by record: read, written by the keeping writer and read again, is it still the same? The keeping writer is asked with an empty
 // slice, so nothing is written. It then answers 6 exactly where the call would succeed with more room: no 12, 10, 11 or 13 is due, so with room it answers 0, and
 // what such a call writes comes back (`still-the-same` of spec_demands).
+use app_lines::Message;
+use app_options::Options;
 use app_round::Round;
 use spec_format::Head;
 use spec_format::How;
@@ -13,8 +15,18 @@ use spec_format::WriteAnswer;
 enum Judged {
     // It was read and judged, and the next one starts there.
     On(usize),
-    // It was not read.
+    // It was not read, and that was told.
     Stop,
+}
+
+fn refusal(options: Options, ordinal: usize, number: usize) -> Message {
+    Message {
+        ordinal: ordinal,
+        number: number,
+        fd: 1,
+        columns: options.columns,
+        name: options.name,
+    }
 }
 
 fn show_ordinal(ordinal: usize) {
@@ -42,49 +54,66 @@ fn show_name(texts: &[u8], name: Text) {
     }
 }
 
-fn show_number(number: usize) {
-    io::write_all(1, b": ");
-    io::print_decimal(1, number as u64);
-    io::write_all(1, b", ");
-    base_numbers::tell(1, number);
-    io::write_all(1, b"\n");
-}
-
-// What the keeping writer answers, measured: the bytes that it would write, if the reader takes that many; or the number of the refusal.
-fn show_judged(answer: WriteAnswer) {
-    let number = base_numbers::write_number(answer);
-    if 6 < number {
-        show_number(number);
-        return;
-    }
-    if MOST < base_numbers::write_value(answer) {
+// Whether the reader takes as many bytes as the keeping writer would write.
+fn show_length(n: usize) {
+    if MOST < n {
         io::write_all(1, b": longer than 16,777,216 bytes when written\n");
         return;
     }
     io::write_all(1, b": kept\n");
 }
 
-fn judge(texts: &[u8], head: Head, answer: WriteAnswer) {
+// A record that no number refuses.
+fn show_judged(texts: &[u8], head: Head, ordinal: usize, n: usize) {
     let name = head.name;
+    show_ordinal(ordinal);
     show_name(texts, name);
-    show_judged(answer);
+    show_length(n);
+}
+
+// What the keeping writer answers, measured: the bytes that it would write, or the number of the refusal.
+fn judge(
+    input: &[u8],
+    at: usize,
+    texts: &[u8],
+    head: Head,
+    answer: WriteAnswer,
+    options: Options,
+    ordinal: usize,
+) {
+    let number = base_numbers::write_number(answer);
+    if 6 < number {
+        app_lines::tell_unwritten(input, at, refusal(options, ordinal, number));
+        return;
+    }
+    show_judged(texts, head, ordinal, base_numbers::write_value(answer));
 }
 
 // What is said of a record that was read, or not.
-fn judge_round(round: Round, texts: &[u8]) -> Judged {
-    let read = round.read;
+fn judge_round(
+    round: Round,
+    input: &[u8],
+    at: usize,
+    texts: &[u8],
+    options: Options,
+    ordinal: usize,
+) -> Judged {
+    let reported = round.read;
+    let answer = reported.answer;
+    let spot = reported.spot;
     let wrote = round.wrote;
-    match read {
+    match answer {
         ReadAnswer::Room(_) => {
-            show_number(6);
+            app_lines::tell_unread(input, spot, refusal(options, ordinal, 6));
             Judged::Stop
         }
         ReadAnswer::Refused(why) => {
-            show_number(base_numbers::unread_number(why));
+            let number = base_numbers::unread_number(why);
+            app_lines::tell_unread(input, spot, refusal(options, ordinal, number));
             Judged::Stop
         }
         ReadAnswer::Done { head, place } => {
-            judge(texts, head, wrote);
+            judge(input, at, texts, head, wrote, options, ordinal);
             Judged::On(place)
         }
     }
@@ -99,12 +128,13 @@ fn judge_at(
     qualifiers: &mut [usize],
     locations: &mut [usize],
     letters: &mut [u8],
-    width: usize,
+    options: Options,
+    ordinal: usize,
 ) -> Judged {
     let mut none = [0u8; 0];
     let how = How {
         keeping: true,
-        width: width,
+        width: options.width,
         truncate: false,
         escape: false,
     };
@@ -120,7 +150,7 @@ fn judge_at(
         &mut none,
         how,
     );
-    judge_round(round, texts)
+    judge_round(round, input, at, texts, options, ordinal)
 }
 
 // All records of the input. A record takes a byte at least, so there are no more records than bytes.
@@ -132,7 +162,7 @@ pub fn judge_all(
     qualifiers: &mut [usize],
     locations: &mut [usize],
     letters: &mut [u8],
-    width: usize,
+    options: Options,
 ) {
     let mut at = 0;
     let mut ordinal = 1;
@@ -140,7 +170,6 @@ pub fn judge_all(
         if at == input.len() {
             return;
         }
-        show_ordinal(ordinal);
         match judge_at(
             input,
             at,
@@ -150,7 +179,8 @@ pub fn judge_all(
             qualifiers,
             locations,
             letters,
-            width,
+            options,
+            ordinal,
         ) {
             Judged::Stop => return,
             Judged::On(next) => {

@@ -1,14 +1,18 @@
-// Answers for each record on standard input: read, written and read again, is it still the same? "kept", or the number and the reason.
+// Answers for each record on standard input: read, written and read again, is it still the same? "kept", or the line, the number and the reason. The usage is that of the
+// script, which takes a file's name too.
 mod judging;
 
 use app_options::Asked;
 use app_options::Options;
 
 fn help() {
-    io::write_all(2, b"usage: still [WIDTH]   (WIDTH: 60 to 132, else 80)\n");
+    io::write_all(
+        2,
+        b"usage: still [FILE] [WIDTH]   (WIDTH: 60 to 132, else 80)\n",
+    );
 }
 
-fn judge_input(width: usize) {
+fn judge_input(options: Options) {
     let mut input = app_rooms::input_room();
     let mut texts = app_rooms::text_room();
     let mut references = app_rooms::reference_room();
@@ -29,11 +33,11 @@ fn judge_input(width: usize) {
         &mut qualifiers,
         &mut locations,
         &mut letters,
-        width,
+        options,
     );
 }
 
-// Of the arguments only a width has a meaning here.
+// Of the arguments only a width has a meaning here, and what says how a message is printed.
 fn with_options(options: Options) {
     if options.keep {
         help();
@@ -47,7 +51,7 @@ fn with_options(options: Options) {
         help();
         return;
     }
-    judge_input(options.width);
+    judge_input(options);
 }
 
 fn main() {

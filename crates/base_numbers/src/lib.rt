@@ -98,7 +98,7 @@ fn tell_record(fd: i32, number: usize) {
         io::write_all(fd, b"a second DEFINITION");
     }
     if number == 7 {
-        io::write_all(fd, b"a line that is no feature, qualifier, section or //");
+        io::write_all(fd, b"this line is no feature, qualifier, section or //");
     }
     if number == 8 {
         io::write_all(fd, b"the letters are not as many as LOCUS says");

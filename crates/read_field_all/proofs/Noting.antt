@@ -33,7 +33,7 @@ chosen-stands s at t e true w = w
 chosen-stands s at t e false w = tt
 
 -- the word has number n
-abbrev Numbered : ℕ → List ℕ → Type 0
+abbrev pub Numbered : ℕ → List ℕ → Type 0
 Numbered n word =
     (same (bytes "DEFINITION") word ≡ eqb n 0) × (same (bytes "ACCESSION") word ≡ eqb n 1) × (same (bytes "VERSION") word ≡ eqb n 2) ×
     (same (bytes "DBLINK") word ≡ eqb n 3) × (same (bytes "KEYWORDS") word ≡ eqb n 4) × (same (bytes "COMMENT") word ≡ eqb n 5)
@@ -43,7 +43,7 @@ module _ (s : List ℕ) (at next : ℕ) (x : format.Field) (n : ℕ) (word : Lis
   word-stands : (w : List ℕ) (k : ℕ) (e : Entry) → same w word ≡ eqb n k → EntryIs s at next w x e → MayStand s at true (textIn word x) (chosen (eqb n k) e)
   word-stands w k e q h = rw (h .is, q) (chosen-stands s at (h .text) e (eqb n k) (h .stands))
 
-  entry-stands : (f : Field) → FieldIs s at next x f → MayStand s at true (textIn word x) (entryIn n f)
+  pub entry-stands : (f : Field) → FieldIs s at next x f → MayStand s at true (textIn word x) (entryIn n f)
   entry-stands (field.Definition e) h = word-stands (bytes "DEFINITION") 0 e (p .0) h
   entry-stands (field.Accession e) h = word-stands (bytes "ACCESSION") 1 e (p .1) h
   entry-stands (field.Version e) h = word-stands (bytes "VERSION") 2 e (p .2) h

@@ -157,6 +157,12 @@ fn reference_amount(field: Field) -> Amount
     }
 }
 
+pub fn definition_in(field: Field) -> MayEntry
+    ensures { λ r. ⌜ r ≡ entryIn 0 field ⌝ }
+{
+    entry_in(field, DEFINITION)
+}
+
 pub fn comment_in(field: Field) -> MayEntry
     ensures { λ r. ⌜ r ≡ entryIn 5 field ⌝ }
 {

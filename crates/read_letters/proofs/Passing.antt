@@ -78,7 +78,7 @@ module _ (s : List ℕ) (i k : ℕ) (o : Tally) where
   plus-plus : (x : Tally) (m : ℕ) → plus k (plus m x) ≡ plus (k + m) x
   plus-plus (slash n r) m = ap (λ (j : ℕ). slash j r) (omega arith)
   plus-plus (end n) m = ap end (omega arith)
-  plus-plus bad m = refl
+  plus-plus (bad r) m = refl
 
   pub count-run : (to : ℕ) (w : List ℕ) → Run s i to w → o ≡ plus k (tally (letters (drop i s))) → o ≡ plus (k + length w) (tally (letters (drop to s)))
   count-run to w r inv = inv ∙ ap (plus k) (ap tally (r .all) ∙ tally-keeps w (letters (drop to s))) ∙ plus-plus (tally (letters (drop to s))) (length w)
@@ -97,7 +97,7 @@ module _ (s : List ℕ) (i k : ℕ) (o : Tally) where
     unfolding letters
     count-slash r h e f g = sym (inv ∙ rw (drop-more s i h, letters, ← e, f, eq-eqb _ _ g) (ap (λ (j : ℕ). slash j (getD s i 0 ∷ drop (i + 1) s)) (add-zero k)))
 
-    pub count-bad : (r q : Bool) → i < length s → r ≡ letter (getD s i 0) → r ≡ false → (getD s i 0 ≡ 47 → ⊥) → q ≡ skipped (getD s i 0) → not q ≡ true → bad ≡ o
+    pub count-bad : (r q : Bool) → i < length s → r ≡ letter (getD s i 0) → r ≡ false → (getD s i 0 ≡ 47 → ⊥) → q ≡ skipped (getD s i 0) → not q ≡ true → bad (drop i s) ≡ o
     unfolding letters
     count-bad r q h e f g m n = sym (inv ∙ rw (drop-more s i h, letters, ← e, f, ne-eqb _ _ g, ← m, not-true q n))
 
@@ -252,7 +252,7 @@ module _ (s : List ℕ) (at : ℕ) where
 pub plus-none : (x : Tally) → x ≡ plus 0 x
 plus-none (slash n r) = ap (λ (k : ℕ). slash k r) (omega arith)
 plus-none (end n) = ap end (omega arith)
-plus-none bad = refl
+plus-none (bad r) = refl
 
 pub counts-from : (s : List ℕ) (at from : ℕ) (o q : Tally) (r : Counted) → at ≤ from → o ≡ q → Counts s from q r → Counts s at o r
 counts-from s at from o q r h e c = record { is = c .is ∙ sym e; place = go r (c .place) }
@@ -260,7 +260,7 @@ counts-from s at from o q r h e c = record { is = c .is ∙ sym e; place = go r 
     go : (r : Counted) → PastCounted s from r → PastCounted s at r
     go (counted.AtSlash n next) w = (omega (arith, w .0), w .1)
     go (counted.AtEnd n) w = omega (arith, w)
-    go counted.Bad w = tt
+    go (counted.Bad next) w = (omega (arith, w .0), w .1)
 
 pub ruleset counting = (count-letter, count-skip, count-slash, count-bad, count-end)
 

@@ -16,28 +16,28 @@ use Rattle.spec_format.specs.Impossible.{impossible}
 pub data Tally : Type 0 where
   slash : ℕ → List ℕ → Tally
   end : ℕ → Tally
-  bad : Tally
+  bad : List ℕ → Tally
 
 abbrev pub tally : Letters → Tally
 tally (AtSlash l r) = slash (length l) r
 tally (AtEnd l) = end (length l)
-tally Bad = bad
+tally (Bad r) = bad r
 
 abbrev pub tallyOf : List ℕ → Counted → Tally
 tallyOf s (counted.AtSlash n next) = slash n (drop next s)
 tallyOf s (counted.AtEnd n) = end n
-tallyOf s counted.Bad = bad
+tallyOf s (counted.Bad next) = bad (drop next s)
 
 -- n letters more
 abbrev pub plus : ℕ → Tally → Tally
 plus k (slash n r) = slash (k + n) r
 plus k (end n) = end (k + n)
-plus k bad = bad
+plus k (bad r) = bad r
 
 abbrev pub PastCounted : List ℕ → ℕ → Counted → Type 0
 PastCounted s at (counted.AtSlash n next) = (n + at ≤ next) × (next ≤ length s)
 PastCounted s at (counted.AtEnd n) = n + at ≤ length s
-PastCounted s at counted.Bad = Unit
+PastCounted s at (counted.Bad next) = (at ≤ next) × (next ≤ length s)
 
 -- the count of the letters at a place, with n more
 pub record Counts (s : List ℕ) (at : ℕ) (o : Tally) (r : Counted) : Type 0 where
@@ -79,24 +79,24 @@ run-append {s} {a} {b} {c} {v} {w} p q =
 pub tally-keeps : (w : List ℕ) (x : Letters) → tally (keeps w x) ≡ plus (length w) (tally x)
 tally-keeps [] (AtSlash l r) = ap (λ (n : ℕ). slash n r) (omega arith)
 tally-keeps [] (AtEnd l) = ap end (omega arith)
-tally-keeps [] Bad = refl
+tally-keeps [] (Bad r) = refl
 tally-keeps (b ∷ w) x = one (keeps w x) ∙ ap (plus 1) (tally-keeps w x) ∙ twice (tally x)
   where
     one : (y : Letters) → tally (keep b y) ≡ plus 1 (tally y)
     one (AtSlash l r) = ap (λ (n : ℕ). slash n r) (omega arith)
     one (AtEnd l) = ap end (omega arith)
-    one Bad = refl
+    one (Bad r) = refl
 
     twice : (y : Tally) → plus 1 (plus (length w) y) ≡ plus (suc (length w)) y
     twice (slash n r) = ap (λ (k : ℕ). slash k r) (omega arith)
     twice (end n) = ap end (omega arith)
-    twice bad = refl
+    twice (bad r) = refl
 
 -- where the letters end well, they are those that are put
 abbrev pub Sifts : List ℕ → Letters → Type 0
 Sifts t (AtSlash l r) = l ≡ t
 Sifts t (AtEnd l) = l ≡ t
-Sifts t Bad = Unit
+Sifts t (Bad r) = Unit
 
 pub sifts : (s : List ℕ) → Sifts (sifted s) (letters s)
 unfolding letters sifted
@@ -106,7 +106,7 @@ sifts (b ∷ s) = go (sifts s) (letter b) refl (eqb b 47) refl (skipped b) refl
     kept : (x : Letters) → Sifts (sifted s) x → Sifts (b ∷ sifted s) (keep b x)
     kept (AtSlash l r) h = ap (λ (t : List ℕ). b ∷ t) h
     kept (AtEnd l) h = ap (λ (t : List ℕ). b ∷ t) h
-    kept Bad h = tt
+    kept (Bad r) h = tt
 
     go : Sifts (sifted s) (letters s) → (x : Bool) → letter b ≡ x → (y : Bool) → eqb b 47 ≡ y → (z : Bool) → skipped b ≡ z → Sifts (sifted (b ∷ s)) (letters (b ∷ s))
     go h true e y f z g = rw (letters, sifted, e) (kept (letters s) h)
@@ -121,7 +121,7 @@ count-slash s n r e = go (letters s) (sifts s) e
     go : (x : Letters) → Sifts (sifted s) x → slash n r ≡ tally x → (x ≡ AtSlash (sifted s) r) × (length (sifted s) ≡ n)
     go (AtSlash l q) h f = let m : n ≡ length l = cc in let k : r ≡ q = cc in (cc, rw (← h, m))
     go (AtEnd l) h f = impossible cc
-    go Bad h f = impossible cc
+    go (Bad q) h f = impossible cc
 
 pub count-end : (s : List ℕ) (n : ℕ) → end n ≡ tally (letters s) → (letters s ≡ AtEnd (sifted s)) × (length (sifted s) ≡ n)
 count-end s n e = go (letters s) (sifts s) e
@@ -129,15 +129,15 @@ count-end s n e = go (letters s) (sifts s) e
     go : (x : Letters) → Sifts (sifted s) x → end n ≡ tally x → (x ≡ AtEnd (sifted s)) × (length (sifted s) ≡ n)
     go (AtSlash l q) h f = impossible cc
     go (AtEnd l) h f = let m : n ≡ length l = cc in (cc, rw (← h, m))
-    go Bad h f = impossible cc
+    go (Bad q) h f = impossible cc
 
-pub count-bad : (s : List ℕ) → bad ≡ tally (letters s) → letters s ≡ Bad
-count-bad s e = go (letters s) e
+pub count-bad : (s r : List ℕ) → bad r ≡ tally (letters s) → letters s ≡ Bad r
+count-bad s r e = go (letters s) e
   where
-    go : (x : Letters) → bad ≡ tally x → x ≡ Bad
+    go : (x : Letters) → bad r ≡ tally x → x ≡ Bad r
     go (AtSlash l q) f = impossible cc
     go (AtEnd l) f = impossible cc
-    go Bad f = refl
+    go (Bad q) f = cc
 
 abbrev pub one : Bool → ℕ
 one true = 1

@@ -11,11 +11,11 @@ ghost use Rattle.spec_format.specs.Origin.{letters, skipped};
 ghost use Rattle.base_pen.specs.Pen.{Writes};
 ghost use Rattle.read_letters.specs.Runs.{tally, plus, Counts, sifted, Runs, one, lettersIn, spaced, ten, thirtyOf, sixtyOf};
 
-// How many letters there are, and the place of the `/` that ends them; or that a byte stands there that may not.
+// How many letters there are, and the place of the `/` that ends them; or the place of a byte that may not stand there.
 pub enum Counted {
     AtSlash { count: usize, next: usize },
     AtEnd { count: usize },
-    Bad,
+    Bad { next: usize },
 }
 
 fn either(a: bool, b: bool) -> bool
@@ -143,7 +143,7 @@ fn count_from(s: &[u8], at: usize, n: usize) -> Counted
             return Counted::AtSlash { count: k, next: i };
         }
         if !is_skipped(b) {
-            return Counted::Bad;
+            return Counted::Bad { next: i };
         }
         i += 1;
     }

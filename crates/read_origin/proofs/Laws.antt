@@ -220,9 +220,9 @@ module _ (s : List ℕ) (at : ℕ) (given : Length) (r : Counted) (h : Counts s 
       unfolding sequenceThen
       letters-unended k = record { is = λ t d. rw (end-is .0, d .length, end-is .1, ← f, k) }
 
-  pub letters-bad : r ≡ count.Bad → Ends s given (sequenceThen (drop at s)) (ended.Refused unread.BadLetter)
+  pub letters-bad : (next : ℕ) → r ≡ count.Bad next → Ends s given (sequenceThen (drop at s)) (ended.Refused unread.BadLetter)
   unfolding sequenceThen
-  letters-bad e = let k : letters (drop at s) ≡ Bad = count-bad (drop at s) (rw e at (h .is)) in record { is = λ t d. rw k }
+  letters-bad next e = let k : letters (drop at s) ≡ Bad (drop next s) = count-bad (drop at s) (drop next s) (rw e at (h .is)) in record { is = λ t d. rw k }
 
 pub ruleset sequencing = (slash-within, slash-counted, letters-slash, letters-other, letters-end, letters-unended, letters-bad)
 

@@ -52,7 +52,7 @@ fn origin_word(s: &[u8], at: usize) -> Step
 }
 
 // The word alone, or else with a text, which is dropped.
-fn origin_at(s: &[u8], at: usize) -> Step
+pub fn origin_at(s: &[u8], at: usize) -> Step
     requires { ⌜ at ≤ length (now s) ⌝ }
     ensures { λ r. ⌜ Passed (now (s .entry)) at (originTag (drop at (now (s .entry)))) r ⌝ }
 {
@@ -127,7 +127,7 @@ fn sequence_at(s: &[u8], at: usize, given: Length) -> EndAt
             }
             EndAt::Refused(Unread::Unended)
         }
-        Counted::Bad => EndAt::Refused(Unread::BadLetter),
+        Counted::Bad { next: _ } => EndAt::Refused(Unread::BadLetter),
     }
 }
 

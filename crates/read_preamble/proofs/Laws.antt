@@ -40,12 +40,12 @@ pub ruleset standing = (stands, stands-not, stands-cut)
 
 -- ---- where the reader stands
 
-not-there : (s : List ℕ) (o : Ans Unit) → false ≡ isGot o → skipping s o ≡ mapped more (utf8Of (line s))
+pub not-there : (s : List ℕ) (o : Ans Unit) → false ≡ isGot o → skipping s o ≡ mapped more (utf8Of (line s))
 not-there s (Got u r) e = impossible cc
 not-there s No e = refl
 not-there s Cut e = refl
 
-there : (s : List ℕ) (o : Ans Unit) → true ≡ isGot o → skipping s o ≡ Got stop s
+pub there : (s : List ℕ) (o : Ans Unit) → true ≡ isGot o → skipping s o ≡ Got stop s
 there s (Got u r) e = refl
 there s No e = impossible cc
 there s Cut e = impossible cc

@@ -6,9 +6,12 @@ ghost use Prim.Native.Nat.{_≤_};
 ghost use lib.ListN.{length, drop};
 ghost use Rattle.spec_format.specs.Bytes.{bytes};
 ghost use Rattle.spec_format.specs.Readers.{tag};
-ghost use Rattle.spec_format.specs.Locus.{preamble};
+ghost use Rattle.spec_format.specs.Locus.{preambleTurn, preamble};
 ghost use Rattle.scan_bytes.specs.Views.{Stepped};
+ghost use Rattle.spec_lines.specs.Stands.{Stands};
+ghost use Rattle.spec_lines.specs.Troubles.{searched};
 ghost use Rattle.read_preamble.specs.Skips.{isGot, stopped, Gone, Read, Passed};
+ghost use Rattle.read_preamble.specs.Onwards.{Onwards};
 
 // Whether a line begins `LOCUS` here.
 fn at_locus(s: &[u8], at: usize) -> bool
@@ -81,4 +84,48 @@ pub fn preamble_at(s: &[u8], at: usize) -> Step
         turn = past_line(s, from, line);
     }
     turn.answer
+}
+
+// ---- where the search ended, found anew after a refusal
+
+// A turn of a search: what it passes ends at a place, or it goes no further.
+pub enum Onward {
+    To(usize),
+    Stop,
+}
+
+// A line is passed that does not begin `LOCUS` and is UTF-8.
+fn search_turn(s: &[u8], at: usize) -> Onward
+    requires { ⌜ at ≤ length (now s) ⌝ }
+    ensures { λ r. ⌜ Onwards preambleTurn (now (s .entry)) at r ⌝ }
+{
+    if at_locus(s, at) {
+        return Onward::Stop;
+    }
+    match scan_bytes::line_at(s, at) {
+        Line::Got { end, next } => {
+            if !scan_utf8::utf8_ok(s, at, end) {
+                return Onward::Stop;
+            }
+            Onward::To(next)
+        }
+        Line::No => Onward::Stop,
+        Line::Cut => Onward::Stop,
+    }
+}
+
+// The place where the search for LOCUS ended: the line that begins so, the one that stopped the search, or the end.
+pub fn search_at(s: &[u8], at: usize) -> usize
+    requires { ⌜ at ≤ length (now s) ⌝ }
+    ensures { λ r. ⌜ Stands (now (s .entry)) at (searched (drop at (now (s .entry)))) r ⌝ }
+{
+    let mut i = at;
+    loop {
+        match search_turn(s, i) {
+            Onward::To(next) => {
+                i = next;
+            }
+            Onward::Stop => return i,
+        }
+    }
 }

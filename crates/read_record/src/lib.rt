@@ -1,10 +1,10 @@
 // The reader's entry point with the features' rows as structs: all but the features is prepared, and then they are put in one pass, row by row.
 use base_rows::Feature;
-use spec_format::ReadAnswer;
+use spec_contracts::Reported;
 ghost use Rattle.spec_contracts.specs.Lent.{lent, left};
-ghost use Rattle.spec_contracts.specs.Reads.{Answered};
+ghost use Rattle.spec_contracts.specs.Reads.{ReadReported};
 
-// Reads the record at a place of a slice into the rooms. It has no branch: where the answer refuses, no feature is left to be put.
+// Reads the record at a place of a slice into the rooms. It has no branch: where the answer refuses, no feature is left to be put, and the line of the trouble is found.
 pub fn read(
     s: &[u8],
     at: usize,
@@ -15,8 +15,8 @@ pub fn read(
     qualifiers: &mut [usize],
     locations: &mut [usize],
     letters: &mut [u8],
-) -> ReadAnswer
-    ensures { λ r. ⌜ Answered (now (s .entry)) at (lent texts references comments rows qualifiers locations letters) (left texts references comments rows qualifiers locations letters) r ⌝ }
+) -> Reported
+    ensures { λ r. ⌜ ReadReported (now (s .entry)) at (lent texts references comments rows qualifiers locations letters) (left texts references comments rows qualifiers locations letters) r ⌝ }
 {
     let p = read_record_prepared::prepare(
         s,
@@ -39,5 +39,7 @@ pub fn read(
         qualifiers,
         locations,
     );
-    p.answer
+    let answer = p.answer;
+    let spot = read_trouble::spot_told(s, at, answer);
+    Reported { answer, spot }
 }

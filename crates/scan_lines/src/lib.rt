@@ -1,8 +1,12 @@
 // The line reader: it keeps the input and the place reached in it. Its functions are thin: each takes it apart and asks one that has the slice and the place.
+use base_arith::both;
 use scan_bytes::Line;
 ghost use mathlib.Core.Path.{_≡_};
-ghost use lib.ListN.{drop};
-ghost use Rattle.scan_lines.specs.Reached.{Fetched, NextLine, NextFeed, afterLine, Fed};
+ghost use mathlib.Core.Bool.{not};
+ghost use Prim.Native.Nat.{_+_, _≤_};
+ghost use lib.Dec.{eqb};
+ghost use lib.ListN.{length, drop};
+ghost use Rattle.scan_lines.specs.Reached.{Fetched, NextLine, NextFeed, afterLine, Feedless, Unfed, Fed};
 
 pub struct LineReader<'a> {
     pub input: &'a [u8],
@@ -46,11 +50,48 @@ pub fn line_step(input: &[u8], place: usize) -> Taken
     }
 }
 
+fn no_feed(b: u8) -> bool
+    ensures { λ r. ⌜ r ≡ not (eqb b 10) ⌝ }
+{
+    b != b'\n'
+}
+
+// Whether no LF stands among the 32 bytes at a place: a loop without a branch, which the compiler makes a test of many bytes at once.
+fn feedless(input: &[u8], at: usize) -> bool
+    requires { ⌜ at + 32 ≤ length (now input) ⌝ }
+    ensures { λ r. ⌜ Feedless (now (input .entry)) at 32 r ⌝ }
+{
+    let mut ok = true;
+    let mut j = 0;
+    while j < 32 {
+        ok = both(ok, no_feed(input[at + j]));
+        j += 1;
+    }
+    ok
+}
+
+// A later place up to which no LF stands, found 32 bytes at a time.
+fn past_blocks(input: &[u8], place: usize) -> usize
+    ensures { λ r. ⌜ Unfed (now (input .entry)) place r ⌝ }
+{
+    if input.len() < place {
+        return place;
+    }
+    let mut i = place;
+    while 32 <= input.len() - i {
+        if !feedless(input, i) {
+            return i;
+        }
+        i += 32;
+    }
+    i
+}
+
 // The place after the next LF, or the end, whatever else stands in the line.
 pub fn feed_step(input: &[u8], place: usize) -> usize
     ensures { λ r. ⌜ Fed (now (input .entry)) place r ⌝ }
 {
-    let mut i = place;
+    let mut i = past_blocks(input, place);
     while i < input.len() {
         if input[i] == b'\n' {
             return i + 1;

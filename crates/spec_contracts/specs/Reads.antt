@@ -1,12 +1,14 @@
--- What the reader promises. It rules out a reader that always refuses, one that reads the first record from every place, and one that leaves a room changed
--- where it refuses.
+-- What the reader promises. It rules out a reader that always refuses, one that reads the first record from every place, one that leaves a room changed
+-- where it refuses, and one that tells the line after the trouble.
 use Prim.Native.Nat.{ℕ}
 use mathlib.Core.Path.{_≡_}
 use mathlib.Core.List.{List}
 use Rattle.spec_format.specs.Rooms.{Rooms, readAnswer, roomsAfter, roomsIn}
 use Rattle.spec_format.specs.declared.ReadAnswer.{ReadAnswer}
+use Rattle.spec_lines.specs.Troubles.{readSpot}
 use Rattle.base_rows.specs.declared.Feature.{Feature}
 use Rattle.base_rows.specs.Rows.{flat}
+use Rattle.spec_contracts.specs.declared.Reported.{Reported}
 
 -- THE READER'S ANSWER, and each room afterwards
 pub record Answered (s : List ℕ) (at : ℕ) (old new : Rooms) (r : ReadAnswer) : Type 0 where
@@ -18,6 +20,11 @@ pub record Answered (s : List ℕ) (at : ℕ) (old new : Rooms) (r : ReadAnswer)
   pub qualifiers : new .qualifiers ≡ roomsAfter s at old .qualifiers
   pub locations : new .locations ≡ roomsAfter s at old .locations
   pub letters : new .letters ≡ roomsAfter s at old .letters
+
+-- WHAT THE READER RETURNS: the answer, and the line that it tells
+pub record ReadReported (s : List ℕ) (at : ℕ) (old new : Rooms) (r : Reported) : Type 0 where
+  pub answered : Answered s at old new (r .answer)
+  pub told : r .spot ≡ readSpot s at (r .answer)
 
 -- ---- the features' room holds rows that are structs; definitions speak of their flat numbers
 

@@ -1,4 +1,4 @@
--- What the function behind the programs promises: a record read into rooms, and written again from them.
+-- What the function behind the programs promises: a record read into rooms, and written again from them. It rules out one that writes though nothing was read, and one that tells no line.
 use Prim.Native.Nat.{ℕ}
 use mathlib.Core.Bool.{false}
 use mathlib.Core.List.{List}
@@ -15,7 +15,9 @@ use Rattle.spec_format.specs.declared.ReadAnswer.the-variants as read
 use Rattle.spec_format.specs.declared.SourceText.the-variants as source
 use Rattle.spec_format.specs.declared.Text.the-variants as text
 use Rattle.spec_format.specs.declared.WriteAnswer.{WriteAnswer}
+use Rattle.spec_lines.specs.Troubles.{readSpot}
 use Rattle.base_rows.specs.declared.Feature.{Feature}
+use Rattle.spec_contracts.specs.declared.Reported.{Reported}
 use Rattle.spec_contracts.specs.Writes.{WriteAnswered}
 
 -- the rows before anything is read into them: no proof writes them out
@@ -63,12 +65,13 @@ howAfter (read.Refused why) how = notAtAll how
 howAfter (read.Room sizes) how = notAtAll how
 
 -- THE ANSWERS AND THE ROOMS AFTERWARDS, of a record at a place of s, read into the rooms `old` and written to the slice `before`
-pub record Rounds (s : List ℕ) (at : ℕ) (old : Rooms) (how : How) (texts references comments qualifiers locations letters before after : List ℕ) (r : ReadAnswer) (w : WriteAnswer) : Type 0 where
-  pub is : r ≡ readAnswer s at old
+pub record Rounds (s : List ℕ) (at : ℕ) (old : Rooms) (how : How) (texts references comments qualifiers locations letters before after : List ℕ) (r : Reported) (w : WriteAnswer) : Type 0 where
+  pub is : r .answer ≡ readAnswer s at old
+  pub told : r .spot ≡ readSpot s at (r .answer)
   pub texts-are : texts ≡ roomsAfter s at old .texts
   pub references-are : references ≡ roomsAfter s at old .references
   pub comments-are : comments ≡ roomsAfter s at old .comments
   pub qualifiers-are : qualifiers ≡ roomsAfter s at old .qualifiers
   pub locations-are : locations ≡ roomsAfter s at old .locations
   pub letters-are : letters ≡ roomsAfter s at old .letters
-  pub wrote : WriteAnswered (howAfter r how) (roomsAfter s at old) (headOf r) before after w
+  pub wrote : WriteAnswered (howAfter (r .answer) how) (roomsAfter s at old) (headOf (r .answer)) before after w

@@ -1,5 +1,5 @@
 -- What the exported functions return: the answers of reader and writer as numbers, by value. This rules out a number that is always the same, a head that is not the record's,
--- and sizes that are not the answer's.
+-- sizes that are not the answer's, and line and offset told in each other's place.
 use Prim.Native.Nat.{ℕ}
 use mathlib.Core.Path.{_≡_}
 use mathlib.Core.Bool.{Bool}
@@ -12,10 +12,12 @@ use Rattle.spec_format.specs.declared.Sizes.{Sizes}
 use Rattle.spec_format.specs.declared.ReadAnswer.{ReadAnswer}
 use Rattle.spec_format.specs.declared.ReadAnswer.the-variants as answer
 use Rattle.spec_format.specs.declared.WriteAnswer.{WriteAnswer}
+use Rattle.spec_lines.specs.declared.Spot.{Spot}
+use Rattle.spec_contracts.specs.declared.Reported.{Reported}
 use Rattle.spec_contracts.specs.declared.Reading.{Reading}
 use Rattle.spec_contracts.specs.declared.Writing.{Writing}
 use Rattle.spec_contracts.specs.Numbers.{headNumbers, headFrom}
-use Rattle.spec_contracts.specs.Reads.{Answered}
+use Rattle.spec_contracts.specs.Reads.{ReadReported}
 use Rattle.spec_contracts.specs.Writes.{WriteAnswered}
 
 -- ---- reading
@@ -36,13 +38,24 @@ sizesTold (answer.Done h place) = noSizes
 sizesTold (answer.Refused why) = noSizes
 sizesTold (answer.Room n) = n
 
-abbrev pub reading : ℕ → ReadAnswer → Reading
-reading at a = record { number = readNumber a; place = readPlace at a; head = headTold a; sizes = sizesTold a }
+abbrev pub reported : ReadAnswer → Spot → Reported
+reported a p = record { answer = a; spot = p }
+
+abbrev pub reading : ℕ → Reported → Reading
+reading at r =
+    record {
+      number = readNumber (r .answer);
+      place = readPlace at (r .answer);
+      line = r .spot .line;
+      offset = r .spot .offset;
+      head = headTold (r .answer);
+      sizes = sizesTold (r .answer);
+    }
 
 -- WHAT `vilggodan_read` RETURNS: the reader's answer as numbers; the rooms are the reader's
 pub record ReadTold (s : List ℕ) (at : ℕ) (old new : Rooms) (told : Reading) : Type 0 where
-  pub answer : ReadAnswer
-  pub answered : Answered s at old new answer
+  pub answer : Reported
+  pub answered : ReadReported s at old new answer
   pub is : told ≡ reading at answer
 
 -- ---- writing

@@ -3,7 +3,7 @@ use Prim.Native.Nat.{ℕ, _*_, _/_, _<_}
 use native.Mathlib.Omega.{arith}
 use mathlib.Core.Bool.{Bool, true, false, _&&_}
 use mathlib.Core.List.{List}
-use mathlib.Core.Path.{_≡_, refl, ap, _∙_}
+use mathlib.Core.Path.{_≡_, refl, sym, ap, _∙_}
 use lib.Dec.{leb}
 use lib.ListN.{length, replicate, length-replicate}
 use borrow.Author.Tests.{le-leb}
@@ -20,6 +20,7 @@ use Rattle.spec_format.specs.declared.Head.{Head}
 use Rattle.spec_format.specs.declared.How.{How}
 use Rattle.spec_format.specs.declared.Length.{Length}
 use Rattle.spec_format.specs.declared.Length.the-variants as bases
+use Rattle.spec_format.specs.declared.ReadAnswer.{ReadAnswer}
 use Rattle.spec_format.specs.declared.ReadAnswer.the-variants as read
 use Rattle.spec_format.specs.declared.Sizes.{Sizes}
 use Rattle.spec_format.specs.declared.Unread.{Unread}
@@ -28,11 +29,14 @@ use Rattle.spec_format.specs.declared.Unwritten.{Unwritten}
 use Rattle.spec_format.specs.declared.Unwritten.the-variants as unwritten
 use Rattle.spec_format.specs.declared.WriteAnswer.{WriteAnswer}
 use Rattle.spec_format.specs.declared.WriteAnswer.the-variants as answer
+use Rattle.spec_lines.specs.Troubles.{readSpot}
+use Rattle.spec_lines.specs.declared.Spot.{Spot}
 use Rattle.base_rows.specs.declared.Feature.{Feature}
 use Rattle.base_rows.specs.Flat.{flat-tells}
 use Rattle.api_head.specs.Back.{outside-refused}
 use Rattle.spec_contracts.specs.Numbers.{outside}
 use Rattle.spec_contracts.specs.Reads.{RowRooms, flatRooms}
+use Rattle.spec_contracts.specs.declared.Reported.{Reported}
 use Rattle.spec_contracts.specs.Writes.{answerBy, answerDue, textDue, LengthFits}
 
 -- ---- the reader: a refusal is neither 0 nor 6
@@ -111,6 +115,16 @@ module _ (s : List ℕ) (at : ℕ) (q : Rooms) where
       go : (b : Bool) → fits (sizes t) q ≡ b → roomsAfter s at q ≡ overRooms (layout t) q
       go true f = rw (e, f)
       go false f = let x = answer-number t rest false e f in impossible cc
+
+-- an answer and the line that it tells are one result
+pub reported-equal : (r r′ : Reported) → r .answer ≡ r′ .answer → r .spot ≡ r′ .spot → r ≡ r′
+reported-equal r r′ e f = ap (λ (x : ReadAnswer). with-spot x (r .spot)) e ∙ ap (λ (x : Spot). with-spot (r′ .answer) x) f
+  where
+    with-spot : ReadAnswer → Spot → Reported
+    with-spot a p = record { answer = a; spot = p }
+
+pub told-equal : (s : List ℕ) (at : ℕ) (r r′ : Reported) → r .answer ≡ r′ .answer → r .spot ≡ readSpot s at (r .answer) → r′ .spot ≡ readSpot s at (r′ .answer) → r ≡ r′
+told-equal s at r r′ e t t′ = reported-equal r r′ e (t ∙ (ap (λ (x : ReadAnswer). readSpot s at x) e ∙ sym t′))
 
 -- flat numbers tell the rows
 pub rows-tell : (a b : RowRooms) → flatRooms a ≡ flatRooms b → a ≡ b

@@ -23,13 +23,14 @@ use Rattle.spec_format.specs.declared.WriteAnswer.{WriteAnswer}
 use Rattle.spec_format.specs.declared.WriteAnswer.the-variants as write
 use Rattle.spec_contracts.specs.Equal.{rooms-after}
 use Rattle.spec_contracts.specs.Numbers.{headFrom, outside}
-use Rattle.spec_contracts.specs.Reads.{Answered, RowRooms, flatRooms}
+use Rattle.spec_contracts.specs.Reads.{Answered, ReadReported, RowRooms, flatRooms}
 use Rattle.spec_contracts.specs.Rounds.{headOf, howAfter, Rounds}
 use Rattle.spec_contracts.specs.Told.{reading, writing, ReadTold, WriteTold}
 use Rattle.spec_contracts.specs.Writes.{textDue, WriteAnswered}
 use Rattle.spec_contracts.specs.declared.Reading.{Reading}
+use Rattle.spec_contracts.specs.declared.Reported.{Reported}
 use Rattle.spec_contracts.specs.declared.Writing.{Writing}
-use Rattle.spec_demands.specs.Answers.{unread-not-six, rows-tell, room-of, after-same, slice-same, no-width, no-head, what-is-due}
+use Rattle.spec_demands.specs.Answers.{unread-not-six, told-equal, rows-tell, room-of, after-same, slice-same, no-width, no-head, what-is-due}
 use Rattle.spec_demands.specs.Six.{six-more, more-six, told-more, told-used, room-told, bytes-told}
 use Rattle.spec_demands.specs.What.{MoreRoom, Uses, MoreBytes}
 
@@ -78,6 +79,13 @@ module _ (s : List ℕ) (at : ℕ) (old new : RowRooms) (a : ReadAnswer) (call :
   pub read-one : (new′ : RowRooms) (a′ : ReadAnswer) → Answered s at (flatRooms old) (flatRooms new′) a′ → (a ≡ a′) × (new ≡ new′)
   read-one new′ a′ other = (call .is ∙ sym (other .is), rows-tell new new′ (after ∙ sym (rooms-after s at (flatRooms old) (flatRooms new′) a′ other)))
 
+-- what the reader returns: any two results that its contract permits are equal, answer and line, and so are the rooms afterwards
+pub reported-one : (s : List ℕ) (at : ℕ) (old new new′ : RowRooms) (r r′ : Reported) → ReadReported s at (flatRooms old) (flatRooms new) r →
+    ReadReported s at (flatRooms old) (flatRooms new′) r′ → (r ≡ r′) × (new ≡ new′)
+reported-one s at old new new′ r r′ call other =
+    let e = read-one s at old new (r .answer) (call .answered) new′ (r′ .answer) (other .answered) in
+    (told-equal s at r r′ (e .0) (call .told) (other .told), e .1)
+
 module _ (s : List ℕ) (at : ℕ) (old new : Rooms) (a : ReadAnswer) (call : Answered s at old new a) where
   -- 6 EXACTLY WHEN THE CALL WOULD SUCCEED WITH MORE ROOM
   pub read-six : (readNumber a ≡ 6) ↔ ((n : Sizes) × MoreRoom s at old n)
@@ -107,31 +115,31 @@ module _ (how : How) (r : Rooms) (h : Head) (old new : List ℕ) (a : WriteAnswe
 -- ---- THE BOUNDARY for C and Rust: the same of `vilggodan_read` and `vilggodan_write`, which return their answers by value
 
 module _ (s : List ℕ) (at : ℕ) (old new : RowRooms) (told : Reading) (call : ReadTold s at (flatRooms old) (flatRooms new) told) where
-  number-is : told .number ≡ readNumber (call .answer)
+  number-is : told .number ≡ readNumber (call .answer .answer)
   number-is = ap (λ (x : Reading). x .number) (call .is)
 
   pub read-told-numbered : oneOf readNumbers (told .number) ≡ true
-  read-told-numbered = rw number-is (read-numbered (call .answer))
+  read-told-numbered = rw number-is (read-numbered (call .answer .answer))
 
   pub read-told-untouched : (told .number ≡ 0 → ⊥) → new ≡ old
-  read-told-untouched n = read-untouched s at old new (call .answer) (call .answered) (λ z. n (number-is ∙ z))
+  read-told-untouched n = read-untouched s at old new (call .answer .answer) (call .answered .answered) (λ z. n (number-is ∙ z))
 
   pub read-told-one : (new′ : RowRooms) (told′ : Reading) → ReadTold s at (flatRooms old) (flatRooms new′) told′ → (told ≡ told′) × (new ≡ new′)
   read-told-one new′ told′ other =
-      let e = read-one s at old new (call .answer) (call .answered) new′ (other .answer) (other .answered) in
-      (call .is ∙ (ap (λ (x : ReadAnswer). reading at x) (e .0) ∙ sym (other .is)), e .1)
+      let e = reported-one s at old new new′ (call .answer) (other .answer) (call .answered) (other .answered) in
+      (call .is ∙ (ap (λ (x : Reported). reading at x) (e .0) ∙ sym (other .is)), e .1)
 
   pub read-told-six : (told .number ≡ 6) ↔ ((n : Sizes) × MoreRoom s at (flatRooms old) n)
-  read-told-six = rw number-is (read-six s at (flatRooms old) (flatRooms new) (call .answer) (call .answered))
+  read-told-six = rw number-is (read-six s at (flatRooms old) (flatRooms new) (call .answer .answer) (call .answered .answered))
 
   pub read-told-sizes : told .number ≡ 6 → MoreRoom s at (flatRooms old) (told .sizes)
-  read-told-sizes z = go (call .answer) refl
+  read-told-sizes z = go (call .answer .answer) refl
     where
-      go : (a : ReadAnswer) → call .answer ≡ a → MoreRoom s at (flatRooms old) (told .sizes)
+      go : (a : ReadAnswer) → call .answer .answer ≡ a → MoreRoom s at (flatRooms old) (told .sizes)
       go (read.Done h place) e = let x : told .number ≡ 0 = number-is ∙ ap readNumber e in impossible cc
       go (read.Refused why) e = absurd (unread-not-six why (sym (number-is ∙ ap readNumber e) ∙ z))
       go (read.Room n) e =
-          rw (call .is) (rw e (read-six-sizes s at (flatRooms old) (flatRooms new) (call .answer) (call .answered) n e .0))
+          rw (call .is) (rw e (read-six-sizes s at (flatRooms old) (flatRooms new) (call .answer .answer) (call .answered .answered) n e .0))
 
 module _ (how : How) (r : Rooms) (ns old new : List ℕ) (told : Writing) (call : WriteTold how r ns old new told) where
   wrote-is : told .number ≡ writeNumber (call .answer)
@@ -163,16 +171,16 @@ module _ (how : How) (r : Rooms) (ns old new : List ℕ) (told : Writing) (call 
 -- ---- THE FUNCTION BEHIND THE PROGRAMS: a record at a place of s, read into the rooms `old` and written again to the slice `before`, which is then `after`
 
 module _
-    (s : List ℕ) (at : ℕ) (old : Rooms) (how : How) (t rf cm q lc l before after : List ℕ) (r : ReadAnswer) (w : WriteAnswer)
+    (s : List ℕ) (at : ℕ) (old : Rooms) (how : How) (t rf cm q lc l before after : List ℕ) (r : Reported) (w : WriteAnswer)
     (call : Rounds s at old how t rf cm q lc l before after r w) where
-  -- any two answers that the contract permits are equal, and so are the slice and the rooms afterwards
-  pub round-one : (t′ rf′ cm′ q′ lc′ l′ after′ : List ℕ) (r′ : ReadAnswer) (w′ : WriteAnswer) → Rounds s at old how t′ rf′ cm′ q′ lc′ l′ before after′ r′ w′ →
+  -- any two results that the contract permits are equal, answers and line, and so are the slice and the rooms afterwards
+  pub round-one : (t′ rf′ cm′ q′ lc′ l′ after′ : List ℕ) (r′ : Reported) (w′ : WriteAnswer) → Rounds s at old how t′ rf′ cm′ q′ lc′ l′ before after′ r′ w′ →
       (r ≡ r′) × ((w ≡ w′) × ((after ≡ after′) × ((t ≡ t′) × ((rf ≡ rf′) × ((cm ≡ cm′) × ((q ≡ q′) × ((lc ≡ lc′) × (l ≡ l′))))))))
   round-one t′ rf′ cm′ q′ lc′ l′ after′ r′ w′ other =
-      let e : r ≡ r′ = call .is ∙ sym (other .is) in
-      let o : WriteAnswered (howAfter r how) (roomsAfter s at old) (headOf r) before after′ w′ =
-      subst (λ (x : ReadAnswer). WriteAnswered (howAfter x how) (roomsAfter s at old) (headOf x) before after′ w′) (sym e) (other .wrote) in
-      let v = written-one (howAfter r how) (roomsAfter s at old) (headOf r) before after w (call .wrote) after′ w′ o in (
+      let e : r ≡ r′ = told-equal s at r r′ (call .is ∙ sym (other .is)) (call .told) (other .told) in
+      let o : WriteAnswered (howAfter (r .answer) how) (roomsAfter s at old) (headOf (r .answer)) before after′ w′ =
+      subst (λ (x : Reported). WriteAnswered (howAfter (x .answer) how) (roomsAfter s at old) (headOf (x .answer)) before after′ w′) (sym e) (other .wrote) in
+      let v = written-one (howAfter (r .answer) how) (roomsAfter s at old) (headOf (r .answer)) before after w (call .wrote) after′ w′ o in (
         e,
         (
           v .0,
@@ -193,7 +201,7 @@ module _
       )
 
   -- where nothing is read the rooms are what they were
-  pub round-unread : (readNumber r ≡ 0 → ⊥) →
+  pub round-unread : (readNumber (r .answer) ≡ 0 → ⊥) →
       (t ≡ old .texts) × ((rf ≡ old .references) × ((cm ≡ old .comments) × ((q ≡ old .qualifiers) × ((lc ≡ old .locations) × (l ≡ old .letters)))))
   round-unread n =
       let e = after-same s at old (λ z. n (ap readNumber (call .is) ∙ z)) in (
@@ -212,16 +220,19 @@ module _
 
   -- where nothing is read or nothing is written the slice is what it was
   pub round-unwritten : (writeNumber w ≡ 0 → ⊥) → after ≡ before
-  round-unwritten n = written-untouched (howAfter r how) (roomsAfter s at old) (headOf r) before after w (call .wrote) n
+  round-unwritten n = written-untouched (howAfter (r .answer) how) (roomsAfter s at old) (headOf (r .answer)) before after w (call .wrote) n
 
-  pub round-unread-unwritten : (readNumber r ≡ 0 → ⊥) → after ≡ before
-  round-unread-unwritten n = round-unwritten (λ z. impossible (cc (z, width-none r refl n)))
+  pub round-unread-unwritten : (readNumber (r .answer) ≡ 0 → ⊥) → after ≡ before
+  round-unread-unwritten n = round-unwritten (λ z. impossible (cc (z, width-none (r .answer) refl n)))
     where
-      width-none : (x : ReadAnswer) → r ≡ x → (readNumber r ≡ 0 → ⊥) → writeNumber w ≡ 12
+      width-none : (x : ReadAnswer) → r .answer ≡ x → (readNumber (r .answer) ≡ 0 → ⊥) → writeNumber w ≡ 12
       width-none (read.Done h place) e n = absurd (n (ap readNumber e))
       width-none (read.Refused why) e n = ap writeNumber (call .wrote .is) ∙ rw e (no-width (how .keeping) (how .truncate) (how .escape) (roomsAfter s at old) _ (length before))
       width-none (read.Room sizes) e n = ap writeNumber (call .wrote .is) ∙ rw e (no-width (how .keeping) (how .truncate) (how .escape) (roomsAfter s at old) _ (length before))
 
   -- its two answers are the reader's and the writer's, so what is said of 6 above holds of them
-  pub round-read : Answered s at old (roomsAfter s at old) r
+  pub round-read : Answered s at old (roomsAfter s at old) (r .answer)
   round-read = record { is = call .is; texts = refl; references = refl; comments = refl; features = refl; qualifiers = refl; locations = refl; letters = refl }
+
+  pub round-reported : ReadReported s at old (roomsAfter s at old) r
+  round-reported = record { answered = round-read; told = call .told }

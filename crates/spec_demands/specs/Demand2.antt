@@ -17,16 +17,18 @@ use Rattle.spec_format.specs.declared.ReadAnswer.the-variants as read
 use Rattle.spec_format.specs.declared.Unread.{Unread}
 use Rattle.spec_format.specs.declared.WriteAnswer.{WriteAnswer}
 use Rattle.spec_format.specs.declared.WriteAnswer.the-variants as write
+use Rattle.spec_lines.specs.Troubles.{readSpot}
 use Rattle.spec_promise.specs.Grounds.{DoneBy, done-by, done-holds}
 use Rattle.spec_promise.specs.Promise.{what-was-read-can-be-written}
 use Rattle.spec_contracts.specs.Equal.{rooms-after}
 use Rattle.spec_contracts.specs.Numbers.{headFrom}
-use Rattle.spec_contracts.specs.Reads.{Answered}
+use Rattle.spec_contracts.specs.Reads.{Answered, ReadReported}
 use Rattle.spec_contracts.specs.Told.{reading, writing, ReadTold, WriteTold}
 use Rattle.spec_contracts.specs.Writes.{answerDue, textDue, WriteAnswered}
 use Rattle.spec_contracts.specs.declared.Reading.{Reading}
+use Rattle.spec_contracts.specs.declared.Reported.{Reported}
 use Rattle.spec_contracts.specs.declared.Writing.{Writing}
-use Rattle.spec_demands.specs.Answers.{refused-by, done-count}
+use Rattle.spec_demands.specs.Answers.{reported-equal, refused-by, done-count}
 
 -- ---- THE READER
 
@@ -56,6 +58,17 @@ module _ (s : List ℕ) (at : ℕ) (old new : Rooms) (a : ReadAnswer) (call : An
   pub read-refused : (why : Unread) → a ≡ read.Refused why → readAt s at ≡ Not why
   read-refused why e = refused-by s at old why (sym (call .is) ∙ e)
 
+-- answer and line
+abbrev pub reportDue : List ℕ → ℕ → Rooms → Reported
+reportDue s at old = record { answer = readAnswer s at old; spot = readSpot s at (readAnswer s at old) }
+
+pub reported-right : (s : List ℕ) (at : ℕ) (old new : Rooms) (r : Reported) → ReadReported s at old new r → (r ≡ reportDue s at old) × (new ≡ roomsAfter s at old)
+reported-right s at old new r call =
+    let e = call .answered .is in (
+      reported-equal r (reportDue s at old) e (call .told ∙ ap (λ (x : ReadAnswer). readSpot s at x) e),
+      rooms-after s at old new (r .answer) (call .answered),
+    )
+
 -- ---- THE WRITER
 
 module _ (how : How) (r : Rooms) (h : Head) (old new : List ℕ) (a : WriteAnswer) (call : WriteAnswered how r h old new a) where
@@ -70,9 +83,11 @@ module _ (how : How) (r : Rooms) (h : Head) (old new : List ℕ) (a : WriteAnswe
 
 -- ---- THE BOUNDARY: the same answers, as numbers
 
-pub read-told-right : (s : List ℕ) (at : ℕ) (old new : Rooms) (told : Reading) → ReadTold s at old new told → (told ≡ reading at (readAnswer s at old)) × (new ≡ roomsAfter s at old)
-read-told-right s at old new told call =
-    (call .is ∙ ap (λ (x : ReadAnswer). reading at x) (call .answered .is), rooms-after s at old new (call .answer) (call .answered))
+pub read-told-right : (s : List ℕ) (at : ℕ) (old new : Rooms) (told : Reading) → ReadTold s at old new told → (told ≡ reading at (reportDue s at old)) × (new ≡ roomsAfter s at old)
+read-told-right s at old new told call = (
+  call .is ∙ ap (λ (x : Reported). reading at x) (reported-right s at old new (call .answer) (call .answered) .0),
+  rooms-after s at old new (call .answer .answer) (call .answered .answered),
+)
 
 pub written-told-right : (how : How) (r : Rooms) (ns old new : List ℕ) (told : Writing) → WriteTold how r ns old new told →
     (told ≡ writing (answerDue how r (headFrom ns) (length old))) × (new ≡ sliceAfter (answerDue how r (headFrom ns) (length old)) (textDue how (tableOf r (headFrom ns))) old)

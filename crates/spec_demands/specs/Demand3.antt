@@ -9,7 +9,7 @@ use native.Mathlib.Omega.{arith}
 use lib.ListN.{length, take}
 use Rattle.spec_format.specs.Answers.{sliceAfter}
 use Rattle.spec_format.specs.Keeping.{keeps}
-use Rattle.spec_format.specs.Numbers.{writeNumber}
+use Rattle.spec_format.specs.Numbers.{readNumber, readPlace, writeNumber}
 use Rattle.spec_format.specs.Record.{most}
 use Rattle.spec_format.specs.Rooms.{Rooms, tableOf, roomsFine, sizes, fits, roomsAfter}
 use Rattle.spec_format.specs.Rooms as rooms
@@ -26,10 +26,11 @@ use Rattle.spec_promise.specs.Promise.{thirteen-exactly, kept-as-plain, done-li
 use Rattle.spec_contracts.specs.Equal.{rooms-after}
 use Rattle.spec_contracts.specs.Numbers.{headFrom}
 use Rattle.spec_contracts.specs.Reads.{Answered}
-use Rattle.spec_contracts.specs.Rounds.{Rounds}
-use Rattle.spec_contracts.specs.Told.{howOf, reading, writing, ReadTold, WriteTold}
+use Rattle.spec_contracts.specs.Rounds.{headOf, howAfter, Rounds}
+use Rattle.spec_contracts.specs.Told.{howOf, headTold, writing, ReadTold, WriteTold}
 use Rattle.spec_contracts.specs.Writes.{textDue, WriteAnswered}
 use Rattle.spec_contracts.specs.declared.Reading.{Reading}
+use Rattle.spec_contracts.specs.declared.Reported.{Reported}
 use Rattle.spec_contracts.specs.declared.Writing.{Writing}
 use Rattle.api_head.specs.Back.{head-back}
 use Rattle.spec_demands.specs.Answers.{keeping-passed, length-below}
@@ -112,22 +113,26 @@ module _ (W : ℕ) (truncate escape : Bool) (r : Rooms) (ns old new : List ℕ) 
         let t = tableOf r (headFrom ns) in
         let b = back W truncate escape r (headFrom ns) old new (w .count) wrote m before f in
         let passed = keeping-passed W truncate escape r (headFrom ns) (length old) (w .count) (sym (wrote .is)) in
-        let is : told ≡ reading 0 (read.Done (rooms.headOf t) (w .count)) = again .is ∙ ap (λ (x : ReadAnswer). reading 0 x) (again .answered .is ∙ b .done) in
+        let is : again .answer .answer ≡ read.Done (rooms.headOf t) (w .count) = again .answered .answered .is ∙ b .done in
         let head-is : headFrom (told .head) ≡ rooms.headOf t =
-        ap (λ (x : Reading). headFrom (x .head)) is ∙ head-back (rooms.headOf t) (head-small W truncate escape r (headFrom ns) (passed .rooms) (passed .formed) (wrote .fits)) in
+        ap (λ (x : Reading). headFrom (x .head)) (again .is) ∙ ap (λ (x : ReadAnswer). headFrom (headTold x)) is
+        ∙ head-back (rooms.headOf t) (head-small W truncate escape r (headFrom ns) (passed .rooms) (passed .formed) (wrote .fits)) in
         record {
-          done = ap (λ (x : Reading). x .number) is;
-          place = ap (λ (x : Reading). x .place) is;
+          done = ap (λ (x : Reading). x .number) (again .is) ∙ ap readNumber is;
+          place = ap (λ (x : Reading). x .place) (again .is) ∙ ap (readPlace 0) is;
           same =
               ap (tableOf after) head-is ∙
-              (ap (λ (x : Rooms). tableOf x (rooms.headOf t)) (rooms-after (take (w .count) new) 0 before after (again .answer) (again .answered)) ∙ b .same);
+              (ap (λ (x : Rooms). tableOf x (rooms.headOf t)) (rooms-after (take (w .count) new) 0 before after (again .answer .answer) (again .answered .answered)) ∙ b .same);
         }
 
 -- ---- THE FUNCTION BEHIND THE PROGRAMS: a record that was read, and then written by the keeping rules, is read again as the table that was read
 
 module _
-    (s : List ℕ) (at : ℕ) (old : Rooms) (W : ℕ) (truncate escape : Bool) (t rf cm q lc l out new : List ℕ) (h : Head) (place k : ℕ)
-    (call : Rounds s at old (howOf true W truncate escape) t rf cm q lc l out new (read.Done h place) (write.Done k)) where
+    (s : List ℕ) (at : ℕ) (old : Rooms) (W : ℕ) (truncate escape : Bool) (t rf cm q lc l out new : List ℕ) (r : Reported) (h : Head) (place k : ℕ)
+    (call : Rounds s at old (howOf true W truncate escape) t rf cm q lc l out new r (write.Done k)) (done : r .answer ≡ read.Done h place) where
   pub round-the-same : k ≤ most → (before after : Rooms) (a : ReadAnswer) → fits (sizes (tableOf (roomsAfter s at old) h)) before ≡ true → Answered (take k new) 0 before after a →
       Same (roomsAfter s at old) h k after a
-  round-the-same m before after a f again = still-the-same W truncate escape (roomsAfter s at old) h out new k (call .wrote) m before after a f again
+  round-the-same m before after a f again =
+      let wrote : WriteAnswered (howOf true W truncate escape) (roomsAfter s at old) h out new (write.Done k) =
+      subst (λ (x : ReadAnswer). WriteAnswered (howAfter x (howOf true W truncate escape)) (roomsAfter s at old) (headOf x) out new (write.Done k)) done (call .wrote) in
+      still-the-same W truncate escape (roomsAfter s at old) h out new k wrote m before after a f again

@@ -4,6 +4,10 @@ pub mod What
 pub mod Answers
 pub mod Six
 pub mod HeadSmall
+pub mod LineLaws
+pub mod Troubled
+pub mod Spots
 pub mod Demand1
 pub mod Demand2
 pub mod Demand3
+pub mod Lines

@@ -1,10 +1,12 @@
--- What the demands speak of: more room, and the same table again.
-use Prim.Native.Nat.{ℕ, _*_, _≤_, _<_}
-use mathlib.Core.Bool.{true, false}
+-- What the demands speak of: more room, the same table again, and the line of a trouble.
+use Prim.Native.Nat.{ℕ, _+_, _-_, _*_, _≤_, _<_}
+use mathlib.Core.Bool.{Bool, true, false, _||_}
 use mathlib.Core.List.{List}
-use mathlib.Core.Logic.{_↔_}
+use mathlib.Core.Logic.{_↔_, _⊎_}
 use mathlib.Core.Path.{_≡_}
-use lib.ListN.{length}
+use lib.Dec.{eqb}
+use lib.ListN.{length, getD, take, drop}
+use Rattle.spec_format.specs.Bytes.{May, absent, is}
 use Rattle.spec_format.specs.Numbers.{readNumber, writeNumber, writeValue}
 use Rattle.spec_format.specs.Rooms.{Rooms, tableOf, fits, overRooms}
 use Rattle.spec_format.specs.declared.Head.{Head}
@@ -13,6 +15,9 @@ use Rattle.spec_format.specs.declared.ReadAnswer.{ReadAnswer}
 use Rattle.spec_format.specs.declared.ReadAnswer.the-variants as read
 use Rattle.spec_format.specs.declared.Sizes.{Sizes}
 use Rattle.spec_format.specs.declared.WriteAnswer.{WriteAnswer}
+use Rattle.spec_lines.specs.Lines.{feeds}
+use Rattle.spec_lines.specs.Stands.{Stands}
+use Rattle.spec_lines.specs.Troubles.{searched, troubled}
 use Rattle.spec_contracts.specs.Numbers.{headFrom}
 use Rattle.spec_contracts.specs.Reads.{Answered}
 use Rattle.spec_contracts.specs.Writes.{WriteAnswered}
@@ -52,3 +57,32 @@ pub record SameTold (r : Rooms) (ns : List ℕ) (k : ℕ) (after : Rooms) (told 
   pub done : told .number ≡ 0
   pub place : told .place ≡ k
   pub same : tableOf after (headFrom (told .head)) ≡ tableOf r (headFrom ns)
+
+-- ---- lines
+
+-- the numbers that tell no line
+abbrev pub lineless : ℕ → Bool
+lineless n = eqb n 0 || (eqb n 1 || eqb n 3)
+
+-- what stands from an answer's trouble on, where s stands from the place given on; 6 has its trouble at the LOCUS line
+abbrev pub troubleOf : ReadAnswer → List ℕ → May (List ℕ)
+troubleOf (read.Done head place) s = absent
+troubleOf (read.Refused why) s = troubled why s
+troubleOf (read.Room sizes) s = is (searched s)
+
+-- THE LINE OF THE TROUBLE: with the answer a of a call on the slice s at the place `at`, line and offset are those of the line in which the trouble lies
+pub record LineTold (s : List ℕ) (at : ℕ) (a : ReadAnswer) (line offset : ℕ) : Type 0 where
+  -- what stands from the trouble on, and its place in the slice, `at` or later
+  pub rest : List ℕ
+  pub trouble : troubleOf a (drop at s) ≡ is rest
+  pub place : ℕ
+  pub stands : Stands s at rest place
+  -- the offset is a line's first byte: the place given, or after an LF
+  pub first : (offset ≡ at) ⊎ ((at < offset) × (getD s (offset - 1) 0 ≡ 10))
+  pub from : at ≤ offset
+  pub within : offset ≤ length s
+  -- the line is 1 and the LFs from the place given to the offset
+  pub counted : line ≡ 1 + feeds (take (offset - at) (drop at s))
+  -- the trouble lies in that line: no LF stands between the offset and the trouble
+  pub to : offset ≤ place
+  pub unbroken : feeds (take (place - offset) (drop offset s)) ≡ 0

@@ -12,16 +12,16 @@ unfoldable pub originTag : List ℕ → Ans (List ℕ)
 originTag s =
     orElse (bind (tag (bytes "ORIGIN") s) λ _ s. bind (until notBlank s) λ _ s. lineEnd s) (field 0 (bytes "ORIGIN") true s)
 
--- where the letters end: at a `/`, at the input's end, or at a byte that cannot stand there
+-- where the letters end: at a `/`, at the input's end, or at a byte that cannot stand there; and what stands from there on
 pub data Letters : Type 0 where
   AtSlash : List ℕ → List ℕ → Letters
   AtEnd : List ℕ → Letters
-  Bad : Letters
+  Bad : List ℕ → Letters
 
 abbrev pub keep : ℕ → Letters → Letters
 keep b (AtSlash l r) = AtSlash (b ∷ l) r
 keep b (AtEnd l) = AtEnd (b ∷ l)
-keep b Bad = Bad
+keep b (Bad r) = Bad r
 
 -- digits, spaces, CR and LF
 abbrev pub skipped : ℕ → Bool
@@ -30,4 +30,4 @@ skipped b = digit b || (eqb b 32 || (eqb b 13 || eqb b 10))
 -- "Letters are kept, digits and blanks skipped, `/` ends"
 unfoldable pub letters : List ℕ → Letters
 letters [] = AtEnd []
-letters (b ∷ s) = elim (letter b) [ true ↦ keep b (letters s) | false ↦ elim (eqb b 47) [ true ↦ AtSlash [] (b ∷ s) | false ↦ elim (skipped b) [ true ↦ letters s | false ↦ Bad ] ] ]
+letters (b ∷ s) = elim (letter b) [ true ↦ keep b (letters s) | false ↦ elim (eqb b 47) [ true ↦ AtSlash [] (b ∷ s) | false ↦ elim (skipped b) [ true ↦ letters s | false ↦ Bad (b ∷ s) ] ] ]

@@ -97,7 +97,7 @@ withLetters t l =
 abbrev pub sequence : Table → Letters → Outcome
 sequence t (AtSlash l r) = pick (promised (t .locus .length) (length l)) (slashesAt (withLetters t l) r) (Not unread.OtherLength)
 sequence t (AtEnd l) = pick (counted (t .locus .length) (length l)) (Read (withLetters t l) []) (Not unread.Unended)
-sequence t Bad = Not unread.BadLetter
+sequence t (Bad r) = Not unread.BadLetter
 
 abbrev pub afterOrigin : Table → List ℕ → Ans (List ℕ) → Outcome
 afterOrigin t s (Got u r) = sequence t (letters r)

@@ -7,15 +7,16 @@ use native.Mathlib.Omega.{arith}
 use lib.ListN.{length, drop, length-drop}
 use lib.Seq.{drop-drop}
 use lib.Dec.{eqb}
-use Rattle.spec_format.specs.Bytes.{pick, absent, is, some, bytes, spaces, letter, space, but}
+use Rattle.spec_format.specs.Bytes.{pick, absent, is, some, bytes, spaces, letter, space, but, notBlank}
 use Rattle.spec_format.specs.Readers.{Ans, Got, No, Cut, bind, mapped, passing, orElse, optional, unless, tag, push, until, until1, lineFeed}
-use Rattle.spec_format.specs.Readers.{line, lineEnd, Turn, more, stop, endUpTo, end, loop, fitting, fitTurn, many0}
+use Rattle.spec_format.specs.Readers.{line, lineEnd, Turn, more, stop, endUpTo, end, loop, fitting, fitTurn, many0, trying, tryTurn, whileFits}
 use Rattle.spec_format.specs.Header.{furtherLine, fieldText, fieldBytes, field, maybeField, reference, source, Entry, SourceOf, ReferenceOf, Dropped, ignoredLine, entry, headerField}
 use Rattle.spec_format.specs.Features.{notSlash, bareTurn, bareMore, bare, escape, quotedEnd, special, quotedTurn}
-use Rattle.spec_format.specs.Features.{quoted, value, keyEnd, valueOf, qualifier, kindText, featureFrom, feature}
+use Rattle.spec_format.specs.Features.{featuresHeader, quoted, value, keyEnd, valueOf, qualifier, kindText, featureFrom, feature}
 use Rattle.spec_format.specs.Location.{locates}
 use Rattle.spec_format.specs.Locus.{skipping, preambleTurn}
 use Rattle.spec_format.specs.Origin.{Letters, AtSlash, AtEnd, Bad, keep, skipped, letters}
+use Rattle.spec_format.specs.Record.{features, contigOf, middle}
 use Rattle.spec_format.specs.Utf8.{utf8}
 use Rattle.spec_loops.specs.Loops.{Shrinks, Takes}
 use Rattle.spec_format.specs.Impossible.{impossible}
@@ -36,7 +37,7 @@ past-byte m b s r p = record { gone = suc (p .gone); least = omega arith; within
 past-less : (k m : ℕ) (s r : List ℕ) → k ≤ m → Past m s r → Past k s r
 past-less k m s r h p = record { gone = p .gone; least = omega arith; within = p .within; is = p .is }
 
-past-loose : (m : ℕ) (s r : List ℕ) → Past m s r → Past 0 s r
+pub past-loose : (m : ℕ) (s r : List ℕ) → Past m s r → Past 0 s r
 past-loose m s r p = past-less 0 m s r (omega arith) p
 
 pub past-then : (m n k : ℕ) (s r t : List ℕ) → k ≤ m + n → Past m s r → Past n r t → Past k s t
@@ -75,7 +76,7 @@ module _ {A : Type 0} (m : ℕ) (s : List ℕ) where
 leaves-less : {A : Type 0} (k m : ℕ) (s : List ℕ) (o : Ans A) → k ≤ m → Leaves m s o → Leaves k s o
 leaves-less k m s o l h = record { past = λ a r e. past-less k m s r l (h .past a r e) }
 
-leaves-loose : {A : Type 0} {m : ℕ} {s : List ℕ} {o : Ans A} → Leaves m s o → Leaves 0 s o
+pub leaves-loose : {A : Type 0} {m : ℕ} {s : List ℕ} {o : Ans A} → Leaves m s o → Leaves 0 s o
 leaves-loose {A} {m} {s} {o} h = leaves-less 0 m s o (omega arith) h
 
 pub leaves-length : {A : Type 0} {m : ℕ} {s : List ℕ} {o : Ans A} → Leaves m s o → (a : A) (r : List ℕ) → o ≡ Got a r → m + length r ≤ length s
@@ -130,7 +131,7 @@ module _ {A : Type 0} where
       go No e = leaves-no m s
       go Cut e = leaves-cut m s
 
-  leaves-or : {m : ℕ} {s : List ℕ} {x y : Ans A} → Leaves m s x → Leaves m s y → Leaves m s (orElse x y)
+  pub leaves-or : {m : ℕ} {s : List ℕ} {x y : Ans A} → Leaves m s x → Leaves m s y → Leaves m s (orElse x y)
   leaves-or {m} {s} {x} {y} h g = go x h
     where
       go : (x : Ans A) → Leaves m s x → Leaves m s (orElse x y)
@@ -138,7 +139,7 @@ module _ {A : Type 0} where
       go No h = g
       go Cut h = leaves-cut m s
 
-  leaves-optional : {s : List ℕ} {o : Ans A} → Leaves 0 s o → Leaves 0 s (optional s o)
+  pub leaves-optional : {s : List ℕ} {o : Ans A} → Leaves 0 s o → Leaves 0 s (optional s o)
   leaves-optional {s} {o} h = go o refl
     where
       go : (x : Ans A) → o ≡ x → Leaves 0 s (optional s x)
@@ -171,7 +172,7 @@ pub tag-loose : (w s : List ℕ) → Leaves 0 s (tag w s)
 tag-loose w s = leaves-loose (tag-leaves w s)
 
 -- as many bytes are gone as were read
-until-past : (p : ℕ → Bool) (s t r : List ℕ) → until p s ≡ Got t r → Past (length t) s r
+pub until-past : (p : ℕ → Bool) (s t r : List ℕ) → until p s ≡ Got t r → Past (length t) s r
 unfolding until
 until-past p [] t r h = impossible cc
 until-past p (b ∷ s) t r h = go (λ u. until-past p s u) (p b) refl (until p s) refl
@@ -186,7 +187,7 @@ until-past p (b ∷ s) t r h = go (λ u. until-past p s u) (p b) refl (until p s
     go ih false e No f = impossible cc
     go ih false e Cut f = impossible cc
 
-until1-takes : (p : ℕ → Bool) (s : List ℕ) → Leaves 1 s (until1 p s)
+pub until1-takes : (p : ℕ → Bool) (s : List ℕ) → Leaves 1 s (until1 p s)
 until1-takes p s = go (until p s) refl
   where
     go : (o : Ans (List ℕ)) → until p s ≡ o → Leaves 1 s (passing some o)
@@ -199,7 +200,7 @@ feed-takes : (s : List ℕ) → Leaves 1 s (lineFeed s)
 feed-takes [] = leaves-cut 1 []
 feed-takes (b ∷ s) = leaves-pick (eqb b 10) (leaves-got 1 (b ∷ s) [] s (past-byte 0 b s s (past-here s))) (leaves-no 1 (b ∷ s))
 
-line-takes : (s : List ℕ) → Leaves 1 s (line s)
+pub line-takes : (s : List ℕ) → Leaves 1 s (line s)
 unfolding line
 line-takes [] = leaves-cut 1 []
 line-takes (b ∷ s) = go (line-takes s) (eqb b 10) refl (eqb b 13) refl
@@ -227,10 +228,10 @@ pub record Turns {A : Type 0} (s : List ℕ) (o : Ans (Turn A)) : Type 0 where
   pub off : (r : List ℕ) → o ≡ Got stop r → Past 0 s r
 
 module _ {A : Type 0} where
-  turns-takes : {s : List ℕ} {o : Ans (Turn A)} → Leaves 1 s o → Turns s o
+  pub turns-takes : {s : List ℕ} {o : Ans (Turn A)} → Leaves 1 s o → Turns s o
   turns-takes {s} h = record { on = λ a r e. h .past (more a) r e; off = λ r e. past-loose 1 s r (h .past stop r e) }
 
-  turns-here : (s : List ℕ) → Turns {A = A} s (Got stop s)
+  pub turns-here : (s : List ℕ) → Turns {A = A} s (Got stop s)
   turns-here s = record {
     on = λ a r e. impossible cc;
     off = λ r e. leaves-got {A = Turn A} 0 s stop s (past-here s) .past stop r e;
@@ -275,6 +276,14 @@ module _ {A : Type 0} (turn : List ℕ → Ans (Turn A)) (h : (s : List ℕ) →
 many0-leaves : {A : Type 0} (p : List ℕ → Ans A) → ((s : List ℕ) → Leaves 1 s (p s)) → (s : List ℕ) → Leaves 0 s (many0 p s)
 many0-leaves p h s = loop-leaves (fitTurn p) (turns-fit p h) s
 
+pub tries-leave : {A : Type 0} (p : List ℕ → Ans A) → ((s : List ℕ) → Leaves 1 s (p s)) → (s : List ℕ) → Leaves 0 s (whileFits p s)
+tries-leave {A} p h s = loop-leaves (tryTurn p) (λ s. go s (p s) (h s)) s
+  where
+    go : (s : List ℕ) (o : Ans A) → Leaves 1 s o → Turns s (trying s o)
+    go s (Got a r) l = turns-takes (leaves-got 1 s (more a) r (l .past a r refl))
+    go s No l = turns-here s
+    go s Cut l = turns-here s
+
 -- ---- the header's readers
 
 further-takes : (n : ℕ) (s : List ℕ) → Leaves 1 s (furtherLine n s)
@@ -290,7 +299,7 @@ unfolding fieldBytes
 bytes-takes indent word keep s =
     leaves-then (tag-loose (spaces indent) s) (λ _ s. leaves-then (tag-loose word s) (λ _ s. leaves-first (until1-takes (but 32) s) (λ gap s. leaves-loose (text-takes _ keep s))))
 
-field-takes : (indent : ℕ) (word : List ℕ) (keep : Bool) (s : List ℕ) → Leaves 1 s (field indent word keep s)
+pub field-takes : (indent : ℕ) (word : List ℕ) (keep : Bool) (s : List ℕ) → Leaves 1 s (field indent word keep s)
 unfolding field
 field-takes indent word keep s = leaves-passing utf8 (bytes-takes indent word keep s)
 
@@ -317,7 +326,7 @@ ignored-takes s =
 entry-takes : (word s : List ℕ) → Leaves 1 s (entry word s)
 entry-takes word s = leaves-mapped (Entry word) (field-takes 0 word true s)
 
-header-takes : (s : List ℕ) → Leaves 1 s (headerField s)
+pub header-takes : (s : List ℕ) → Leaves 1 s (headerField s)
 unfolding headerField
 header-takes s =
     leaves-or (entry-takes _ s) (leaves-or (entry-takes _ s) (leaves-or (entry-takes _ s) (leaves-or (entry-takes _ s) (leaves-or (entry-takes _ s)
@@ -397,7 +406,7 @@ feature-takes s =
 
 -- ---- the lines before LOCUS, and the sections
 
-preamble-turns : (s : List ℕ) → Turns s (preambleTurn s)
+pub preamble-turns : (s : List ℕ) → Turns s (preambleTurn s)
 preamble-turns s = go (tag (bytes "LOCUS") s)
   where
     go : (o : Ans Unit) → Turns s (skipping s o)
@@ -418,10 +427,22 @@ letters-leave (b ∷ s) l r h = go (λ k. letters-leave s k) (letter b) refl (eq
         (o : Letters) → letters s ≡ o → Past 0 (b ∷ s) r
     go ih true p y q z u (AtSlash k t) e = step k ih (cc)
     go ih true p y q z u (AtEnd k) e = impossible cc
-    go ih true p y q z u Bad e = impossible cc
+    go ih true p y q z u (Bad k) e = impossible cc
     go ih false p true q z u o e = let f : r ≡ b ∷ s = cc in rw f (past-here (b ∷ s))
     go ih false p false q true u o e = step l ih (cc)
     go ih false p false q false u o e = impossible cc
+
+pub features-leave : (s : List ℕ) → Leaves 0 s (features s)
+unfolding features featuresHeader
+features-leave s =
+    leaves-first (leaves-first (tag-loose (bytes "FEATURES") s) (λ _ s. leaves-first (leaves-loose (until1-takes notBlank s)) (λ _ s.
+    leaves-first (tag-loose (bytes "Location/Qualifiers") s) (λ _ s. leaves-loose (end-takes s))))) (λ _ s. tries-leave feature feature-takes s)
+
+pub middle-leaves : (s : List ℕ) → Leaves 0 s (middle s)
+unfolding middle
+middle-leaves s =
+    leaves-first (leaves-optional (features-leave s)) (λ _ s. leaves-first (maybe-leaves 0 (bytes "BASE COUNT") false s) (λ _ s.
+    leaves-first (leaves-optional (leaves-mapped contigOf (leaves-passing (locates true) (leaves-loose (bytes-takes 0 (bytes "CONTIG") false s))))) (λ _ s. leaves-got 0 s _ s (past-here s))))
 
 -- ---- what the laws of Loops.antt ask for
 

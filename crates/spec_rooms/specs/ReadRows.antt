@@ -141,7 +141,7 @@ module _ (t : Table) (h : locationsRead t ≡ true) where
       (slashes-read (withLetters t l) (letters-read t h l) r (tag (bytes "//") r)) refl
   sequence-read (AtEnd l) =
       pick-read (counted (t .locus .length) (length l)) (Read (withLetters t l) []) (Not unread.Unended) (letters-read t h l) refl
-  sequence-read Bad = refl
+  sequence-read (Bad r) = refl
 
   origin-read : (s : List ℕ) (o : Ans (List ℕ)) → outcomeRead (afterOrigin t s o) ≡ true
   origin-read s (Got u r) = sequence-read (letters r)

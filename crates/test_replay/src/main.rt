@@ -31,6 +31,11 @@ fn replay_ticket1(counts: &mut [usize]) {
     test_stored_lines::say_source(b"vectors of ticket 1", counts);
 }
 
+fn replay_ticket2(counts: &mut [usize]) {
+    replay_file(b"ticket2-read.txt", counts);
+    test_stored_lines::say_source(b"vectors of ticket 2", counts);
+}
+
 fn replay_numbers(counts: &mut [usize]) {
     replay_file(b"numbers.txt", counts);
     test_stored_lines::say_source(b"numbers that neither has", counts);
@@ -47,6 +52,7 @@ fn main() {
     replay_rust(&mut counts);
     replay_vectors(&mut counts);
     replay_ticket1(&mut counts);
+    replay_ticket2(&mut counts);
     replay_numbers(&mut counts);
     replay_cases(&mut counts);
     test_stored_lines::say_counts(&counts);

@@ -1,10 +1,13 @@
-// One stored reading: the slice is read again, and the number, what is told with it and all of each room are held against what is stored.
+// One stored reading: the slice is read again, and the number, what is told with it, all of each room and, if they are stored, the line and the offset are held against what is stored.
 use api_told::reading_of;
 use spec_contracts::Reading;
 use spec_format::Sizes;
 use test_stored_lines::Checked;
+use test_stored_lines::LINES;
 use test_stored_lines::among;
+use test_stored_lines::byte_at;
 use test_stored_lines::count_answer;
+use test_stored_lines::count_one;
 use test_stored_lines::lent;
 use test_stored_lines::number_at;
 use test_stored_lines::number_room;
@@ -123,6 +126,28 @@ fn answer_as_stored(s: &[u8], at: usize, answer: Reading, counts: &mut [usize]) 
     )
 }
 
+// The line and the offset are the two stored numbers.
+fn spot_is(stored: &[usize], count: usize, answer: Reading) -> bool {
+    if count != 2 {
+        return false;
+    }
+    if number_at(stored, 0) != answer.line {
+        return false;
+    }
+    number_at(stored, 1) == answer.offset
+}
+
+// The line and the offset are those that one field more says, if the stored line has it.
+fn spot_as_stored(s: &[u8], so_far: Checked, answer: Reading, counts: &mut [usize]) -> Checked {
+    if byte_at(s, so_far.next) == b'\n' {
+        return so_far;
+    }
+    count_one(counts, LINES);
+    let mut stored = number_room();
+    let field = take_numbers(s, so_far.next, &mut stored);
+    and_then(so_far, field.next, spot_is(&stored, field.count, answer))
+}
+
 // Reads into as much of each room as the call lends.
 fn read_lent(
     input: &[u8],
@@ -144,7 +169,7 @@ fn read_lent(
     let f = lent(call, n, 6, locations.len());
     let g = lent(call, n, 7, letters.len());
     let at = number_at(call, 0);
-    let answer = test_rows::read(
+    let reported = test_rows::read(
         input,
         at,
         &mut texts[0..a],
@@ -155,7 +180,7 @@ fn read_lent(
         &mut locations[0..f],
         &mut letters[0..g],
     );
-    reading_of(at, answer)
+    reading_of(at, reported)
 }
 
 // Reads the slice at the place that the call names.
@@ -187,7 +212,7 @@ fn read_input(
         &mut letters,
     );
     let answered = answer_as_stored(s, at, answer, counts);
-    rooms_as_stored(
+    let left = rooms_as_stored(
         s,
         answered,
         &texts,
@@ -197,7 +222,8 @@ fn read_input(
         &qualifiers,
         &locations,
         &letters,
-    )
+    );
+    spot_as_stored(s, left, answer, counts)
 }
 
 // The first n bytes are the slice to read.

@@ -1,4 +1,4 @@
-// Stored answers, run again and counted. A line of a file is one answer, `R` a reading and `W` a writing; oracle/README.md has its fields. Lines that
+// Stored answers, run again and counted. A line of a file is one answer, `R` a reading, `W` a writing and `L` a location; oracle/README.md has its fields. Lines that
 // begin `#` say how the file was made, and what a case shows.
 use crate::location::replay_location;
 use crate::reading::replay_reading;

@@ -7,8 +7,8 @@ use mathlib.Core.List.{List, _++_}
 use lib.ListN.{length, take, drop, length-append, length-drop}
 use lib.Seq.{sets, sets-eq, take-append-seam, drop-append-seam}
 use Rattle.spec_format.specs.Rooms.{Rooms, roomsIn}
-use Rattle.spec_format.specs.declared.ReadAnswer.{ReadAnswer}
-use Rattle.spec_contracts.specs.Reads.{Answered}
+use Rattle.spec_contracts.specs.declared.Reported.{Reported}
+use Rattle.spec_contracts.specs.Reads.{ReadReported}
 use Rattle.base_rows.specs.declared.Feature.{Feature}
 use Rattle.base_rows.specs.Rows.{flat}
 use Rattle.base_rows.specs.Flat.{flat-length}
@@ -17,8 +17,8 @@ use Rattle.base_rows.specs.Flat.{flat-length}
 abbrev pub first : ℕ → Rooms → Rooms
 first k x = roomsIn (x .texts) (x .references) (x .comments) (take k (x .features)) (x .qualifiers) (x .locations) (x .letters)
 
-pub record Through (s : List ℕ) (at k : ℕ) (old new : Rooms) (r : ReadAnswer) : Type 0 where
-  pub answered : Answered s at (first k old) (first k new) r
+pub record Through (s : List ℕ) (at k : ℕ) (old new : Rooms) (r : Reported) : Type 0 where
+  pub answered : ReadReported s at (first k old) (first k new) r
   pub rest : drop k (new .features) ≡ drop k (old .features)
 
 -- ---- rows that were read into are put back
@@ -40,10 +40,10 @@ put-front n zs t e = subst (λ (k : ℕ). take k (flat zs ++ t) ≡ flat zs) (fl
 put-rest : (n : ℕ) (zs : List Feature) (t : List ℕ) → length zs ≡ n → drop (8 * n) (flat zs ++ t) ≡ t
 put-rest n zs t e = subst (λ (k : ℕ). drop k (flat zs ++ t) ≡ t) (flat-length zs ∙ ap (λ (k : ℕ). 8 * k) e) (drop-append-seam (flat zs) t)
 
-module _ (s : List ℕ) (at n : ℕ) (rows zs : List Feature) (old new : Rooms) (r : ReadAnswer) where
+module _ (s : List ℕ) (at n : ℕ) (rows zs : List Feature) (old new : Rooms) (r : Reported) where
   abbrev Rowed : Type 0
   Rowed =
-      Answered s at (roomsIn (old .texts) (old .references) (old .comments) (flat (take n rows)) (old .qualifiers) (old .locations) (old .letters))
+      ReadReported s at (roomsIn (old .texts) (old .references) (old .comments) (flat (take n rows)) (old .qualifiers) (old .locations) (old .letters))
       (roomsIn (new .texts) (new .references) (new .comments) (flat zs) (new .qualifiers) (new .locations) (new .letters)) r
 
   pub through : length rows ≡ 33 → n ≤ 33 → 8 * n ≤ length (old .features) → flat (take n rows) ≡ take (8 * n) (old .features) → length (zs ++ drop n rows) ≡ 33 → Rowed

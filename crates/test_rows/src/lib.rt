@@ -1,6 +1,7 @@
 // The entry points that ship, as the tests call them: with a feature's row as eight numbers of a flat room, so that stored answers and cases say what they lend and expect in numbers. The numbers are
 // made rows of structs, exactly as many rows are lent as the flat room has, and what they hold afterwards is put back as numbers.
 use base_rows::Feature;
+use spec_contracts::Reported;
 use spec_format::Head;
 use spec_format::How;
 use spec_format::ReadAnswer;
@@ -8,6 +9,7 @@ use spec_format::Span;
 use spec_format::Unread;
 use spec_format::Unwritten;
 use spec_format::WriteAnswer;
+use spec_lines::Spot;
 ghost use Prim.Native.Nat.{_*_, _+_, _/_, _<_, _≤_};
 ghost use lib.ListN.{length, take, drop};
 ghost use lib.Seq.{sets};
@@ -109,12 +111,12 @@ fn read_lent(
     qualifiers: &mut [usize],
     locations: &mut [usize],
     letters: &mut [u8],
-) -> ReadAnswer
+) -> Reported
     requires { ⌜ (n ≤ 33) × (8 * n ≤ length (now features)) × (flat (take n rows) ≡ take (8 * n) (now features)) ⌝ }
     ensures { λ r. ⌜ Through (now (s .entry)) at (8 * n) (roomsIn (now (texts .entry)) (now (references .entry)) (now (comments .entry)) (now (features .entry)) (now (qualifiers .entry)) (now (locations .entry)) (now (letters .entry))) (roomsIn (now (texts .exit)) (now (references .exit)) (now (comments .exit)) (now (features .exit)) (now (qualifiers .exit)) (now (locations .exit)) (now (letters .exit))) r ⌝ }
 {
     let mut lent = rows;
-    let answer = read_record::read(
+    let reported = read_record::read(
         s,
         at,
         texts,
@@ -126,7 +128,15 @@ fn read_lent(
         letters,
     );
     put_rows(lent, n, features);
-    answer
+    reported
+}
+
+// What a room of too many rows is answered.
+fn too_many() -> Reported {
+    Reported {
+        answer: ReadAnswer::Refused(Unread::BadPlace),
+        spot: Spot { line: 0, offset: 0 },
+    }
 }
 
 // The reader, on a flat room of features.
@@ -140,12 +150,12 @@ pub fn read(
     qualifiers: &mut [usize],
     locations: &mut [usize],
     letters: &mut [u8],
-) -> ReadAnswer
+) -> Reported
     ensures { λ r. ⌜ (length (now (features .entry)) / 8 ≤ 33 → Through (now (s .entry)) at (8 * (length (now (features .entry)) / 8)) (roomsIn (now (texts .entry)) (now (references .entry)) (now (comments .entry)) (now (features .entry)) (now (qualifiers .entry)) (now (locations .entry)) (now (letters .entry))) (roomsIn (now (texts .exit)) (now (references .exit)) (now (comments .exit)) (now (features .exit)) (now (qualifiers .exit)) (now (locations .exit)) (now (letters .exit))) r) ⌝ }
 {
     let n = features.len() / 8;
     if MOST_ROWS < n {
-        return ReadAnswer::Refused(Unread::BadPlace);
+        return too_many();
     }
     let rows = rows_of(features, n);
     read_lent(

@@ -11,9 +11,12 @@ pub const WRITINGS: usize = 25;
 
 pub const LOCATIONS: usize = 26;
 
-pub const NOT_UNDERSTOOD: usize = 27;
+// Readings whose line and offset are stored too.
+pub const LINES: usize = 27;
 
-pub const DIFFER: usize = 28;
+pub const NOT_UNDERSTOOD: usize = 28;
+
+pub const DIFFER: usize = 29;
 
 // One more at that place, if there is such a place.
 pub fn count_one(counts: &mut [usize], i: usize) {
@@ -123,6 +126,7 @@ pub fn say_counts(counts: &[usize]) {
     say_line(b"2, 4, 5, 7, 8 or 9: ", counts[REFUSED]);
     say_departures(counts);
     say_line(b"no departure: ", counts[DEPARTURES]);
+    say_line(b"with line and offset: ", counts[LINES]);
     say_line(b"not understood: ", counts[NOT_UNDERSTOOD]);
     say_line(b"differ: ", counts[DIFFER]);
 }

@@ -4,6 +4,7 @@ mod fields;
 mod room;
 
 pub use counts::DIFFER;
+pub use counts::LINES;
 pub use counts::LOCATIONS;
 pub use counts::NOT_UNDERSTOOD;
 pub use counts::READINGS;

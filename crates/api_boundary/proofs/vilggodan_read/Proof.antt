@@ -31,7 +31,6 @@ use denote.Ref.{RefT}
 use denote.Slice.{sliceTy, sliceVal, MutSlice, ShrSlice, Room, finally, slice-vals, mut-slice-tells, shr-slice-tells}
 use denote.Steps.{owned, heard, nothing}
 use denote.Struct.Laws as LL
-use denote.Enum.Laws as EL
 use denote.Signature.{plain, shrSliceOf}
 use denote.Triple.Statement.{Contract, Triple}
 use denote.Triple.Call.{calls-at}
@@ -45,18 +44,18 @@ use Rattle.base_walk.proofs.Calls.{splits, asks-nothing, lands-at}
 use Rattle.base_walk.proofs.Locals.{Cell, vacant, holds, locals, Dies, allocs-all, frees-all}
 use Rattle.base_walk.proofs.Loans.{again as slice-at, Own}
 use Rattle.base_rows.specs.Rows.{flat}
-use Rattle.spec_contracts.specs.Reads.{Answered}
+use Rattle.spec_contracts.specs.Reads.{ReadReported}
 use Rattle.spec_contracts.specs.Told.{ReadTold, reading}
 use Rattle.spec_format.specs.Rooms.{roomsIn}
 use Rattle.base_rows.specs.declared.Feature.{Feature}
 use Rattle.base_rows.proofs.Feature as Feature-is
 use Rattle.base_rows.proofs.Feature.Laws as Feature-has
-use Rattle.spec_format.specs.declared.ReadAnswer.{ReadAnswer}
-use Rattle.spec_format.proofs.ReadAnswer as ReadAnswer-is
-use Rattle.spec_format.proofs.ReadAnswer.Laws as ReadAnswer-has
 use Rattle.spec_contracts.specs.declared.Reading.{Reading}
 use Rattle.spec_contracts.proofs.Reading as Reading-is
 use Rattle.spec_contracts.proofs.Reading.Laws as Reading-has
+use Rattle.spec_contracts.specs.declared.Reported.{Reported}
+use Rattle.spec_contracts.proofs.Reported as Reported-is
+use Rattle.spec_contracts.proofs.Reported.Laws as Reported-has
 use Rattle.read_record.proofs.read as read
 use Rattle.read_record.proofs.read.Symbol as read-def
 use Rattle.read_record.proofs.read.Symbol.{name as #read-record·read}
@@ -86,11 +85,11 @@ stayed = (
 abbrev Feature-val : Feature → Val
 Feature-val = LL.val Feature-is.the-type Feature-has.the-laws
 
-abbrev ReadAnswer-val : ReadAnswer → Val
-ReadAnswer-val = EL.val ReadAnswer-is.the-type ReadAnswer-has.the-laws
-
 abbrev Reading-val : Reading → Val
 Reading-val = LL.val Reading-is.the-type Reading-has.the-laws
+
+abbrev Reported-val : Reported → Val
+Reported-val = LL.val Reported-is.the-type Reported-has.the-laws
 
 -- the machine value of a slice
 abbrev v : {X : Type 0} → RefT (List X) → Val
@@ -185,9 +184,9 @@ module _ {M : Type 1} (𝓤 : URA M) (H : Heap 𝓤) (A : Atoms 𝓤) (W : Given
     -- the locals, and their entries with what is owed of them
     abbrev E : Env 𝓤 H
     E = (Reading-has.mir, l₀) ∷ (sliceTy (tyRef (named 0) imm (tyInt w8)), l₁) ∷ (tyInt w64, l₂) ∷ (sliceTy (tyRef (named 1) mut (tyInt w8)), l₃) ∷ (sliceTy (tyRef (named 2) mut (tyInt w64)), l₄) ∷ (sliceTy (tyRef (named 3) mut (tyInt w64)), l₅) ∷ (sliceTy (tyRef (named 4) mut (pointee (Feature-is.the-row .written))), l₆) ∷
-        (sliceTy (tyRef (named 5) mut (tyInt w64)), l₇) ∷ (sliceTy (tyRef (named 6) mut (tyInt w64)), l₈) ∷ (sliceTy (tyRef (named 7) mut (tyInt w8)), l₉) ∷ (ReadAnswer-has.mir, l₁₀) ∷ (tyRef erased mut (tyInt w8), l₁₁) ∷ (sliceTy (tyRef erased mut (tyInt w8)), l₁₂) ∷ (tyRef erased mut (tyInt w64), l₁₃) ∷
-        (sliceTy (tyRef erased mut (tyInt w64)), l₁₄) ∷ (tyRef erased mut (tyInt w64), l₁₅) ∷ (sliceTy (tyRef erased mut (tyInt w64)), l₁₆) ∷ (tyRef erased mut (pointee (Feature-is.the-row .written)), l₁₇) ∷ (sliceTy (tyRef erased mut (pointee (Feature-is.the-row .written))), l₁₈) ∷ (tyRef erased mut (tyInt w64), l₁₉) ∷
-        (sliceTy (tyRef erased mut (tyInt w64)), l₂₀) ∷ (tyRef erased mut (tyInt w64), l₂₁) ∷ (sliceTy (tyRef erased mut (tyInt w64)), l₂₂) ∷ (tyRef erased mut (tyInt w8), l₂₃) ∷ (sliceTy (tyRef erased mut (tyInt w8)), l₂₄) ∷ []
+        (sliceTy (tyRef (named 5) mut (tyInt w64)), l₇) ∷ (sliceTy (tyRef (named 6) mut (tyInt w64)), l₈) ∷ (sliceTy (tyRef (named 7) mut (tyInt w8)), l₉) ∷ (Reported-has.mir, l₁₀) ∷ (tyRef erased mut (tyInt w8), l₁₁) ∷ (sliceTy (tyRef erased mut (tyInt w8)), l₁₂) ∷ (tyRef erased mut (tyInt w64), l₁₃) ∷ (sliceTy (tyRef erased mut (tyInt w64)), l₁₄)
+        ∷ (tyRef erased mut (tyInt w64), l₁₅) ∷ (sliceTy (tyRef erased mut (tyInt w64)), l₁₆) ∷ (tyRef erased mut (pointee (Feature-is.the-row .written)), l₁₇) ∷ (sliceTy (tyRef erased mut (pointee (Feature-is.the-row .written))), l₁₈) ∷ (tyRef erased mut (tyInt w64), l₁₉) ∷ (sliceTy (tyRef erased mut (tyInt w64)), l₂₀) ∷
+        (tyRef erased mut (tyInt w64), l₂₁) ∷ (sliceTy (tyRef erased mut (tyInt w64)), l₂₂) ∷ (tyRef erased mut (tyInt w8), l₂₃) ∷ (sliceTy (tyRef erased mut (tyInt w8)), l₂₄) ∷ []
 
     abbrev standing : List Cell → List (Item 𝓤)
     standing cs = locals 𝓤 H A E cs (raw (Dies 𝓤 H A E) ∷ [])
@@ -233,19 +232,19 @@ module _ {M : Type 1} (𝓤 : URA M) (H : Heap 𝓤) (A : Atoms 𝓤) (W : Given
         next
 
     -- what `read` says of its answer and of the lists that it leaves
-    abbrev Said-read : ReadAnswer → List ℕ → List ℕ → List ℕ → List Feature → List ℕ → List ℕ → List ℕ → Type 0
-    Said-read r-read texts-read references-read comments-read features-read qualifiers-read locations-read letters-read = Answered (s .now) at′ (roomsIn (texts .now) (references .now) (comments .now) (flat (features .now)) (qualifiers .now) (locations .now) (letters .now))
+    abbrev Said-read : Reported → List ℕ → List ℕ → List ℕ → List Feature → List ℕ → List ℕ → List ℕ → Type 0
+    Said-read r-read texts-read references-read comments-read features-read qualifiers-read locations-read letters-read = ReadReported (s .now) at′ (roomsIn (texts .now) (references .now) (comments .now) (flat (features .now)) (qualifiers .now) (locations .now) (letters .now))
         (roomsIn (texts-read) (references-read) (comments-read) (flat (features-read)) (qualifiers-read) (locations-read) (letters-read)) r-read
 
     back-read : {K : Type 0} {Γ : List (Item 𝓤)} {d : S.Place} {rest : S.Body} {q : Ending 𝓤 H} → K →
-        ((r-read : ReadAnswer) (r-read-is : Is ReadAnswer-is.the-row r-read ((ReadAnswer-val r-read) ∷ [])) (texts-read : List ℕ) (references-read : List ℕ) (comments-read : List ℕ) (features-read : List Feature) (qualifiers-read : List ℕ) (locations-read : List ℕ) (letters-read : List ℕ) (texts-read-long : length texts-read ≡ length (texts .now))
+        ((r-read : Reported) (r-read-is : Is Reported-is.the-row r-read ((Reported-val r-read) ∷ [])) (texts-read : List ℕ) (references-read : List ℕ) (comments-read : List ℕ) (features-read : List Feature) (qualifiers-read : List ℕ) (locations-read : List ℕ) (letters-read : List ℕ) (texts-read-long : length texts-read ≡ length (texts .now))
         (references-read-long : length references-read ≡ length (references .now)) (comments-read-long : length comments-read ≡ length (comments .now)) (features-read-long : length features-read ≡ length (features .now)) (qualifiers-read-long : length qualifiers-read ≡ length (qualifiers .now))
         (locations-read-long : length locations-read ≡ length (locations .now)) (letters-read-long : length letters-read ≡ length (letters .now)) (said-read : Said-read r-read texts-read references-read comments-read features-read qualifiers-read locations-read letters-read) → Seq K W
         (‵ (flft κ₀ q₀) ∷ ‵ (flft κ₁ q₁) ∷ ‵ (flft κ₂ q₂) ∷ ‵ (flft κ₃ q₃) ∷ ‵ (flft κ₄ q₄) ∷ ‵ (flft κ₅ q₅) ∷ ‵ (flft κ₆ q₆) ∷ ‵ (flft κ₇ q₇) ∷ ‵ (texts-last texts-read) ∷ ‵ (references-last references-read) ∷ ‵ (comments-last comments-read) ∷ ‵ (features-last features-read) ∷ ‵ (qualifiers-last qualifiers-read) ∷ ‵
-        (locations-last locations-read) ∷ ‵ (letters-last letters-read) ∷ Γ) (lands C Λ E d (ReadAnswer-val r-read) rest q))
+        (locations-last locations-read) ∷ ‵ (letters-last letters-read) ∷ Γ) (lands C Λ E d (Reported-val r-read) rest q))
         → (u : Val) → Seq K W (raw (read-contract 𝓤 H A mem run .post to-read u) ∷ Γ) (lands C Λ E d u rest q)
     back-read t next u =
-        use1 W (later (some (λ (r-read : ReadAnswer). ((‵ (flft κ₀ q₀) ⊛ ‵ (flft κ₁ q₁) ⊛ ‵ (flft κ₂ q₂) ⊛ ‵ (flft κ₃ q₃) ⊛ ‵ (flft κ₄ q₄) ⊛ ‵ (flft κ₅ q₅) ⊛ ‵ (flft κ₆ q₆) ⊛ ‵ (flft κ₇ q₇) ⊛ ‵ ftrue) ⊛ ‵ (ReadAnswer-is.the-row .own r-read (u ∷ []))) ⊛ raw (ensured 𝓤 H A read.ended (read.clauses 𝓤 H A mem run) lfts-read args-read tt r-read))))
+        use1 W (later (some (λ (r-read : Reported). ((‵ (flft κ₀ q₀) ⊛ ‵ (flft κ₁ q₁) ⊛ ‵ (flft κ₂ q₂) ⊛ ‵ (flft κ₃ q₃) ⊛ ‵ (flft κ₄ q₄) ⊛ ‵ (flft κ₅ q₅) ⊛ ‵ (flft κ₆ q₆) ⊛ ‵ (flft κ₇ q₇) ⊛ ‵ ftrue) ⊛ ‵ (Reported-is.the-row .own r-read (u ∷ []))) ⊛ raw (ensured 𝓤 H A read.ended (read.clauses 𝓤 H A mem run) lfts-read args-read tt r-read))))
         (id⊢ 𝓤 _) $
         await t tt $ pick t (λ r-read. split t $ move t (1 ∷ []) $
         use1 W (some (λ (ws : (Unit {0}) × ((Unit {0}) × ((List ℕ) × ((List ℕ) × ((List ℕ) × ((List Feature) × ((List ℕ) × ((List ℕ) × ((List ℕ) × Unit {0}))))))))).
@@ -280,29 +279,28 @@ module _ {M : Type 1} (𝓤 : URA M) (H : Heap 𝓤) (A : Atoms 𝓤) (W : Given
         split t $
         splits t (‵ (flft κ₀ q₀) ∷ ‵ (flft κ₁ q₁) ∷ ‵ (flft κ₂ q₂) ∷ ‵ (flft κ₃ q₃) ∷ ‵ (flft κ₄ q₄) ∷ ‵ (flft κ₅ q₅) ∷ ‵ (flft κ₆ q₆) ∷ ‵ (flft κ₇ q₇) ∷ []) (id⊢ 𝓤 _) $
         move t (8 ∷ []) $
-        lands-at t ReadAnswer-is.the-row (EL.vals ReadAnswer-is.the-type ReadAnswer-has.the-laws) (EL.tells ReadAnswer-is.the-type ReadAnswer-has.the-laws) r-read u (λ r-read-is.
+        lands-at t Reported-is.the-row (LL.vals Reported-is.the-type Reported-has.the-laws) (LL.tells Reported-is.the-type Reported-has.the-laws) r-read u (λ r-read-is.
         move t (0 ∷ 1 ∷ 2 ∷ 3 ∷ 4 ∷ 5 ∷ 6 ∷ 7 ∷ 14 ∷ 13 ∷ 12 ∷ 11 ∷ 10 ∷ 9 ∷ 8 ∷ []) $
         next r-read r-read-is (ws .1 .1 .0) (ws .1 .1 .1 .0) (ws .1 .1 .1 .1 .0) (ws .1 .1 .1 .1 .1 .0) (ws .1 .1 .1 .1 .1 .1 .0) (ws .1 .1 .1 .1 .1 .1 .1 .0) (ws .1 .1 .1 .1 .1 .1 .1 .1 .0) texts-long references-long comments-long features-long qualifiers-long locations-long letters-long said-read)))))))))))
 
-    module _ (r-read : ReadAnswer) (r-read-is : Is ReadAnswer-is.the-row r-read ((ReadAnswer-val r-read) ∷ [])) (texts-read : List ℕ) (references-read : List ℕ) (comments-read : List ℕ) (features-read : List Feature) (qualifiers-read : List ℕ) (locations-read : List ℕ) (letters-read : List ℕ)
-        (texts-read-long : length texts-read ≡ length (texts .now)) (references-read-long : length references-read ≡ length (references .now)) (comments-read-long : length comments-read ≡ length (comments .now)) (features-read-long : length features-read ≡ length (features .now))
-        (qualifiers-read-long : length qualifiers-read ≡ length (qualifiers .now)) (locations-read-long : length locations-read ≡ length (locations .now)) (letters-read-long : length letters-read ≡ length (letters .now))
-        (said-read : Said-read r-read texts-read references-read comments-read features-read qualifiers-read locations-read letters-read) where
+    module _ (r-read : Reported) (r-read-is : Is Reported-is.the-row r-read ((Reported-val r-read) ∷ [])) (texts-read : List ℕ) (references-read : List ℕ) (comments-read : List ℕ) (features-read : List Feature) (qualifiers-read : List ℕ) (locations-read : List ℕ) (letters-read : List ℕ) (texts-read-long : length texts-read ≡ length (texts .now))
+        (references-read-long : length references-read ≡ length (references .now)) (comments-read-long : length comments-read ≡ length (comments .now)) (features-read-long : length features-read ≡ length (features .now)) (qualifiers-read-long : length qualifiers-read ≡ length (qualifiers .now))
+        (locations-read-long : length locations-read ≡ length (locations .now)) (letters-read-long : length letters-read ≡ length (letters .now)) (said-read : Said-read r-read texts-read references-read comments-read features-read qualifiers-read locations-read letters-read) where
       -- the call of `reading_of`
       abbrev lfts-reading-of : Unit {0}
       lfts-reading-of = tt
 
-      abbrev args-reading-of : ℕ × (ReadAnswer × Unit {0})
+      abbrev args-reading-of : ℕ × (Reported × Unit {0})
       args-reading-of = (at′, (r-read, tt))
 
       abbrev to-reading-of : reading-of-contract 𝓤 H A mem run .Ghost
-      to-reading-of = ((lfts-reading-of, tt, tt, args-reading-of, (((vint w64 at′) ∷ []), (((ReadAnswer-val r-read) ∷ []), tt))), tt)
+      to-reading-of = ((lfts-reading-of, tt, tt, args-reading-of, (((vint w64 at′) ∷ []), (((Reported-val r-read) ∷ []), tt))), tt)
 
       goes-reading-of : ent 𝓤 (⋆ 𝓤 H A ([])) (reading-of-contract 𝓤 H A mem run .pre to-reading-of)
       goes-reading-of = qed W ([]) ∵
           asks-nothing ! $ nothing ! $ nothing ! $
           owned ! usize (Is usize) (uint-makes 𝓤 H A W w64) at′ ((vint w64 at′) ∷ []) at′-is $
-          owned ! ReadAnswer-is.the-row (Is ReadAnswer-is.the-row) (EL.makes ReadAnswer-is.the-type ReadAnswer-has.the-plain 𝓤 H A) r-read ((ReadAnswer-val r-read) ∷ []) r-read-is $
+          owned ! Reported-is.the-row (Is Reported-is.the-row) (LL.makes Reported-is.the-type Reported-has.the-plain 𝓤 H A) r-read ((Reported-val r-read) ∷ []) r-read-is $
           move ! (3 ∷ 1 ∷ 0 ∷ 2 ∷ []) $
           done !
 
@@ -359,7 +357,7 @@ module _ {M : Type 1} (𝓤 : URA M) (H : Heap 𝓤) (A : Atoms 𝓤) (W : Given
             done !
 
         abbrev part-7-holds : List Cell
-        part-7-holds = holds (Reading-val r-reading-of) ∷ holds (v s) ∷ holds (vint w64 at′) ∷ holds (v texts) ∷ holds (v references) ∷ holds (v comments) ∷ holds (v features) ∷ holds (v qualifiers) ∷ holds (v locations) ∷ holds (v letters) ∷ holds (ReadAnswer-val r-read) ∷ holds (vptr (texts .ptr .0) (texts .ptr .1)) ∷ holds (v texts) ∷ holds
+        part-7-holds = holds (Reading-val r-reading-of) ∷ holds (v s) ∷ holds (vint w64 at′) ∷ holds (v texts) ∷ holds (v references) ∷ holds (v comments) ∷ holds (v features) ∷ holds (v qualifiers) ∷ holds (v locations) ∷ holds (v letters) ∷ holds (Reported-val r-read) ∷ holds (vptr (texts .ptr .0) (texts .ptr .1)) ∷ holds (v texts) ∷ holds
             (vptr (references .ptr .0) (references .ptr .1)) ∷ holds (v references) ∷ holds (vptr (comments .ptr .0) (comments .ptr .1)) ∷ holds (v comments) ∷ holds (vptr (features .ptr .0) (features .ptr .1)) ∷ holds (v features) ∷ holds (vptr (qualifiers .ptr .0) (qualifiers .ptr .1)) ∷ holds (v qualifiers) ∷ holds
             (vptr (locations .ptr .0) (locations .ptr .1)) ∷ holds (v locations) ∷ holds (vptr (letters .ptr .0) (letters .ptr .1)) ∷ holds (v letters) ∷ []
 
@@ -367,12 +365,12 @@ module _ {M : Type 1} (𝓤 : URA M) (H : Heap 𝓤) (A : Atoms 𝓤) (W : Given
             (locations-last locations-read) ∷ ‵ (letters-last letters-read) ∷ standing part-7-holds) (runs C Λ E body.t-17 (atRet E Post))
         part-7 =
             returns ! (look ! 15 refl) $ frees-all ! at-last
-            (holds (Reading-val r-reading-of) ∷ holds (v s) ∷ holds (vint w64 at′) ∷ holds (v texts) ∷ holds (v references) ∷ holds (v comments) ∷ holds (v features) ∷ holds (v qualifiers) ∷ holds (v locations) ∷ holds (v letters) ∷ holds (ReadAnswer-val r-read) ∷ holds (vptr (texts .ptr .0) (texts .ptr .1)) ∷ holds (v texts) ∷ holds
+            (holds (Reading-val r-reading-of) ∷ holds (v s) ∷ holds (vint w64 at′) ∷ holds (v texts) ∷ holds (v references) ∷ holds (v comments) ∷ holds (v features) ∷ holds (v qualifiers) ∷ holds (v locations) ∷ holds (v letters) ∷ holds (Reported-val r-read) ∷ holds (vptr (texts .ptr .0) (texts .ptr .1)) ∷ holds (v texts) ∷ holds
             (vptr (references .ptr .0) (references .ptr .1)) ∷ holds (v references) ∷ holds (vptr (comments .ptr .0) (comments .ptr .1)) ∷ holds (v comments) ∷ holds (vptr (features .ptr .0) (features .ptr .1)) ∷ holds (v features) ∷ holds (vptr (qualifiers .ptr .0) (qualifiers .ptr .1)) ∷ holds (v qualifiers) ∷ holds
             (vptr (locations .ptr .0) (locations .ptr .1)) ∷ holds (v locations) ∷ holds (vptr (letters .ptr .0) (letters .ptr .1)) ∷ holds (v letters) ∷ []) tt exits
 
       abbrev part-6-holds : List Cell
-      part-6-holds = vacant ∷ holds (v s) ∷ holds (vint w64 at′) ∷ holds (v texts) ∷ holds (v references) ∷ holds (v comments) ∷ holds (v features) ∷ holds (v qualifiers) ∷ holds (v locations) ∷ holds (v letters) ∷ holds (ReadAnswer-val r-read) ∷ holds (vptr (texts .ptr .0) (texts .ptr .1)) ∷ holds (v texts) ∷ holds
+      part-6-holds = vacant ∷ holds (v s) ∷ holds (vint w64 at′) ∷ holds (v texts) ∷ holds (v references) ∷ holds (v comments) ∷ holds (v features) ∷ holds (v qualifiers) ∷ holds (v locations) ∷ holds (v letters) ∷ holds (Reported-val r-read) ∷ holds (vptr (texts .ptr .0) (texts .ptr .1)) ∷ holds (v texts) ∷ holds
           (vptr (references .ptr .0) (references .ptr .1)) ∷ holds (v references) ∷ holds (vptr (comments .ptr .0) (comments .ptr .1)) ∷ holds (v comments) ∷ holds (vptr (features .ptr .0) (features .ptr .1)) ∷ holds (v features) ∷ holds (vptr (qualifiers .ptr .0) (qualifiers .ptr .1)) ∷ holds (v qualifiers) ∷ holds
           (vptr (locations .ptr .0) (locations .ptr .1)) ∷ holds (v locations) ∷ holds (vptr (letters .ptr .0) (letters .ptr .1)) ∷ holds (v letters) ∷ []
 
@@ -401,7 +399,7 @@ module _ {M : Type 1} (𝓤 : URA M) (H : Heap 𝓤) (A : Atoms 𝓤) (W : Given
         (and-then ! (load ! (from ! (stop !)) (look ! 15 refl))
         (and-then ! (load ! (from ! (stop !)) (look ! 17 refl)) (and-then ! (load ! (from ! (stop !)) (look ! 19 refl)) (and-then ! (load ! (from ! (stop !)) (look ! 21 refl)) (and-then ! (load ! (from ! (stop !)) (look ! 23 refl)) (and-then ! (load ! (from ! (stop !)) (look ! 25 refl)) (no-more !))))))))))
         (back-read ! (λ r-read r-read-is texts-read references-read comments-read features-read qualifiers-read locations-read letters-read texts-read-long references-read-long comments-read-long features-read-long qualifiers-read-long locations-read-long letters-read-long said-read.
-        land ! (from ! (stop !)) (init ! 25 refl (EL.lawful ReadAnswer-is.the-type ReadAnswer-has.the-laws 𝓤 H A W tt .typed r-read ((ReadAnswer-val r-read) ∷ []) r-read-is .0)) $
+        land ! (from ! (stop !)) (init ! 25 refl (LL.lawful Reported-is.the-type Reported-has.the-laws 𝓤 H A W .typed r-read ((Reported-val r-read) ∷ []) r-read-is .0)) $
         part-6 r-read r-read-is texts-read references-read comments-read features-read qualifiers-read locations-read letters-read texts-read-long references-read-long comments-read-long features-read-long qualifiers-read-long locations-read-long letters-read-long said-read)))
 
     abbrev part-4-holds : List Cell

@@ -50,7 +50,7 @@ use Rattle.base_walk.proofs.Locals.{Cell, vacant, away, holds, locals, Dies, al
 use Rattle.base_walk.proofs.Loans.{Loan, again as slice-at, Own, Lent, Kept, Shared, lends, returned, shares, placed, LentCells, SharedCells, MineMut, MineShr, lends-cells, shares-cells, mut-cells-back, shr-cells-back}
 use Rattle.base_walk.proofs.Arrays.{Many, many-val, apart, together, big-lit}
 use Rattle.base_rows.specs.Rows.{flat}
-use Rattle.spec_contracts.specs.Reads.{Answered}
+use Rattle.spec_contracts.specs.Reads.{ReadReported}
 use Rattle.spec_contracts.specs.Rounds.{Rounds, emptyRows, headOf, howAfter}
 use Rattle.spec_contracts.specs.Writes.{WriteAnswered}
 use Rattle.spec_format.specs.Rooms.{roomsIn, Rooms}
@@ -67,6 +67,9 @@ use Rattle.spec_format.proofs.How.Laws as How-has
 use Rattle.spec_format.specs.declared.ReadAnswer.{ReadAnswer}
 use Rattle.spec_format.proofs.ReadAnswer as ReadAnswer-is
 use Rattle.spec_format.proofs.ReadAnswer.Laws as ReadAnswer-has
+use Rattle.spec_contracts.specs.declared.Reported.{Reported}
+use Rattle.spec_contracts.proofs.Reported as Reported-is
+use Rattle.spec_contracts.proofs.Reported.Laws as Reported-has
 use Rattle.app_round.specs.declared.Round.{Round}
 use Rattle.app_round.proofs.Round as Round-is
 use Rattle.app_round.proofs.Round.Laws as Round-has
@@ -122,6 +125,9 @@ How-val = LL.val How-is.the-type How-has.the-laws
 
 abbrev ReadAnswer-val : ReadAnswer → Val
 ReadAnswer-val = EL.val ReadAnswer-is.the-type ReadAnswer-has.the-laws
+
+abbrev Reported-val : Reported → Val
+Reported-val = LL.val Reported-is.the-type Reported-has.the-laws
 
 abbrev Round-val : Round → Val
 Round-val = LL.val Round-is.the-type Round-has.the-laws
@@ -233,16 +239,16 @@ module _ {M : Type 1} (𝓤 : URA M) (H : Heap 𝓤) (A : Atoms 𝓤) (W : Given
 
   module _ (C : Calls 𝓤 H) (Λ : Loops 𝓤 H) (fm : FmC 𝓤 H (W .laws) C) (known-no-rows : Triple 𝓤 (C #app-round·no-rows) (no-rows-contract 𝓤 H A mem run)) (known-read : Triple 𝓤 (C #read-record·read) (read-contract 𝓤 H A mem run)) (known-head-of : Triple 𝓤 (C #app-round·head-of) (head-of-contract 𝓤 H A mem run))
       (known-how-after : Triple 𝓤 (C #app-round·how-after) (how-after-contract 𝓤 H A mem run)) (known-write : Triple 𝓤 (C #write-record·write) (write-contract 𝓤 H A mem run))
-      (l₀ l₁ l₂ l₃ l₄ l₅ l₆ l₇ l₈ l₉ l₁₀ l₁₁ l₁₂ l₁₃ l₁₄ l₁₅ l₁₆ l₁₇ l₁₈ l₁₉ l₂₀ l₂₁ l₂₂ l₂₃ l₂₄ l₂₅ l₂₆ l₂₇ l₂₈ l₂₉ l₃₀ l₃₁ l₃₂ l₃₃ l₃₄ l₃₅ l₃₆ l₃₇ l₃₈ l₃₉ l₄₀ l₄₁ l₄₂ l₄₃ l₄₄ l₄₅ l₄₆ : ℕ) where
+      (l₀ l₁ l₂ l₃ l₄ l₅ l₆ l₇ l₈ l₉ l₁₀ l₁₁ l₁₂ l₁₃ l₁₄ l₁₅ l₁₆ l₁₇ l₁₈ l₁₉ l₂₀ l₂₁ l₂₂ l₂₃ l₂₄ l₂₅ l₂₆ l₂₇ l₂₈ l₂₉ l₃₀ l₃₁ l₃₂ l₃₃ l₃₄ l₃₅ l₃₆ l₃₇ l₃₈ l₃₉ l₄₀ l₄₁ l₄₂ l₄₃ l₄₄ l₄₅ l₄₆ l₄₇ : ℕ) where
     -- the locals, and their entries with what is owed of them
     abbrev E : Env 𝓤 H
     E = (Round-has.mir, l₀) ∷ (sliceTy (tyRef (named 0) imm (tyInt w8)), l₁) ∷ (tyInt w64, l₂) ∷ (sliceTy (tyRef (named 1) mut (tyInt w8)), l₃) ∷ (sliceTy (tyRef (named 2) mut (tyInt w64)), l₄) ∷ (sliceTy (tyRef (named 3) mut (tyInt w64)), l₅) ∷ (sliceTy (tyRef (named 4) mut (tyInt w64)), l₆) ∷ (sliceTy (tyRef (named 5) mut (tyInt w64)), l₇) ∷
-        (sliceTy (tyRef (named 6) mut (tyInt w8)), l₈) ∷ (sliceTy (tyRef (named 7) mut (tyInt w8)), l₉) ∷ (How-has.mir, l₁₀) ∷ (tyArray Feature-has.mir 8192, l₁₁) ∷ (ReadAnswer-has.mir, l₁₂) ∷ (Head-has.mir, l₁₃) ∷ (How-has.mir, l₁₄) ∷ (WriteAnswer-has.mir, l₁₅) ∷ (tyArray Feature-has.mir 8192, l₁₆) ∷ (tyRef erased mut (tyInt w8), l₁₇) ∷
-        (sliceTy (tyRef erased mut (tyInt w8)), l₁₈) ∷ (tyRef erased mut (tyInt w64), l₁₉) ∷ (sliceTy (tyRef erased mut (tyInt w64)), l₂₀) ∷ (tyRef erased mut (tyInt w64), l₂₁) ∷ (sliceTy (tyRef erased mut (tyInt w64)), l₂₂) ∷ (tyRef erased mut (tyArray (pointee (Feature-is.the-row .written)) 8192), l₂₃) ∷
-        (sliceTy (tyRef erased mut (pointee (Feature-is.the-row .written))), l₂₄) ∷ (tyRef erased mut (tyInt w64), l₂₅) ∷ (sliceTy (tyRef erased mut (tyInt w64)), l₂₆) ∷ (tyRef erased mut (tyInt w64), l₂₇) ∷ (sliceTy (tyRef erased mut (tyInt w64)), l₂₈) ∷ (tyRef erased mut (tyInt w8), l₂₉) ∷ (sliceTy (tyRef erased mut (tyInt w8)), l₃₀) ∷
-        (tyRef erased mut (tyInt w8), l₃₁) ∷ (sliceTy (tyRef erased mut (tyInt w8)), l₃₂) ∷ (tyRef erased imm (tyInt w8), l₃₃) ∷ (sliceTy (tyRef erased imm (tyInt w8)), l₃₄) ∷ (tyRef erased imm (tyInt w64), l₃₅) ∷ (sliceTy (tyRef erased imm (tyInt w64)), l₃₆) ∷ (tyRef erased imm (tyInt w64), l₃₇) ∷
-        (sliceTy (tyRef erased imm (tyInt w64)), l₃₈) ∷ (tyRef erased imm (tyArray (pointee (Feature-is.the-row .written)) 8192), l₃₉) ∷ (sliceTy (tyRef erased imm (pointee (Feature-is.the-row .written))), l₄₀) ∷ (tyRef erased imm (tyInt w64), l₄₁) ∷ (sliceTy (tyRef erased imm (tyInt w64)), l₄₂) ∷ (tyRef erased imm (tyInt w64), l₄₃)
-        ∷ (sliceTy (tyRef erased imm (tyInt w64)), l₄₄) ∷ (tyRef erased imm (tyInt w8), l₄₅) ∷ (sliceTy (tyRef erased imm (tyInt w8)), l₄₆) ∷ []
+        (sliceTy (tyRef (named 6) mut (tyInt w8)), l₈) ∷ (sliceTy (tyRef (named 7) mut (tyInt w8)), l₉) ∷ (How-has.mir, l₁₀) ∷ (tyArray Feature-has.mir 8192, l₁₁) ∷ (Reported-has.mir, l₁₂) ∷ (ReadAnswer-has.mir, l₁₃) ∷ (Head-has.mir, l₁₄) ∷ (How-has.mir, l₁₅) ∷ (WriteAnswer-has.mir, l₁₆) ∷ (tyArray Feature-has.mir 8192, l₁₇) ∷
+        (tyRef erased mut (tyInt w8), l₁₈) ∷ (sliceTy (tyRef erased mut (tyInt w8)), l₁₉) ∷ (tyRef erased mut (tyInt w64), l₂₀) ∷ (sliceTy (tyRef erased mut (tyInt w64)), l₂₁) ∷ (tyRef erased mut (tyInt w64), l₂₂) ∷ (sliceTy (tyRef erased mut (tyInt w64)), l₂₃) ∷ (tyRef erased mut (tyArray (pointee (Feature-is.the-row .written)) 8192), l₂₄) ∷
+        (sliceTy (tyRef erased mut (pointee (Feature-is.the-row .written))), l₂₅) ∷ (tyRef erased mut (tyInt w64), l₂₆) ∷ (sliceTy (tyRef erased mut (tyInt w64)), l₂₇) ∷ (tyRef erased mut (tyInt w64), l₂₈) ∷ (sliceTy (tyRef erased mut (tyInt w64)), l₂₉) ∷ (tyRef erased mut (tyInt w8), l₃₀) ∷ (sliceTy (tyRef erased mut (tyInt w8)), l₃₁) ∷
+        (tyRef erased mut (tyInt w8), l₃₂) ∷ (sliceTy (tyRef erased mut (tyInt w8)), l₃₃) ∷ (tyRef erased imm (tyInt w8), l₃₄) ∷ (sliceTy (tyRef erased imm (tyInt w8)), l₃₅) ∷ (tyRef erased imm (tyInt w64), l₃₆) ∷ (sliceTy (tyRef erased imm (tyInt w64)), l₃₇) ∷ (tyRef erased imm (tyInt w64), l₃₈) ∷
+        (sliceTy (tyRef erased imm (tyInt w64)), l₃₉) ∷ (tyRef erased imm (tyArray (pointee (Feature-is.the-row .written)) 8192), l₄₀) ∷ (sliceTy (tyRef erased imm (pointee (Feature-is.the-row .written))), l₄₁) ∷ (tyRef erased imm (tyInt w64), l₄₂) ∷ (sliceTy (tyRef erased imm (tyInt w64)), l₄₃) ∷ (tyRef erased imm (tyInt w64), l₄₄)
+        ∷ (sliceTy (tyRef erased imm (tyInt w64)), l₄₅) ∷ (tyRef erased imm (tyInt w8), l₄₆) ∷ (sliceTy (tyRef erased imm (tyInt w8)), l₄₇) ∷ []
 
     abbrev standing : List Cell → List (Item 𝓤)
     standing cs = locals 𝓤 H A E cs (raw (Dies 𝓤 H A E) ∷ [])
@@ -378,23 +384,23 @@ module _ {M : Type 1} (𝓤 : URA M) (H : Heap 𝓤) (A : Atoms 𝓤) (W : Given
           next k-texts k-references k-comments full-array k-array k-qualifiers k-locations k-letters))))))))
 
       -- what `read` says of its answer and of the lists that it leaves
-      abbrev Said-read : ReadAnswer → List ℕ → List ℕ → List ℕ → List Feature → List ℕ → List ℕ → List ℕ → Type 0
-      Said-read r-read texts-read references-read comments-read array-read qualifiers-read locations-read letters-read = Answered (s .now) at′ (roomsIn (texts .now) (references .now) (comments .now) (flat (r-no-rows)) (qualifiers .now) (locations .now) (letters .now))
+      abbrev Said-read : Reported → List ℕ → List ℕ → List ℕ → List Feature → List ℕ → List ℕ → List ℕ → Type 0
+      Said-read r-read texts-read references-read comments-read array-read qualifiers-read locations-read letters-read = ReadReported (s .now) at′ (roomsIn (texts .now) (references .now) (comments .now) (flat (r-no-rows)) (qualifiers .now) (locations .now) (letters .now))
           (roomsIn (texts-read) (references-read) (comments-read) (flat (array-read)) (qualifiers-read) (locations-read) (letters-read)) r-read
 
       back-read : {K : Type 0} {Γ : List (Item 𝓤)} {d : S.Place} {rest : S.Body} {q : Ending 𝓤 H} → K → (k-texts : Loan) (k-references : Loan) (k-comments : Loan) (full-array : length r-no-rows ≡ 8192) (k-array : Loan) (k-qualifiers : Loan) (k-locations : Loan) (k-letters : Loan) →
-          ((r-read : ReadAnswer) (r-read-is : Is ReadAnswer-is.the-row r-read ((ReadAnswer-val r-read) ∷ [])) (texts-read : List ℕ) (references-read : List ℕ) (comments-read : List ℕ) (array-read : List Feature) (qualifiers-read : List ℕ) (locations-read : List ℕ) (letters-read : List ℕ) (texts-read-long : length texts-read ≡ length (texts .now))
+          ((r-read : Reported) (r-read-is : Is Reported-is.the-row r-read ((Reported-val r-read) ∷ [])) (texts-read : List ℕ) (references-read : List ℕ) (comments-read : List ℕ) (array-read : List Feature) (qualifiers-read : List ℕ) (locations-read : List ℕ) (letters-read : List ℕ) (texts-read-long : length texts-read ≡ length (texts .now))
           (references-read-long : length references-read ≡ length (references .now)) (comments-read-long : length comments-read ≡ length (comments .now)) (array-read-is : Is (Many 8192) array-read (array-vals (LL.vals Feature-is.the-type Feature-has.the-laws) array-read))
           (qualifiers-read-long : length qualifiers-read ≡ length (qualifiers .now)) (locations-read-long : length locations-read ≡ length (locations .now)) (letters-read-long : length letters-read ≡ length (letters .now))
           (said-read : Said-read r-read texts-read references-read comments-read array-read qualifiers-read locations-read letters-read) → Seq K W
           (‵ (fat fullShare (tyArray Feature-has.mir 8192) l₁₁ 0 (many-val array-read)) ∷ ‵ (flft κ₀ q₀) ∷ ‵ (flft κ₁ q₁) ∷ ‵ (flft κ₂ q₂) ∷ ‵ (flft κ₃ q₃) ∷ ‵ (flft κ₄ q₄) ∷ ‵ (flft κ₅ q₅) ∷ ‵ (flft κ₆ q₆) ∷ ‵ (flft κ₇ q₇) ∷ ‵ (texts-own texts-read) ∷ ‵ (references-own references-read) ∷ ‵ (comments-own comments-read) ∷ ‵
-          (qualifiers-own qualifiers-read) ∷ ‵ (locations-own locations-read) ∷ ‵ (letters-own letters-read) ∷ ‵ (out-own (out .now)) ∷ Γ) (lands C Λ E d (ReadAnswer-val r-read) rest q))
+          (qualifiers-own qualifiers-read) ∷ ‵ (locations-own locations-read) ∷ ‵ (letters-own letters-read) ∷ ‵ (out-own (out .now)) ∷ Γ) (lands C Λ E d (Reported-val r-read) rest q))
           → (u : Val) → Seq K W (raw (read-contract 𝓤 H A mem run .post (to-read k-texts k-references k-comments full-array k-array k-qualifiers k-locations k-letters) u) ∷ ‵ (Kept u8 letters κ₆ q₆ (letters .now) k-letters) ∷ ‵ (Kept usize locations κ₅ q₅ (locations .now) k-locations) ∷ ‵ (Kept usize qualifiers κ₄ q₄ (qualifiers .now) k-qualifiers)
           ∷ ‵ (MineMut Feature-is.the-row l₁₁ 8192 k-array) ∷ ‵ (Kept usize comments κ₃ q₃ (comments .now) k-comments) ∷ ‵ (Kept usize references κ₂ q₂ (references .now) k-references) ∷ ‵ (Kept u8 texts κ₁ q₁ (texts .now) k-texts) ∷ ‵ (flft κ₇ q₇) ∷ ‵ (out-own (out .now)) ∷ Γ) (lands C Λ E d u rest q)
       back-read t k-texts k-references k-comments full-array k-array k-qualifiers k-locations k-letters next u =
-          use1 W (later (some (λ (r-read : ReadAnswer).
+          use1 W (later (some (λ (r-read : Reported).
           ((‵ (flft κ₀ q₀) ⊛ ‵ (flft (k-texts .life ∷ []) fullShare) ⊛ ‵ (flft (k-references .life ∷ []) fullShare) ⊛ ‵ (flft (k-comments .life ∷ []) fullShare) ⊛ ‵ (flft (k-array .life ∷ []) fullShare) ⊛ ‵ (flft (k-qualifiers .life ∷ []) fullShare) ⊛ ‵ (flft (k-locations .life ∷ []) fullShare) ⊛ ‵ (flft (k-letters .life ∷ []) fullShare) ⊛ ‵
-          ftrue) ⊛ ‵ (ReadAnswer-is.the-row .own r-read (u ∷ []))) ⊛ raw (ensured 𝓤 H A read.ended (read.clauses 𝓤 H A mem run) (lfts-read k-texts k-references k-comments full-array k-array k-qualifiers k-locations k-letters) (args-read k-texts k-references k-comments full-array k-array k-qualifiers k-locations k-letters) tt r-read))))
+          ftrue) ⊛ ‵ (Reported-is.the-row .own r-read (u ∷ []))) ⊛ raw (ensured 𝓤 H A read.ended (read.clauses 𝓤 H A mem run) (lfts-read k-texts k-references k-comments full-array k-array k-qualifiers k-locations k-letters) (args-read k-texts k-references k-comments full-array k-array k-qualifiers k-locations k-letters) tt r-read))))
           (id⊢ 𝓤 _) $
           await t tt $ pick t (λ r-read. split t $ move t (1 ∷ []) $
           use1 W (some (λ (ws : (Unit {0}) × ((Unit {0}) × ((List ℕ) × ((List ℕ) × ((List ℕ) × ((List Feature) × ((List ℕ) × ((List ℕ) × ((List ℕ) × Unit {0}))))))))).
@@ -430,7 +436,7 @@ module _ {M : Type 1} (𝓤 : URA M) (H : Heap 𝓤) (A : Atoms 𝓤) (W : Given
           splits t (‵ (flft κ₀ q₀) ∷ ‵ (flft (k-texts .life ∷ []) fullShare) ∷ ‵ (flft (k-references .life ∷ []) fullShare) ∷ ‵ (flft (k-comments .life ∷ []) fullShare) ∷ ‵ (flft (k-array .life ∷ []) fullShare) ∷ ‵ (flft (k-qualifiers .life ∷ []) fullShare) ∷ ‵ (flft (k-locations .life ∷ []) fullShare) ∷ ‵ (flft (k-letters .life ∷ []) fullShare) ∷
           []) (id⊢ 𝓤 _) $
           move t (8 ∷ []) $
-          lands-at t ReadAnswer-is.the-row (EL.vals ReadAnswer-is.the-type ReadAnswer-has.the-laws) (EL.tells ReadAnswer-is.the-type ReadAnswer-has.the-laws) r-read u (λ r-read-is.
+          lands-at t Reported-is.the-row (LL.vals Reported-is.the-type Reported-has.the-laws) (LL.tells Reported-is.the-type Reported-has.the-laws) r-read u (λ r-read-is.
           move t (1 ∷ 21 ∷ 14 ∷ []) $
           use3 W (later (‵ (texts-own (ws .1 .1 .0)) ⊛ ‵ (flft κ₁ q₁))) (returned u8 texts 𝓤 H A W (named 1) (named 1) κ₁ q₁ (texts .now) refl k-texts (ws .1 .1 .0)) $ await t tt $ split t $
           move t (3 ∷ 20 ∷ 14 ∷ []) $
@@ -451,24 +457,23 @@ module _ {M : Type 1} (𝓤 : URA M) (H : Heap 𝓤) (A : Atoms 𝓤) (W : Given
           move t (6 ∷ 13 ∷ 12 ∷ 10 ∷ 8 ∷ 5 ∷ 3 ∷ 1 ∷ 14 ∷ 11 ∷ 9 ∷ 7 ∷ 4 ∷ 2 ∷ 0 ∷ 15 ∷ []) $
           next r-read r-read-is (ws .1 .1 .0) (ws .1 .1 .1 .0) (ws .1 .1 .1 .1 .0) (ws .1 .1 .1 .1 .1 .0) (ws .1 .1 .1 .1 .1 .1 .0) (ws .1 .1 .1 .1 .1 .1 .1 .0) (ws .1 .1 .1 .1 .1 .1 .1 .1 .0) texts-long references-long comments-long array-is qualifiers-long locations-long letters-long said-read)))))))))))))
 
-      module _ (r-read : ReadAnswer) (r-read-is : Is ReadAnswer-is.the-row r-read ((ReadAnswer-val r-read) ∷ [])) (texts-read : List ℕ) (references-read : List ℕ) (comments-read : List ℕ) (array-read : List Feature) (qualifiers-read : List ℕ) (locations-read : List ℕ) (letters-read : List ℕ)
-          (texts-read-long : length texts-read ≡ length (texts .now)) (references-read-long : length references-read ≡ length (references .now)) (comments-read-long : length comments-read ≡ length (comments .now)) (array-read-is : Is (Many 8192) array-read (array-vals (LL.vals Feature-is.the-type Feature-has.the-laws) array-read))
-          (qualifiers-read-long : length qualifiers-read ≡ length (qualifiers .now)) (locations-read-long : length locations-read ≡ length (locations .now)) (letters-read-long : length letters-read ≡ length (letters .now))
-          (said-read : Said-read r-read texts-read references-read comments-read array-read qualifiers-read locations-read letters-read) where
+      module _ (r-read : Reported) (r-read-is : Is Reported-is.the-row r-read ((Reported-val r-read) ∷ [])) (texts-read : List ℕ) (references-read : List ℕ) (comments-read : List ℕ) (array-read : List Feature) (qualifiers-read : List ℕ) (locations-read : List ℕ) (letters-read : List ℕ) (texts-read-long : length texts-read ≡ length (texts .now))
+          (references-read-long : length references-read ≡ length (references .now)) (comments-read-long : length comments-read ≡ length (comments .now)) (array-read-is : Is (Many 8192) array-read (array-vals (LL.vals Feature-is.the-type Feature-has.the-laws) array-read)) (qualifiers-read-long : length qualifiers-read ≡ length (qualifiers .now))
+          (locations-read-long : length locations-read ≡ length (locations .now)) (letters-read-long : length letters-read ≡ length (letters .now)) (said-read : Said-read r-read texts-read references-read comments-read array-read qualifiers-read locations-read letters-read) where
         -- the call of `head_of`
         abbrev lfts-head-of : Unit {0}
         lfts-head-of = tt
 
         abbrev args-head-of : ReadAnswer × Unit {0}
-        args-head-of = (r-read, tt)
+        args-head-of = ((r-read .answer), tt)
 
         abbrev to-head-of : head-of-contract 𝓤 H A mem run .Ghost
-        to-head-of = ((lfts-head-of, tt, tt, args-head-of, (((ReadAnswer-val r-read) ∷ []), tt)), tt)
+        to-head-of = ((lfts-head-of, tt, tt, args-head-of, (((ReadAnswer-val (r-read .answer)) ∷ []), tt)), tt)
 
         goes-head-of : ent 𝓤 (⋆ 𝓤 H A ([])) (head-of-contract 𝓤 H A mem run .pre to-head-of)
         goes-head-of = qed W ([]) ∵
             asks-nothing ! $ nothing ! $ nothing ! $
-            owned ! ReadAnswer-is.the-row (Is ReadAnswer-is.the-row) (EL.makes ReadAnswer-is.the-type ReadAnswer-has.the-plain 𝓤 H A) r-read ((ReadAnswer-val r-read) ∷ []) r-read-is $
+            owned ! ReadAnswer-is.the-row (Is ReadAnswer-is.the-row) (EL.makes ReadAnswer-is.the-type ReadAnswer-has.the-plain 𝓤 H A) (r-read .answer) ((ReadAnswer-val (r-read .answer)) ∷ []) (LL.owed Reported-is.the-type Reported-has.the-laws r-read _ r-read-is .0) $
             move ! (2 ∷ 0 ∷ 1 ∷ []) $
             done !
 
@@ -483,7 +488,7 @@ module _ {M : Type 1} (𝓤 : URA M) (H : Heap 𝓤) (A : Atoms 𝓤) (W : Given
 
         -- what `head_of` says of its answer and of the lists that it leaves
         abbrev Said-head-of : Head → Type 0
-        Said-head-of r-head-of = r-head-of ≡ headOf r-read
+        Said-head-of r-head-of = r-head-of ≡ headOf (r-read .answer)
 
         back-head-of : {K : Type 0} {Γ : List (Item 𝓤)} {d : S.Place} {rest : S.Body} {q : Ending 𝓤 H} → K →
             ((r-head-of : Head) (r-head-of-is : Is Head-is.the-row r-head-of ((Head-val r-head-of) ∷ [])) (said-head-of : Said-head-of r-head-of) → Seq K W
@@ -510,15 +515,15 @@ module _ {M : Type 1} (𝓤 : URA M) (H : Heap 𝓤) (A : Atoms 𝓤) (W : Given
           lfts-how-after = tt
 
           abbrev args-how-after : ReadAnswer × (How × Unit {0})
-          args-how-after = (r-read, (how, tt))
+          args-how-after = ((r-read .answer), (how, tt))
 
           abbrev to-how-after : how-after-contract 𝓤 H A mem run .Ghost
-          to-how-after = ((lfts-how-after, tt, tt, args-how-after, (((ReadAnswer-val r-read) ∷ []), (((How-val how) ∷ []), tt))), tt)
+          to-how-after = ((lfts-how-after, tt, tt, args-how-after, (((ReadAnswer-val (r-read .answer)) ∷ []), (((How-val how) ∷ []), tt))), tt)
 
           goes-how-after : ent 𝓤 (⋆ 𝓤 H A ([])) (how-after-contract 𝓤 H A mem run .pre to-how-after)
           goes-how-after = qed W ([]) ∵
               asks-nothing ! $ nothing ! $ nothing ! $
-              owned ! ReadAnswer-is.the-row (Is ReadAnswer-is.the-row) (EL.makes ReadAnswer-is.the-type ReadAnswer-has.the-plain 𝓤 H A) r-read ((ReadAnswer-val r-read) ∷ []) r-read-is $
+              owned ! ReadAnswer-is.the-row (Is ReadAnswer-is.the-row) (EL.makes ReadAnswer-is.the-type ReadAnswer-has.the-plain 𝓤 H A) (r-read .answer) ((ReadAnswer-val (r-read .answer)) ∷ []) (LL.owed Reported-is.the-type Reported-has.the-laws r-read _ r-read-is .0) $
               owned ! How-is.the-row (Is How-is.the-row) (LL.makes How-is.the-type How-has.the-plain 𝓤 H A) how ((How-val how) ∷ []) how-is $
               move ! (3 ∷ 1 ∷ 0 ∷ 2 ∷ []) $
               done !
@@ -534,7 +539,7 @@ module _ {M : Type 1} (𝓤 : URA M) (H : Heap 𝓤) (A : Atoms 𝓤) (W : Given
 
           -- what `how_after` says of its answer and of the lists that it leaves
           abbrev Said-how-after : How → Type 0
-          Said-how-after r-how-after = r-how-after ≡ howAfter r-read how
+          Said-how-after r-how-after = r-how-after ≡ howAfter (r-read .answer) how
 
           back-how-after : {K : Type 0} {Γ : List (Item 𝓤)} {d : S.Place} {rest : S.Body} {q : Ending 𝓤 H} → K →
               ((r-how-after : How) (r-how-after-is : Is How-is.the-row r-how-after ((How-val r-how-after) ∷ [])) (said-how-after : Said-how-after r-how-after) → Seq K W
@@ -686,8 +691,8 @@ module _ {M : Type 1} (𝓤 : URA M) (H : Heap 𝓤) (A : Atoms 𝓤) (W : Given
               -- the law, and the end
               ended : Rounds (s .now) at′ (roomsIn (texts .now) (references .now) (comments .now) (flat emptyRows) (qualifiers .now) (locations .now) (letters .now)) how (texts-read) (references-read) (comments-read) (qualifiers-read) (locations-read) (letters-read) (out .now) (out-write) (made-Round .read) (made-Round .wrote)
               ended = rounds (s .now) at′ (old emptyRows) how texts-read references-read comments-read array-read qualifiers-read locations-read letters-read (out .now) out-write r-read r-write
-                  (subst (λ (f : List Feature). Answered (s .now) at′ (old f) (roomsIn texts-read references-read comments-read (flat array-read) qualifiers-read locations-read letters-read) r-read) said-no-rows said-read)
-                  (subst (λ (k : How). WriteAnswered k (roomsIn texts-read references-read comments-read (flat array-read) qualifiers-read locations-read letters-read) (headOf r-read) (out .now) out-write r-write) said-how-after
+                  (subst (λ (f : List Feature). ReadReported (s .now) at′ (old f) (roomsIn texts-read references-read comments-read (flat array-read) qualifiers-read locations-read letters-read) r-read) said-no-rows said-read)
+                  (subst (λ (k : How). WriteAnswered k (roomsIn texts-read references-read comments-read (flat array-read) qualifiers-read locations-read letters-read) (headOf (r-read .answer)) (out .now) out-write r-write) said-how-after
                   (subst (λ (h : Head). WriteAnswered r-how-after (roomsIn texts-read references-read comments-read (flat array-read) qualifiers-read locations-read letters-read) h (out .now) out-write r-write) said-head-of said-write))
 
               abbrev at-last : List (Item 𝓤)
@@ -706,137 +711,141 @@ module _ {M : Type 1} (𝓤 : URA M) (H : Heap 𝓤) (A : Atoms 𝓤) (W : Given
                   done !
 
               abbrev part-14-holds : List Cell
-              part-14-holds = vacant ∷ holds (v s) ∷ holds (vint w64 at′) ∷ holds (v texts) ∷ holds (v references) ∷ holds (v comments) ∷ holds (v qualifiers) ∷ holds (v locations) ∷ holds (v letters) ∷ holds (v out) ∷ holds (How-val how) ∷ away ∷ holds (ReadAnswer-val r-read) ∷ holds (Head-val r-head-of) ∷ holds (How-val r-how-after) ∷ holds
-                  (WriteAnswer-val r-write) ∷ holds (many-val r-no-rows) ∷ holds (vptr (texts .ptr .0) (texts .ptr .1)) ∷ holds (v texts) ∷ holds (vptr (references .ptr .0) (references .ptr .1)) ∷ holds (v references) ∷ holds (vptr (comments .ptr .0) (comments .ptr .1)) ∷ holds (v comments) ∷ holds (vptr l₁₁ 0) ∷ holds (sliceVal (l₁₁, 0) 8192) ∷
-                  holds (vptr (qualifiers .ptr .0) (qualifiers .ptr .1)) ∷ holds (v qualifiers) ∷ holds (vptr (locations .ptr .0) (locations .ptr .1)) ∷ holds (v locations) ∷ holds (vptr (letters .ptr .0) (letters .ptr .1)) ∷ holds (v letters) ∷ holds (vptr (out .ptr .0) (out .ptr .1)) ∷ holds (v out) ∷ holds
+              part-14-holds = vacant ∷ holds (v s) ∷ holds (vint w64 at′) ∷ holds (v texts) ∷ holds (v references) ∷ holds (v comments) ∷ holds (v qualifiers) ∷ holds (v locations) ∷ holds (v letters) ∷ holds (v out) ∷ holds (How-val how) ∷ away ∷ holds (Reported-val r-read) ∷ holds (ReadAnswer-val (r-read .answer)) ∷ holds (Head-val r-head-of) ∷
+                  holds (How-val r-how-after) ∷ holds (WriteAnswer-val r-write) ∷ holds (many-val r-no-rows) ∷ holds (vptr (texts .ptr .0) (texts .ptr .1)) ∷ holds (v texts) ∷ holds (vptr (references .ptr .0) (references .ptr .1)) ∷ holds (v references) ∷ holds (vptr (comments .ptr .0) (comments .ptr .1)) ∷ holds (v comments) ∷ holds (vptr l₁₁ 0) ∷
+                  holds (sliceVal (l₁₁, 0) 8192) ∷ holds (vptr (qualifiers .ptr .0) (qualifiers .ptr .1)) ∷ holds (v qualifiers) ∷ holds (vptr (locations .ptr .0) (locations .ptr .1)) ∷ holds (v locations) ∷ holds (vptr (letters .ptr .0) (letters .ptr .1)) ∷ holds (v letters) ∷ holds (vptr (out .ptr .0) (out .ptr .1)) ∷ holds (v out) ∷ holds
                   (vptr (texts .ptr .0) (texts .ptr .1)) ∷ holds (v texts) ∷ holds (vptr (references .ptr .0) (references .ptr .1)) ∷ holds (v references) ∷ holds (vptr (comments .ptr .0) (comments .ptr .1)) ∷ holds (v comments) ∷ holds (vptr l₁₁ 0) ∷ holds (sliceVal (l₁₁, 0) 8192) ∷ holds (vptr (qualifiers .ptr .0) (qualifiers .ptr .1)) ∷
                   holds (v qualifiers) ∷ holds (vptr (locations .ptr .0) (locations .ptr .1)) ∷ holds (v locations) ∷ holds (vptr (letters .ptr .0) (letters .ptr .1)) ∷ holds (v letters) ∷ []
 
               part-14 : Sq W (‵ (fat fullShare (tyArray Feature-has.mir 8192) l₁₁ 0 (many-val array-read)) ∷ ‵ (flft κ₀ q₀) ∷ ‵ (flft κ₁ q₁) ∷ ‵ (flft κ₂ q₂) ∷ ‵ (flft κ₃ q₃) ∷ ‵ (flft κ₄ q₄) ∷ ‵ (flft κ₅ q₅) ∷ ‵ (flft κ₆ q₆) ∷ ‵ (flft κ₇ q₇) ∷ ‵ (texts-last texts-read) ∷ ‵ (references-last references-read) ∷ ‵ (comments-last comments-read) ∷ ‵
-                  (qualifiers-last qualifiers-read) ∷ ‵ (locations-last locations-read) ∷ ‵ (letters-last letters-read) ∷ ‵ (out-last out-write) ∷ standing part-14-holds) (runs C Λ E body.t-37 (atRet E Post))
+                  (qualifiers-last qualifiers-read) ∷ ‵ (locations-last locations-read) ∷ ‵ (letters-last letters-read) ∷ ‵ (out-last out-write) ∷ standing part-14-holds) (runs C Λ E body.t-38 (atRet E Post))
               part-14 =
-                  assigns ! (agg ! (and-then ! (load ! (from ! (stop !)) (look ! 27 refl)) (and-then ! (load ! (from ! (stop !)) (look ! 30 refl)) (no-more !)))) (from ! (stop !)) (init ! 16 refl (LL.lawful Round-is.the-type Round-has.the-laws 𝓤 H A W .typed made-Round ((Round-val made-Round) ∷ []) made-Round-is .0)) $
+                  assigns ! (agg ! (and-then ! (load ! (from ! (stop !)) (look ! 27 refl)) (and-then ! (load ! (from ! (stop !)) (look ! 31 refl)) (no-more !)))) (from ! (stop !)) (init ! 16 refl (LL.lawful Round-is.the-type Round-has.the-laws 𝓤 H A W .typed made-Round ((Round-val made-Round) ∷ []) made-Round-is .0)) $
                   move ! (1 ∷ 2 ∷ 3 ∷ 4 ∷ 5 ∷ 6 ∷ 7 ∷ 8 ∷ 9 ∷ 10 ∷ 11 ∷ 12 ∷ 13 ∷ 14 ∷ 15 ∷ 16 ∷ 17 ∷ 18 ∷ 19 ∷ 20 ∷ 21 ∷ 22 ∷ 23 ∷ 24 ∷ 25 ∷ 26 ∷ 0 ∷ []) $
                   returns ! (look ! 15 refl) $ frees-all ! at-last
-                  (holds (Round-val made-Round) ∷ holds (v s) ∷ holds (vint w64 at′) ∷ holds (v texts) ∷ holds (v references) ∷ holds (v comments) ∷ holds (v qualifiers) ∷ holds (v locations) ∷ holds (v letters) ∷ holds (v out) ∷ holds (How-val how) ∷ holds (many-val array-read) ∷ holds (ReadAnswer-val r-read) ∷ holds (Head-val r-head-of) ∷
-                  holds (How-val r-how-after) ∷ holds (WriteAnswer-val r-write) ∷ holds (many-val r-no-rows) ∷ holds (vptr (texts .ptr .0) (texts .ptr .1)) ∷ holds (v texts) ∷ holds (vptr (references .ptr .0) (references .ptr .1)) ∷ holds (v references) ∷ holds (vptr (comments .ptr .0) (comments .ptr .1)) ∷ holds (v comments) ∷ holds
-                  (vptr l₁₁ 0) ∷ holds (sliceVal (l₁₁, 0) 8192) ∷ holds (vptr (qualifiers .ptr .0) (qualifiers .ptr .1)) ∷ holds (v qualifiers) ∷ holds (vptr (locations .ptr .0) (locations .ptr .1)) ∷ holds (v locations) ∷ holds (vptr (letters .ptr .0) (letters .ptr .1)) ∷ holds (v letters) ∷ holds (vptr (out .ptr .0) (out .ptr .1)) ∷
-                  holds (v out) ∷ holds (vptr (texts .ptr .0) (texts .ptr .1)) ∷ holds (v texts) ∷ holds (vptr (references .ptr .0) (references .ptr .1)) ∷ holds (v references) ∷ holds (vptr (comments .ptr .0) (comments .ptr .1)) ∷ holds (v comments) ∷ holds (vptr l₁₁ 0) ∷ holds (sliceVal (l₁₁, 0) 8192) ∷ holds
-                  (vptr (qualifiers .ptr .0) (qualifiers .ptr .1)) ∷ holds (v qualifiers) ∷ holds (vptr (locations .ptr .0) (locations .ptr .1)) ∷ holds (v locations) ∷ holds (vptr (letters .ptr .0) (letters .ptr .1)) ∷ holds (v letters) ∷ []) tt exits
+                  (holds (Round-val made-Round) ∷ holds (v s) ∷ holds (vint w64 at′) ∷ holds (v texts) ∷ holds (v references) ∷ holds (v comments) ∷ holds (v qualifiers) ∷ holds (v locations) ∷ holds (v letters) ∷ holds (v out) ∷ holds (How-val how) ∷ holds (many-val array-read) ∷ holds (Reported-val r-read) ∷ holds
+                  (ReadAnswer-val (r-read .answer)) ∷ holds (Head-val r-head-of) ∷ holds (How-val r-how-after) ∷ holds (WriteAnswer-val r-write) ∷ holds (many-val r-no-rows) ∷ holds (vptr (texts .ptr .0) (texts .ptr .1)) ∷ holds (v texts) ∷ holds (vptr (references .ptr .0) (references .ptr .1)) ∷ holds (v references) ∷ holds
+                  (vptr (comments .ptr .0) (comments .ptr .1)) ∷ holds (v comments) ∷ holds (vptr l₁₁ 0) ∷ holds (sliceVal (l₁₁, 0) 8192) ∷ holds (vptr (qualifiers .ptr .0) (qualifiers .ptr .1)) ∷ holds (v qualifiers) ∷ holds (vptr (locations .ptr .0) (locations .ptr .1)) ∷ holds (v locations) ∷ holds
+                  (vptr (letters .ptr .0) (letters .ptr .1)) ∷ holds (v letters) ∷ holds (vptr (out .ptr .0) (out .ptr .1)) ∷ holds (v out) ∷ holds (vptr (texts .ptr .0) (texts .ptr .1)) ∷ holds (v texts) ∷ holds (vptr (references .ptr .0) (references .ptr .1)) ∷ holds (v references) ∷ holds
+                  (vptr (comments .ptr .0) (comments .ptr .1)) ∷ holds (v comments) ∷ holds (vptr l₁₁ 0) ∷ holds (sliceVal (l₁₁, 0) 8192) ∷ holds (vptr (qualifiers .ptr .0) (qualifiers .ptr .1)) ∷ holds (v qualifiers) ∷ holds (vptr (locations .ptr .0) (locations .ptr .1)) ∷ holds (v locations) ∷ holds
+                  (vptr (letters .ptr .0) (letters .ptr .1)) ∷ holds (v letters) ∷ []) tt exits
 
             abbrev part-13-holds : List Cell
-            part-13-holds = vacant ∷ holds (v s) ∷ holds (vint w64 at′) ∷ holds (v texts) ∷ holds (v references) ∷ holds (v comments) ∷ holds (v qualifiers) ∷ holds (v locations) ∷ holds (v letters) ∷ holds (v out) ∷ holds (How-val how) ∷ away ∷ holds (ReadAnswer-val r-read) ∷ holds (Head-val r-head-of) ∷ holds (How-val r-how-after) ∷ vacant ∷
-                holds (many-val r-no-rows) ∷ holds (vptr (texts .ptr .0) (texts .ptr .1)) ∷ holds (v texts) ∷ holds (vptr (references .ptr .0) (references .ptr .1)) ∷ holds (v references) ∷ holds (vptr (comments .ptr .0) (comments .ptr .1)) ∷ holds (v comments) ∷ holds (vptr l₁₁ 0) ∷ holds (sliceVal (l₁₁, 0) 8192) ∷ holds
-                (vptr (qualifiers .ptr .0) (qualifiers .ptr .1)) ∷ holds (v qualifiers) ∷ holds (vptr (locations .ptr .0) (locations .ptr .1)) ∷ holds (v locations) ∷ holds (vptr (letters .ptr .0) (letters .ptr .1)) ∷ holds (v letters) ∷ holds (vptr (out .ptr .0) (out .ptr .1)) ∷ holds (v out) ∷ holds (vptr (texts .ptr .0) (texts .ptr .1)) ∷
-                holds (v texts) ∷ holds (vptr (references .ptr .0) (references .ptr .1)) ∷ holds (v references) ∷ holds (vptr (comments .ptr .0) (comments .ptr .1)) ∷ holds (v comments) ∷ holds (vptr l₁₁ 0) ∷ holds (sliceVal (l₁₁, 0) 8192) ∷ holds (vptr (qualifiers .ptr .0) (qualifiers .ptr .1)) ∷ holds (v qualifiers) ∷ holds
-                (vptr (locations .ptr .0) (locations .ptr .1)) ∷ holds (v locations) ∷ holds (vptr (letters .ptr .0) (letters .ptr .1)) ∷ holds (v letters) ∷ []
+            part-13-holds = vacant ∷ holds (v s) ∷ holds (vint w64 at′) ∷ holds (v texts) ∷ holds (v references) ∷ holds (v comments) ∷ holds (v qualifiers) ∷ holds (v locations) ∷ holds (v letters) ∷ holds (v out) ∷ holds (How-val how) ∷ away ∷ holds (Reported-val r-read) ∷ holds (ReadAnswer-val (r-read .answer)) ∷ holds (Head-val r-head-of) ∷
+                holds (How-val r-how-after) ∷ vacant ∷ holds (many-val r-no-rows) ∷ holds (vptr (texts .ptr .0) (texts .ptr .1)) ∷ holds (v texts) ∷ holds (vptr (references .ptr .0) (references .ptr .1)) ∷ holds (v references) ∷ holds (vptr (comments .ptr .0) (comments .ptr .1)) ∷ holds (v comments) ∷ holds (vptr l₁₁ 0) ∷ holds
+                (sliceVal (l₁₁, 0) 8192) ∷ holds (vptr (qualifiers .ptr .0) (qualifiers .ptr .1)) ∷ holds (v qualifiers) ∷ holds (vptr (locations .ptr .0) (locations .ptr .1)) ∷ holds (v locations) ∷ holds (vptr (letters .ptr .0) (letters .ptr .1)) ∷ holds (v letters) ∷ holds (vptr (out .ptr .0) (out .ptr .1)) ∷ holds (v out) ∷ holds
+                (vptr (texts .ptr .0) (texts .ptr .1)) ∷ holds (v texts) ∷ holds (vptr (references .ptr .0) (references .ptr .1)) ∷ holds (v references) ∷ holds (vptr (comments .ptr .0) (comments .ptr .1)) ∷ holds (v comments) ∷ holds (vptr l₁₁ 0) ∷ holds (sliceVal (l₁₁, 0) 8192) ∷ holds (vptr (qualifiers .ptr .0) (qualifiers .ptr .1)) ∷
+                holds (v qualifiers) ∷ holds (vptr (locations .ptr .0) (locations .ptr .1)) ∷ holds (v locations) ∷ holds (vptr (letters .ptr .0) (letters .ptr .1)) ∷ holds (v letters) ∷ []
 
             part-13 : Sq W (‵ (fat fullShare (tyArray Feature-has.mir 8192) l₁₁ 0 (many-val array-read)) ∷ ‵ (flft κ₀ q₀) ∷ ‵ (flft κ₁ q₁) ∷ ‵ (flft κ₂ q₂) ∷ ‵ (flft κ₃ q₃) ∷ ‵ (flft κ₄ q₄) ∷ ‵ (flft κ₅ q₅) ∷ ‵ (flft κ₆ q₆) ∷ ‵ (flft κ₇ q₇) ∷ ‵ (texts-own texts-read) ∷ ‵ (references-own references-read) ∷ ‵ (comments-own comments-read) ∷ ‵
-                (qualifiers-own qualifiers-read) ∷ ‵ (locations-own locations-read) ∷ ‵ (letters-own letters-read) ∷ ‵ (out-own (out .now)) ∷ standing part-13-holds) (runs C Λ E body.t-36 (atRet E Post))
+                (qualifiers-own qualifiers-read) ∷ ‵ (locations-own locations-read) ∷ ‵ (letters-own letters-read) ∷ ‵ (out-own (out .now)) ∷ standing part-13-holds) (runs C Λ E body.t-37 (atRet E Post))
             part-13 =
                 lends-write ! tt (λ γ-texts γ-references γ-comments full-array k-array γ-qualifiers γ-locations γ-letters.
                 calls-at ! fm (write-contract 𝓤 H A mem run) known-write (to-write γ-texts γ-references γ-comments full-array k-array γ-qualifiers γ-locations γ-letters)
-                (and-then ! (load ! (from ! (stop !)) (look ! 40 refl))
-                (and-then ! (load ! (from ! (stop !)) (look ! 42 refl))
-                (and-then ! (load ! (from ! (stop !)) (look ! 44 refl))
-                (and-then ! (load ! (from ! (stop !)) (look ! 46 refl))
-                (and-then ! (load ! (from ! (stop !)) (look ! 48 refl))
-                (and-then ! (load ! (from ! (stop !)) (look ! 50 refl)) (and-then ! (load ! (from ! (stop !)) (look ! 52 refl)) (and-then ! (load ! (from ! (stop !)) (look ! 54 refl)) (and-then ! (load ! (from ! (stop !)) (look ! 21 refl)) (and-then ! (load ! (from ! (stop !)) (look ! 22 refl)) (no-more !)))))))))))
+                (and-then ! (load ! (from ! (stop !)) (look ! 41 refl))
+                (and-then ! (load ! (from ! (stop !)) (look ! 43 refl))
+                (and-then ! (load ! (from ! (stop !)) (look ! 45 refl))
+                (and-then ! (load ! (from ! (stop !)) (look ! 47 refl))
+                (and-then ! (load ! (from ! (stop !)) (look ! 49 refl))
+                (and-then ! (load ! (from ! (stop !)) (look ! 51 refl)) (and-then ! (load ! (from ! (stop !)) (look ! 53 refl)) (and-then ! (load ! (from ! (stop !)) (look ! 55 refl)) (and-then ! (load ! (from ! (stop !)) (look ! 22 refl)) (and-then ! (load ! (from ! (stop !)) (look ! 23 refl)) (no-more !)))))))))))
                 (back-write ! γ-texts γ-references γ-comments full-array k-array γ-qualifiers γ-locations γ-letters (λ r-write r-write-is out-write out-write-long said-write.
-                land ! (from ! (stop !)) (init ! 30 refl (EL.lawful WriteAnswer-is.the-type WriteAnswer-has.the-laws 𝓤 H A W tt .typed r-write ((WriteAnswer-val r-write) ∷ []) r-write-is .0)) $
+                land ! (from ! (stop !)) (init ! 31 refl (EL.lawful WriteAnswer-is.the-type WriteAnswer-has.the-laws 𝓤 H A W tt .typed r-write ((WriteAnswer-val r-write) ∷ []) r-write-is .0)) $
                 part-14 r-write r-write-is out-write out-write-long said-write)))
 
             abbrev part-12-holds : List Cell
-            part-12-holds = vacant ∷ holds (v s) ∷ holds (vint w64 at′) ∷ holds (v texts) ∷ holds (v references) ∷ holds (v comments) ∷ holds (v qualifiers) ∷ holds (v locations) ∷ holds (v letters) ∷ holds (v out) ∷ holds (How-val how) ∷ away ∷ holds (ReadAnswer-val r-read) ∷ holds (Head-val r-head-of) ∷ holds (How-val r-how-after) ∷ vacant ∷
-                holds (many-val r-no-rows) ∷ holds (vptr (texts .ptr .0) (texts .ptr .1)) ∷ holds (v texts) ∷ holds (vptr (references .ptr .0) (references .ptr .1)) ∷ holds (v references) ∷ holds (vptr (comments .ptr .0) (comments .ptr .1)) ∷ holds (v comments) ∷ holds (vptr l₁₁ 0) ∷ holds (sliceVal (l₁₁, 0) 8192) ∷ holds
-                (vptr (qualifiers .ptr .0) (qualifiers .ptr .1)) ∷ holds (v qualifiers) ∷ holds (vptr (locations .ptr .0) (locations .ptr .1)) ∷ holds (v locations) ∷ holds (vptr (letters .ptr .0) (letters .ptr .1)) ∷ holds (v letters) ∷ holds (vptr (out .ptr .0) (out .ptr .1)) ∷ holds (v out) ∷ holds (vptr (texts .ptr .0) (texts .ptr .1)) ∷
-                holds (v texts) ∷ holds (vptr (references .ptr .0) (references .ptr .1)) ∷ holds (v references) ∷ holds (vptr (comments .ptr .0) (comments .ptr .1)) ∷ holds (v comments) ∷ holds (vptr l₁₁ 0) ∷ holds (sliceVal (l₁₁, 0) 8192) ∷ holds (vptr (qualifiers .ptr .0) (qualifiers .ptr .1)) ∷ holds (v qualifiers) ∷ vacant ∷ vacant ∷
-                vacant ∷ vacant ∷ []
+            part-12-holds = vacant ∷ holds (v s) ∷ holds (vint w64 at′) ∷ holds (v texts) ∷ holds (v references) ∷ holds (v comments) ∷ holds (v qualifiers) ∷ holds (v locations) ∷ holds (v letters) ∷ holds (v out) ∷ holds (How-val how) ∷ away ∷ holds (Reported-val r-read) ∷ holds (ReadAnswer-val (r-read .answer)) ∷ holds (Head-val r-head-of) ∷
+                holds (How-val r-how-after) ∷ vacant ∷ holds (many-val r-no-rows) ∷ holds (vptr (texts .ptr .0) (texts .ptr .1)) ∷ holds (v texts) ∷ holds (vptr (references .ptr .0) (references .ptr .1)) ∷ holds (v references) ∷ holds (vptr (comments .ptr .0) (comments .ptr .1)) ∷ holds (v comments) ∷ holds (vptr l₁₁ 0) ∷ holds
+                (sliceVal (l₁₁, 0) 8192) ∷ holds (vptr (qualifiers .ptr .0) (qualifiers .ptr .1)) ∷ holds (v qualifiers) ∷ holds (vptr (locations .ptr .0) (locations .ptr .1)) ∷ holds (v locations) ∷ holds (vptr (letters .ptr .0) (letters .ptr .1)) ∷ holds (v letters) ∷ holds (vptr (out .ptr .0) (out .ptr .1)) ∷ holds (v out) ∷ holds
+                (vptr (texts .ptr .0) (texts .ptr .1)) ∷ holds (v texts) ∷ holds (vptr (references .ptr .0) (references .ptr .1)) ∷ holds (v references) ∷ holds (vptr (comments .ptr .0) (comments .ptr .1)) ∷ holds (v comments) ∷ holds (vptr l₁₁ 0) ∷ holds (sliceVal (l₁₁, 0) 8192) ∷ holds (vptr (qualifiers .ptr .0) (qualifiers .ptr .1)) ∷
+                holds (v qualifiers) ∷ vacant ∷ vacant ∷ vacant ∷ vacant ∷ []
 
             part-12 : Sq W (‵ (fat fullShare (tyArray Feature-has.mir 8192) l₁₁ 0 (many-val array-read)) ∷ ‵ (flft κ₀ q₀) ∷ ‵ (flft κ₁ q₁) ∷ ‵ (flft κ₂ q₂) ∷ ‵ (flft κ₃ q₃) ∷ ‵ (flft κ₄ q₄) ∷ ‵ (flft κ₅ q₅) ∷ ‵ (flft κ₆ q₆) ∷ ‵ (flft κ₇ q₇) ∷ ‵ (texts-own texts-read) ∷ ‵ (references-own references-read) ∷ ‵ (comments-own comments-read) ∷ ‵
-                (qualifiers-own qualifiers-read) ∷ ‵ (locations-own locations-read) ∷ ‵ (letters-own letters-read) ∷ ‵ (out-own (out .now)) ∷ standing part-12-holds) (runs C Λ E body.t-32 (atRet E Post))
+                (qualifiers-own qualifiers-read) ∷ ‵ (locations-own locations-read) ∷ ‵ (letters-own letters-read) ∷ ‵ (out-own (out .now)) ∷ standing part-12-holds) (runs C Λ E body.t-33 (atRet E Post))
             part-12 =
-                assigns ! (addr ! (from ! (fld ! refl (hop ! (look-in ! 23 (sub ! 0 refl (whole !))) (stop !))))) (from ! (stop !)) (init ! 58 refl (tt, tt)) $
-                assigns ! (agg ! (and-then ! (load ! (from ! (stop !)) (look ! 58 refl)) (and-then ! (load ! (from ! (fld ! refl (stop !))) (look-in ! 23 (sub ! 1 refl (whole !)))) (no-more !)))) (from ! (stop !)) (init ! 59 refl (tt, (tt, (record { fits = locations-room .0 }, tt)))) $
-                assigns ! (addr ! (from ! (fld ! refl (hop ! (look-in ! 24 (sub ! 0 refl (whole !))) (stop !))))) (from ! (stop !)) (init ! 60 refl (tt, tt)) $
-                assigns ! (agg ! (and-then ! (load ! (from ! (stop !)) (look ! 60 refl)) (and-then ! (load ! (from ! (fld ! refl (stop !))) (look-in ! 24 (sub ! 1 refl (whole !)))) (no-more !)))) (from ! (stop !)) (init ! 61 refl (tt, (tt, (record { fits = letters-room .0 }, tt)))) $
+                assigns ! (addr ! (from ! (fld ! refl (hop ! (look-in ! 23 (sub ! 0 refl (whole !))) (stop !))))) (from ! (stop !)) (init ! 59 refl (tt, tt)) $
+                assigns ! (agg ! (and-then ! (load ! (from ! (stop !)) (look ! 59 refl)) (and-then ! (load ! (from ! (fld ! refl (stop !))) (look-in ! 23 (sub ! 1 refl (whole !)))) (no-more !)))) (from ! (stop !)) (init ! 60 refl (tt, (tt, (record { fits = locations-room .0 }, tt)))) $
+                assigns ! (addr ! (from ! (fld ! refl (hop ! (look-in ! 24 (sub ! 0 refl (whole !))) (stop !))))) (from ! (stop !)) (init ! 61 refl (tt, tt)) $
+                assigns ! (agg ! (and-then ! (load ! (from ! (stop !)) (look ! 61 refl)) (and-then ! (load ! (from ! (fld ! refl (stop !))) (look-in ! 24 (sub ! 1 refl (whole !)))) (no-more !)))) (from ! (stop !)) (init ! 62 refl (tt, (tt, (record { fits = letters-room .0 }, tt)))) $
                 part-13
 
             abbrev part-11-holds : List Cell
-            part-11-holds = vacant ∷ holds (v s) ∷ holds (vint w64 at′) ∷ holds (v texts) ∷ holds (v references) ∷ holds (v comments) ∷ holds (v qualifiers) ∷ holds (v locations) ∷ holds (v letters) ∷ holds (v out) ∷ holds (How-val how) ∷ away ∷ holds (ReadAnswer-val r-read) ∷ holds (Head-val r-head-of) ∷ holds (How-val r-how-after) ∷ vacant ∷
-                holds (many-val r-no-rows) ∷ holds (vptr (texts .ptr .0) (texts .ptr .1)) ∷ holds (v texts) ∷ holds (vptr (references .ptr .0) (references .ptr .1)) ∷ holds (v references) ∷ holds (vptr (comments .ptr .0) (comments .ptr .1)) ∷ holds (v comments) ∷ holds (vptr l₁₁ 0) ∷ holds (sliceVal (l₁₁, 0) 8192) ∷ holds
-                (vptr (qualifiers .ptr .0) (qualifiers .ptr .1)) ∷ holds (v qualifiers) ∷ holds (vptr (locations .ptr .0) (locations .ptr .1)) ∷ holds (v locations) ∷ holds (vptr (letters .ptr .0) (letters .ptr .1)) ∷ holds (v letters) ∷ holds (vptr (out .ptr .0) (out .ptr .1)) ∷ holds (v out) ∷ holds (vptr (texts .ptr .0) (texts .ptr .1)) ∷
-                holds (v texts) ∷ holds (vptr (references .ptr .0) (references .ptr .1)) ∷ holds (v references) ∷ holds (vptr (comments .ptr .0) (comments .ptr .1)) ∷ holds (v comments) ∷ vacant ∷ vacant ∷ vacant ∷ vacant ∷ vacant ∷ vacant ∷ vacant ∷ vacant ∷ []
+            part-11-holds = vacant ∷ holds (v s) ∷ holds (vint w64 at′) ∷ holds (v texts) ∷ holds (v references) ∷ holds (v comments) ∷ holds (v qualifiers) ∷ holds (v locations) ∷ holds (v letters) ∷ holds (v out) ∷ holds (How-val how) ∷ away ∷ holds (Reported-val r-read) ∷ holds (ReadAnswer-val (r-read .answer)) ∷ holds (Head-val r-head-of) ∷
+                holds (How-val r-how-after) ∷ vacant ∷ holds (many-val r-no-rows) ∷ holds (vptr (texts .ptr .0) (texts .ptr .1)) ∷ holds (v texts) ∷ holds (vptr (references .ptr .0) (references .ptr .1)) ∷ holds (v references) ∷ holds (vptr (comments .ptr .0) (comments .ptr .1)) ∷ holds (v comments) ∷ holds (vptr l₁₁ 0) ∷ holds
+                (sliceVal (l₁₁, 0) 8192) ∷ holds (vptr (qualifiers .ptr .0) (qualifiers .ptr .1)) ∷ holds (v qualifiers) ∷ holds (vptr (locations .ptr .0) (locations .ptr .1)) ∷ holds (v locations) ∷ holds (vptr (letters .ptr .0) (letters .ptr .1)) ∷ holds (v letters) ∷ holds (vptr (out .ptr .0) (out .ptr .1)) ∷ holds (v out) ∷ holds
+                (vptr (texts .ptr .0) (texts .ptr .1)) ∷ holds (v texts) ∷ holds (vptr (references .ptr .0) (references .ptr .1)) ∷ holds (v references) ∷ holds (vptr (comments .ptr .0) (comments .ptr .1)) ∷ holds (v comments) ∷ vacant ∷ vacant ∷ vacant ∷ vacant ∷ vacant ∷ vacant ∷ vacant ∷ vacant ∷ []
 
             part-11 : Sq W (‵ (fat fullShare (tyArray Feature-has.mir 8192) l₁₁ 0 (many-val array-read)) ∷ ‵ (flft κ₀ q₀) ∷ ‵ (flft κ₁ q₁) ∷ ‵ (flft κ₂ q₂) ∷ ‵ (flft κ₃ q₃) ∷ ‵ (flft κ₄ q₄) ∷ ‵ (flft κ₅ q₅) ∷ ‵ (flft κ₆ q₆) ∷ ‵ (flft κ₇ q₇) ∷ ‵ (texts-own texts-read) ∷ ‵ (references-own references-read) ∷ ‵ (comments-own comments-read) ∷ ‵
-                (qualifiers-own qualifiers-read) ∷ ‵ (locations-own locations-read) ∷ ‵ (letters-own letters-read) ∷ ‵ (out-own (out .now)) ∷ standing part-11-holds) (runs C Λ E body.t-28 (atRet E Post))
+                (qualifiers-own qualifiers-read) ∷ ‵ (locations-own locations-read) ∷ ‵ (letters-own letters-read) ∷ ‵ (out-own (out .now)) ∷ standing part-11-holds) (runs C Λ E body.t-29 (atRet E Post))
             part-11 =
-                assigns ! (addr ! (from ! (stop !))) (from ! (stop !)) (init ! 54 refl (tt, tt)) $
-                assigns ! (agg ! (and-then ! (load ! (from ! (stop !)) (look ! 54 refl)) (and-then ! (big-lit ! (record { fits = lit< tt })) (no-more !)))) (from ! (stop !)) (init ! 55 refl (tt, (tt, (record { fits = lit< tt }, tt)))) $
-                assigns ! (addr ! (from ! (fld ! refl (hop ! (look-in ! 22 (sub ! 0 refl (whole !))) (stop !))))) (from ! (stop !)) (init ! 56 refl (tt, tt)) $
-                assigns ! (agg ! (and-then ! (load ! (from ! (stop !)) (look ! 56 refl)) (and-then ! (load ! (from ! (fld ! refl (stop !))) (look-in ! 22 (sub ! 1 refl (whole !)))) (no-more !)))) (from ! (stop !)) (init ! 57 refl (tt, (tt, (record { fits = qualifiers-room .0 }, tt)))) $
+                assigns ! (addr ! (from ! (stop !))) (from ! (stop !)) (init ! 55 refl (tt, tt)) $
+                assigns ! (agg ! (and-then ! (load ! (from ! (stop !)) (look ! 55 refl)) (and-then ! (big-lit ! (record { fits = lit< tt })) (no-more !)))) (from ! (stop !)) (init ! 56 refl (tt, (tt, (record { fits = lit< tt }, tt)))) $
+                assigns ! (addr ! (from ! (fld ! refl (hop ! (look-in ! 22 (sub ! 0 refl (whole !))) (stop !))))) (from ! (stop !)) (init ! 57 refl (tt, tt)) $
+                assigns ! (agg ! (and-then ! (load ! (from ! (stop !)) (look ! 57 refl)) (and-then ! (load ! (from ! (fld ! refl (stop !))) (look-in ! 22 (sub ! 1 refl (whole !)))) (no-more !)))) (from ! (stop !)) (init ! 58 refl (tt, (tt, (record { fits = qualifiers-room .0 }, tt)))) $
                 part-12
 
             abbrev part-10-holds : List Cell
-            part-10-holds = vacant ∷ holds (v s) ∷ holds (vint w64 at′) ∷ holds (v texts) ∷ holds (v references) ∷ holds (v comments) ∷ holds (v qualifiers) ∷ holds (v locations) ∷ holds (v letters) ∷ holds (v out) ∷ holds (How-val how) ∷ away ∷ holds (ReadAnswer-val r-read) ∷ holds (Head-val r-head-of) ∷ holds (How-val r-how-after) ∷ vacant ∷
-                holds (many-val r-no-rows) ∷ holds (vptr (texts .ptr .0) (texts .ptr .1)) ∷ holds (v texts) ∷ holds (vptr (references .ptr .0) (references .ptr .1)) ∷ holds (v references) ∷ holds (vptr (comments .ptr .0) (comments .ptr .1)) ∷ holds (v comments) ∷ holds (vptr l₁₁ 0) ∷ holds (sliceVal (l₁₁, 0) 8192) ∷ holds
-                (vptr (qualifiers .ptr .0) (qualifiers .ptr .1)) ∷ holds (v qualifiers) ∷ holds (vptr (locations .ptr .0) (locations .ptr .1)) ∷ holds (v locations) ∷ holds (vptr (letters .ptr .0) (letters .ptr .1)) ∷ holds (v letters) ∷ holds (vptr (out .ptr .0) (out .ptr .1)) ∷ holds (v out) ∷ holds (vptr (texts .ptr .0) (texts .ptr .1)) ∷
-                holds (v texts) ∷ vacant ∷ vacant ∷ vacant ∷ vacant ∷ vacant ∷ vacant ∷ vacant ∷ vacant ∷ vacant ∷ vacant ∷ vacant ∷ vacant ∷ []
+            part-10-holds = vacant ∷ holds (v s) ∷ holds (vint w64 at′) ∷ holds (v texts) ∷ holds (v references) ∷ holds (v comments) ∷ holds (v qualifiers) ∷ holds (v locations) ∷ holds (v letters) ∷ holds (v out) ∷ holds (How-val how) ∷ away ∷ holds (Reported-val r-read) ∷ holds (ReadAnswer-val (r-read .answer)) ∷ holds (Head-val r-head-of) ∷
+                holds (How-val r-how-after) ∷ vacant ∷ holds (many-val r-no-rows) ∷ holds (vptr (texts .ptr .0) (texts .ptr .1)) ∷ holds (v texts) ∷ holds (vptr (references .ptr .0) (references .ptr .1)) ∷ holds (v references) ∷ holds (vptr (comments .ptr .0) (comments .ptr .1)) ∷ holds (v comments) ∷ holds (vptr l₁₁ 0) ∷ holds
+                (sliceVal (l₁₁, 0) 8192) ∷ holds (vptr (qualifiers .ptr .0) (qualifiers .ptr .1)) ∷ holds (v qualifiers) ∷ holds (vptr (locations .ptr .0) (locations .ptr .1)) ∷ holds (v locations) ∷ holds (vptr (letters .ptr .0) (letters .ptr .1)) ∷ holds (v letters) ∷ holds (vptr (out .ptr .0) (out .ptr .1)) ∷ holds (v out) ∷ holds
+                (vptr (texts .ptr .0) (texts .ptr .1)) ∷ holds (v texts) ∷ vacant ∷ vacant ∷ vacant ∷ vacant ∷ vacant ∷ vacant ∷ vacant ∷ vacant ∷ vacant ∷ vacant ∷ vacant ∷ vacant ∷ []
 
             part-10 : Sq W (‵ (fat fullShare (tyArray Feature-has.mir 8192) l₁₁ 0 (many-val array-read)) ∷ ‵ (flft κ₀ q₀) ∷ ‵ (flft κ₁ q₁) ∷ ‵ (flft κ₂ q₂) ∷ ‵ (flft κ₃ q₃) ∷ ‵ (flft κ₄ q₄) ∷ ‵ (flft κ₅ q₅) ∷ ‵ (flft κ₆ q₆) ∷ ‵ (flft κ₇ q₇) ∷ ‵ (texts-own texts-read) ∷ ‵ (references-own references-read) ∷ ‵ (comments-own comments-read) ∷ ‵
-                (qualifiers-own qualifiers-read) ∷ ‵ (locations-own locations-read) ∷ ‵ (letters-own letters-read) ∷ ‵ (out-own (out .now)) ∷ standing part-10-holds) (runs C Λ E body.t-24 (atRet E Post))
+                (qualifiers-own qualifiers-read) ∷ ‵ (locations-own locations-read) ∷ ‵ (letters-own letters-read) ∷ ‵ (out-own (out .now)) ∷ standing part-10-holds) (runs C Λ E body.t-25 (atRet E Post))
             part-10 =
-                assigns ! (addr ! (from ! (fld ! refl (hop ! (look-in ! 20 (sub ! 0 refl (whole !))) (stop !))))) (from ! (stop !)) (init ! 50 refl (tt, tt)) $
-                assigns ! (agg ! (and-then ! (load ! (from ! (stop !)) (look ! 50 refl)) (and-then ! (load ! (from ! (fld ! refl (stop !))) (look-in ! 20 (sub ! 1 refl (whole !)))) (no-more !)))) (from ! (stop !)) (init ! 51 refl (tt, (tt, (record { fits = references-room .0 }, tt)))) $
-                assigns ! (addr ! (from ! (fld ! refl (hop ! (look-in ! 21 (sub ! 0 refl (whole !))) (stop !))))) (from ! (stop !)) (init ! 52 refl (tt, tt)) $
-                assigns ! (agg ! (and-then ! (load ! (from ! (stop !)) (look ! 52 refl)) (and-then ! (load ! (from ! (fld ! refl (stop !))) (look-in ! 21 (sub ! 1 refl (whole !)))) (no-more !)))) (from ! (stop !)) (init ! 53 refl (tt, (tt, (record { fits = comments-room .0 }, tt)))) $
+                assigns ! (addr ! (from ! (fld ! refl (hop ! (look-in ! 20 (sub ! 0 refl (whole !))) (stop !))))) (from ! (stop !)) (init ! 51 refl (tt, tt)) $
+                assigns ! (agg ! (and-then ! (load ! (from ! (stop !)) (look ! 51 refl)) (and-then ! (load ! (from ! (fld ! refl (stop !))) (look-in ! 20 (sub ! 1 refl (whole !)))) (no-more !)))) (from ! (stop !)) (init ! 52 refl (tt, (tt, (record { fits = references-room .0 }, tt)))) $
+                assigns ! (addr ! (from ! (fld ! refl (hop ! (look-in ! 21 (sub ! 0 refl (whole !))) (stop !))))) (from ! (stop !)) (init ! 53 refl (tt, tt)) $
+                assigns ! (agg ! (and-then ! (load ! (from ! (stop !)) (look ! 53 refl)) (and-then ! (load ! (from ! (fld ! refl (stop !))) (look-in ! 21 (sub ! 1 refl (whole !)))) (no-more !)))) (from ! (stop !)) (init ! 54 refl (tt, (tt, (record { fits = comments-room .0 }, tt)))) $
                 part-11
 
             abbrev part-9-holds : List Cell
-            part-9-holds = vacant ∷ holds (v s) ∷ holds (vint w64 at′) ∷ holds (v texts) ∷ holds (v references) ∷ holds (v comments) ∷ holds (v qualifiers) ∷ holds (v locations) ∷ holds (v letters) ∷ holds (v out) ∷ holds (How-val how) ∷ away ∷ holds (ReadAnswer-val r-read) ∷ holds (Head-val r-head-of) ∷ holds (How-val r-how-after) ∷ vacant ∷ holds
-                (many-val r-no-rows) ∷ holds (vptr (texts .ptr .0) (texts .ptr .1)) ∷ holds (v texts) ∷ holds (vptr (references .ptr .0) (references .ptr .1)) ∷ holds (v references) ∷ holds (vptr (comments .ptr .0) (comments .ptr .1)) ∷ holds (v comments) ∷ holds (vptr l₁₁ 0) ∷ holds (sliceVal (l₁₁, 0) 8192) ∷ holds
-                (vptr (qualifiers .ptr .0) (qualifiers .ptr .1)) ∷ holds (v qualifiers) ∷ holds (vptr (locations .ptr .0) (locations .ptr .1)) ∷ holds (v locations) ∷ holds (vptr (letters .ptr .0) (letters .ptr .1)) ∷ holds (v letters) ∷ vacant ∷ vacant ∷ vacant ∷ vacant ∷ vacant ∷ vacant ∷ vacant ∷ vacant ∷ vacant ∷ vacant ∷ vacant ∷ vacant ∷
-                vacant ∷ vacant ∷ vacant ∷ vacant ∷ []
+            part-9-holds = vacant ∷ holds (v s) ∷ holds (vint w64 at′) ∷ holds (v texts) ∷ holds (v references) ∷ holds (v comments) ∷ holds (v qualifiers) ∷ holds (v locations) ∷ holds (v letters) ∷ holds (v out) ∷ holds (How-val how) ∷ away ∷ holds (Reported-val r-read) ∷ holds (ReadAnswer-val (r-read .answer)) ∷ holds (Head-val r-head-of) ∷
+                holds (How-val r-how-after) ∷ vacant ∷ holds (many-val r-no-rows) ∷ holds (vptr (texts .ptr .0) (texts .ptr .1)) ∷ holds (v texts) ∷ holds (vptr (references .ptr .0) (references .ptr .1)) ∷ holds (v references) ∷ holds (vptr (comments .ptr .0) (comments .ptr .1)) ∷ holds (v comments) ∷ holds (vptr l₁₁ 0) ∷ holds
+                (sliceVal (l₁₁, 0) 8192) ∷ holds (vptr (qualifiers .ptr .0) (qualifiers .ptr .1)) ∷ holds (v qualifiers) ∷ holds (vptr (locations .ptr .0) (locations .ptr .1)) ∷ holds (v locations) ∷ holds (vptr (letters .ptr .0) (letters .ptr .1)) ∷ holds (v letters) ∷ vacant ∷ vacant ∷ vacant ∷ vacant ∷ vacant ∷ vacant ∷ vacant ∷ vacant ∷
+                vacant ∷ vacant ∷ vacant ∷ vacant ∷ vacant ∷ vacant ∷ vacant ∷ vacant ∷ []
 
             part-9 : Sq W (‵ (fat fullShare (tyArray Feature-has.mir 8192) l₁₁ 0 (many-val array-read)) ∷ ‵ (flft κ₀ q₀) ∷ ‵ (flft κ₁ q₁) ∷ ‵ (flft κ₂ q₂) ∷ ‵ (flft κ₃ q₃) ∷ ‵ (flft κ₄ q₄) ∷ ‵ (flft κ₅ q₅) ∷ ‵ (flft κ₆ q₆) ∷ ‵ (flft κ₇ q₇) ∷ ‵ (texts-own texts-read) ∷ ‵ (references-own references-read) ∷ ‵ (comments-own comments-read) ∷ ‵
-                (qualifiers-own qualifiers-read) ∷ ‵ (locations-own locations-read) ∷ ‵ (letters-own letters-read) ∷ ‵ (out-own (out .now)) ∷ standing part-9-holds) (runs C Λ E body.t-20 (atRet E Post))
+                (qualifiers-own qualifiers-read) ∷ ‵ (locations-own locations-read) ∷ ‵ (letters-own letters-read) ∷ ‵ (out-own (out .now)) ∷ standing part-9-holds) (runs C Λ E body.t-21 (atRet E Post))
             part-9 =
-                assigns ! (addr ! (from ! (fld ! refl (hop ! (look-in ! 25 (sub ! 0 refl (whole !))) (stop !))))) (from ! (stop !)) (init ! 46 refl (tt, tt)) $
-                assigns ! (agg ! (and-then ! (load ! (from ! (stop !)) (look ! 46 refl)) (and-then ! (load ! (from ! (fld ! refl (stop !))) (look-in ! 25 (sub ! 1 refl (whole !)))) (no-more !)))) (from ! (stop !)) (init ! 47 refl (tt, (tt, (record { fits = out-room .0 }, tt)))) $
-                assigns ! (addr ! (from ! (fld ! refl (hop ! (look-in ! 19 (sub ! 0 refl (whole !))) (stop !))))) (from ! (stop !)) (init ! 48 refl (tt, tt)) $
-                assigns ! (agg ! (and-then ! (load ! (from ! (stop !)) (look ! 48 refl)) (and-then ! (load ! (from ! (fld ! refl (stop !))) (look-in ! 19 (sub ! 1 refl (whole !)))) (no-more !)))) (from ! (stop !)) (init ! 49 refl (tt, (tt, (record { fits = texts-room .0 }, tt)))) $
+                assigns ! (addr ! (from ! (fld ! refl (hop ! (look-in ! 25 (sub ! 0 refl (whole !))) (stop !))))) (from ! (stop !)) (init ! 47 refl (tt, tt)) $
+                assigns ! (agg ! (and-then ! (load ! (from ! (stop !)) (look ! 47 refl)) (and-then ! (load ! (from ! (fld ! refl (stop !))) (look-in ! 25 (sub ! 1 refl (whole !)))) (no-more !)))) (from ! (stop !)) (init ! 48 refl (tt, (tt, (record { fits = out-room .0 }, tt)))) $
+                assigns ! (addr ! (from ! (fld ! refl (hop ! (look-in ! 19 (sub ! 0 refl (whole !))) (stop !))))) (from ! (stop !)) (init ! 49 refl (tt, tt)) $
+                assigns ! (agg ! (and-then ! (load ! (from ! (stop !)) (look ! 49 refl)) (and-then ! (load ! (from ! (fld ! refl (stop !))) (look-in ! 19 (sub ! 1 refl (whole !)))) (no-more !)))) (from ! (stop !)) (init ! 50 refl (tt, (tt, (record { fits = texts-room .0 }, tt)))) $
                 part-10
 
           abbrev part-8-holds : List Cell
-          part-8-holds = vacant ∷ holds (v s) ∷ holds (vint w64 at′) ∷ holds (v texts) ∷ holds (v references) ∷ holds (v comments) ∷ holds (v qualifiers) ∷ holds (v locations) ∷ holds (v letters) ∷ holds (v out) ∷ holds (How-val how) ∷ away ∷ holds (ReadAnswer-val r-read) ∷ holds (Head-val r-head-of) ∷ vacant ∷ vacant ∷ holds (many-val r-no-rows) ∷
-              holds (vptr (texts .ptr .0) (texts .ptr .1)) ∷ holds (v texts) ∷ holds (vptr (references .ptr .0) (references .ptr .1)) ∷ holds (v references) ∷ holds (vptr (comments .ptr .0) (comments .ptr .1)) ∷ holds (v comments) ∷ holds (vptr l₁₁ 0) ∷ holds (sliceVal (l₁₁, 0) 8192) ∷ holds (vptr (qualifiers .ptr .0) (qualifiers .ptr .1)) ∷ holds
-              (v qualifiers) ∷ holds (vptr (locations .ptr .0) (locations .ptr .1)) ∷ holds (v locations) ∷ holds (vptr (letters .ptr .0) (letters .ptr .1)) ∷ holds (v letters) ∷ vacant ∷ vacant ∷ vacant ∷ vacant ∷ vacant ∷ vacant ∷ vacant ∷ vacant ∷ vacant ∷ vacant ∷ vacant ∷ vacant ∷ vacant ∷ vacant ∷ vacant ∷ vacant ∷ []
+          part-8-holds = vacant ∷ holds (v s) ∷ holds (vint w64 at′) ∷ holds (v texts) ∷ holds (v references) ∷ holds (v comments) ∷ holds (v qualifiers) ∷ holds (v locations) ∷ holds (v letters) ∷ holds (v out) ∷ holds (How-val how) ∷ away ∷ holds (Reported-val r-read) ∷ holds (ReadAnswer-val (r-read .answer)) ∷ holds (Head-val r-head-of) ∷ vacant
+              ∷ vacant ∷ holds (many-val r-no-rows) ∷ holds (vptr (texts .ptr .0) (texts .ptr .1)) ∷ holds (v texts) ∷ holds (vptr (references .ptr .0) (references .ptr .1)) ∷ holds (v references) ∷ holds (vptr (comments .ptr .0) (comments .ptr .1)) ∷ holds (v comments) ∷ holds (vptr l₁₁ 0) ∷ holds (sliceVal (l₁₁, 0) 8192) ∷ holds
+              (vptr (qualifiers .ptr .0) (qualifiers .ptr .1)) ∷ holds (v qualifiers) ∷ holds (vptr (locations .ptr .0) (locations .ptr .1)) ∷ holds (v locations) ∷ holds (vptr (letters .ptr .0) (letters .ptr .1)) ∷ holds (v letters) ∷ vacant ∷ vacant ∷ vacant ∷ vacant ∷ vacant ∷ vacant ∷ vacant ∷ vacant ∷ vacant ∷ vacant ∷ vacant ∷ vacant ∷
+              vacant ∷ vacant ∷ vacant ∷ vacant ∷ []
 
           part-8 : Sq W (‵ (fat fullShare (tyArray Feature-has.mir 8192) l₁₁ 0 (many-val array-read)) ∷ ‵ (flft κ₀ q₀) ∷ ‵ (flft κ₁ q₁) ∷ ‵ (flft κ₂ q₂) ∷ ‵ (flft κ₃ q₃) ∷ ‵ (flft κ₄ q₄) ∷ ‵ (flft κ₅ q₅) ∷ ‵ (flft κ₆ q₆) ∷ ‵ (flft κ₇ q₇) ∷ ‵ (texts-own texts-read) ∷ ‵ (references-own references-read) ∷ ‵ (comments-own comments-read) ∷ ‵
-              (qualifiers-own qualifiers-read) ∷ ‵ (locations-own locations-read) ∷ ‵ (letters-own letters-read) ∷ ‵ (out-own (out .now)) ∷ standing part-8-holds) (runs C Λ E body.t-19 (atRet E Post))
+              (qualifiers-own qualifiers-read) ∷ ‵ (locations-own locations-read) ∷ ‵ (letters-own letters-read) ∷ ‵ (out-own (out .now)) ∷ standing part-8-holds) (runs C Λ E body.t-20 (atRet E Post))
           part-8 =
               lends-how-after ! tt (
-              calls-at ! fm (how-after-contract 𝓤 H A mem run) known-how-after to-how-after (and-then ! (load ! (from ! (stop !)) (look ! 28 refl)) (and-then ! (load ! (from ! (stop !)) (look ! 27 refl)) (no-more !)))
+              calls-at ! fm (how-after-contract 𝓤 H A mem run) known-how-after to-how-after (and-then ! (load ! (from ! (stop !)) (look ! 29 refl)) (and-then ! (load ! (from ! (stop !)) (look ! 27 refl)) (no-more !)))
               (back-how-after ! (λ r-how-after r-how-after-is said-how-after.
-              land ! (from ! (stop !)) (init ! 29 refl (LL.lawful How-is.the-type How-has.the-laws 𝓤 H A W .typed r-how-after ((How-val r-how-after) ∷ []) r-how-after-is .0)) $
+              land ! (from ! (stop !)) (init ! 30 refl (LL.lawful How-is.the-type How-has.the-laws 𝓤 H A W .typed r-how-after ((How-val r-how-after) ∷ []) r-how-after-is .0)) $
               part-9 r-how-after r-how-after-is said-how-after)))
 
         abbrev part-7-holds : List Cell
-        part-7-holds = vacant ∷ holds (v s) ∷ holds (vint w64 at′) ∷ holds (v texts) ∷ holds (v references) ∷ holds (v comments) ∷ holds (v qualifiers) ∷ holds (v locations) ∷ holds (v letters) ∷ holds (v out) ∷ holds (How-val how) ∷ away ∷ holds (ReadAnswer-val r-read) ∷ vacant ∷ vacant ∷ vacant ∷ holds (many-val r-no-rows) ∷ holds
+        part-7-holds = vacant ∷ holds (v s) ∷ holds (vint w64 at′) ∷ holds (v texts) ∷ holds (v references) ∷ holds (v comments) ∷ holds (v qualifiers) ∷ holds (v locations) ∷ holds (v letters) ∷ holds (v out) ∷ holds (How-val how) ∷ away ∷ holds (Reported-val r-read) ∷ vacant ∷ vacant ∷ vacant ∷ vacant ∷ holds (many-val r-no-rows) ∷ holds
             (vptr (texts .ptr .0) (texts .ptr .1)) ∷ holds (v texts) ∷ holds (vptr (references .ptr .0) (references .ptr .1)) ∷ holds (v references) ∷ holds (vptr (comments .ptr .0) (comments .ptr .1)) ∷ holds (v comments) ∷ holds (vptr l₁₁ 0) ∷ holds (sliceVal (l₁₁, 0) 8192) ∷ holds (vptr (qualifiers .ptr .0) (qualifiers .ptr .1)) ∷ holds
             (v qualifiers) ∷ holds (vptr (locations .ptr .0) (locations .ptr .1)) ∷ holds (v locations) ∷ holds (vptr (letters .ptr .0) (letters .ptr .1)) ∷ holds (v letters) ∷ vacant ∷ vacant ∷ vacant ∷ vacant ∷ vacant ∷ vacant ∷ vacant ∷ vacant ∷ vacant ∷ vacant ∷ vacant ∷ vacant ∷ vacant ∷ vacant ∷ vacant ∷ vacant ∷ []
 
         part-7 : Sq W (‵ (fat fullShare (tyArray Feature-has.mir 8192) l₁₁ 0 (many-val array-read)) ∷ ‵ (flft κ₀ q₀) ∷ ‵ (flft κ₁ q₁) ∷ ‵ (flft κ₂ q₂) ∷ ‵ (flft κ₃ q₃) ∷ ‵ (flft κ₄ q₄) ∷ ‵ (flft κ₅ q₅) ∷ ‵ (flft κ₆ q₆) ∷ ‵ (flft κ₇ q₇) ∷ ‵ (texts-own texts-read) ∷ ‵ (references-own references-read) ∷ ‵ (comments-own comments-read) ∷ ‵
             (qualifiers-own qualifiers-read) ∷ ‵ (locations-own locations-read) ∷ ‵ (letters-own letters-read) ∷ ‵ (out-own (out .now)) ∷ standing part-7-holds) (runs C Λ E body.t-18 (atRet E Post))
         part-7 =
+            assigns ! (of-opd ! (load ! (from ! (fld ! refl (stop !))) (look-in ! 27 (sub ! 0 refl (whole !))))) (from ! (stop !))
+            (init ! 28 refl (EL.lawful ReadAnswer-is.the-type ReadAnswer-has.the-laws 𝓤 H A W tt .typed (r-read .answer) ((ReadAnswer-val (r-read .answer)) ∷ []) (LL.owed Reported-is.the-type Reported-has.the-laws r-read _ r-read-is .0) .0)) $
             lends-head-of ! tt (
-            calls-at ! fm (head-of-contract 𝓤 H A mem run) known-head-of to-head-of (and-then ! (load ! (from ! (stop !)) (look ! 28 refl)) (no-more !))
+            calls-at ! fm (head-of-contract 𝓤 H A mem run) known-head-of to-head-of (and-then ! (load ! (from ! (stop !)) (look ! 29 refl)) (no-more !))
             (back-head-of ! (λ r-head-of r-head-of-is said-head-of.
-            land ! (from ! (stop !)) (init ! 28 refl (LL.lawful Head-is.the-type Head-has.the-laws 𝓤 H A W .typed r-head-of ((Head-val r-head-of) ∷ []) r-head-of-is .0)) $
+            land ! (from ! (stop !)) (init ! 29 refl (LL.lawful Head-is.the-type Head-has.the-laws 𝓤 H A W .typed r-head-of ((Head-val r-head-of) ∷ []) r-head-of-is .0)) $
             part-8 r-head-of r-head-of-is said-head-of)))
 
       abbrev part-6-holds : List Cell
-      part-6-holds = vacant ∷ holds (v s) ∷ holds (vint w64 at′) ∷ holds (v texts) ∷ holds (v references) ∷ holds (v comments) ∷ holds (v qualifiers) ∷ holds (v locations) ∷ holds (v letters) ∷ holds (v out) ∷ holds (How-val how) ∷ holds (many-val r-no-rows) ∷ vacant ∷ vacant ∷ vacant ∷ vacant ∷ holds (many-val r-no-rows) ∷ holds
+      part-6-holds = vacant ∷ holds (v s) ∷ holds (vint w64 at′) ∷ holds (v texts) ∷ holds (v references) ∷ holds (v comments) ∷ holds (v qualifiers) ∷ holds (v locations) ∷ holds (v letters) ∷ holds (v out) ∷ holds (How-val how) ∷ holds (many-val r-no-rows) ∷ vacant ∷ vacant ∷ vacant ∷ vacant ∷ vacant ∷ holds (many-val r-no-rows) ∷ holds
           (vptr (texts .ptr .0) (texts .ptr .1)) ∷ holds (v texts) ∷ holds (vptr (references .ptr .0) (references .ptr .1)) ∷ holds (v references) ∷ holds (vptr (comments .ptr .0) (comments .ptr .1)) ∷ holds (v comments) ∷ holds (vptr l₁₁ 0) ∷ holds (sliceVal (l₁₁, 0) 8192) ∷ holds (vptr (qualifiers .ptr .0) (qualifiers .ptr .1)) ∷ holds
           (v qualifiers) ∷ holds (vptr (locations .ptr .0) (locations .ptr .1)) ∷ holds (v locations) ∷ holds (vptr (letters .ptr .0) (letters .ptr .1)) ∷ holds (v letters) ∷ vacant ∷ vacant ∷ vacant ∷ vacant ∷ vacant ∷ vacant ∷ vacant ∷ vacant ∷ vacant ∷ vacant ∷ vacant ∷ vacant ∷ vacant ∷ vacant ∷ vacant ∷ vacant ∷ []
 
@@ -848,71 +857,71 @@ module _ {M : Type 1} (𝓤 : URA M) (H : Heap 𝓤) (A : Atoms 𝓤) (W : Given
           calls-at ! fm (read-contract 𝓤 H A mem run) known-read (to-read k-texts k-references k-comments full-array k-array k-qualifiers k-locations k-letters)
           (and-then ! (load ! (from ! (stop !)) (look ! 11 refl))
           (and-then ! (load ! (from ! (stop !)) (look ! 12 refl))
-          (and-then ! (load ! (from ! (stop !)) (look ! 27 refl))
-          (and-then ! (load ! (from ! (stop !)) (look ! 29 refl))
-          (and-then ! (load ! (from ! (stop !)) (look ! 31 refl)) (and-then ! (load ! (from ! (stop !)) (look ! 33 refl)) (and-then ! (load ! (from ! (stop !)) (look ! 35 refl)) (and-then ! (load ! (from ! (stop !)) (look ! 37 refl)) (and-then ! (load ! (from ! (stop !)) (look ! 39 refl)) (no-more !))))))))))
+          (and-then ! (load ! (from ! (stop !)) (look ! 28 refl))
+          (and-then ! (load ! (from ! (stop !)) (look ! 30 refl))
+          (and-then ! (load ! (from ! (stop !)) (look ! 32 refl)) (and-then ! (load ! (from ! (stop !)) (look ! 34 refl)) (and-then ! (load ! (from ! (stop !)) (look ! 36 refl)) (and-then ! (load ! (from ! (stop !)) (look ! 38 refl)) (and-then ! (load ! (from ! (stop !)) (look ! 40 refl)) (no-more !))))))))))
           (back-read ! k-texts k-references k-comments full-array k-array k-qualifiers k-locations k-letters
           (λ r-read r-read-is texts-read references-read comments-read array-read qualifiers-read locations-read letters-read texts-read-long references-read-long comments-read-long array-read-is qualifiers-read-long locations-read-long letters-read-long said-read.
-          land ! (from ! (stop !)) (init ! 27 refl (EL.lawful ReadAnswer-is.the-type ReadAnswer-has.the-laws 𝓤 H A W tt .typed r-read ((ReadAnswer-val r-read) ∷ []) r-read-is .0)) $
+          land ! (from ! (stop !)) (init ! 27 refl (LL.lawful Reported-is.the-type Reported-has.the-laws 𝓤 H A W .typed r-read ((Reported-val r-read) ∷ []) r-read-is .0)) $
           part-7 r-read r-read-is texts-read references-read comments-read array-read qualifiers-read locations-read letters-read texts-read-long references-read-long comments-read-long array-read-is qualifiers-read-long locations-read-long letters-read-long said-read)))
 
       abbrev part-5-holds : List Cell
-      part-5-holds = vacant ∷ holds (v s) ∷ holds (vint w64 at′) ∷ holds (v texts) ∷ holds (v references) ∷ holds (v comments) ∷ holds (v qualifiers) ∷ holds (v locations) ∷ holds (v letters) ∷ holds (v out) ∷ holds (How-val how) ∷ holds (many-val r-no-rows) ∷ vacant ∷ vacant ∷ vacant ∷ vacant ∷ holds (many-val r-no-rows) ∷ holds
+      part-5-holds = vacant ∷ holds (v s) ∷ holds (vint w64 at′) ∷ holds (v texts) ∷ holds (v references) ∷ holds (v comments) ∷ holds (v qualifiers) ∷ holds (v locations) ∷ holds (v letters) ∷ holds (v out) ∷ holds (How-val how) ∷ holds (many-val r-no-rows) ∷ vacant ∷ vacant ∷ vacant ∷ vacant ∷ vacant ∷ holds (many-val r-no-rows) ∷ holds
           (vptr (texts .ptr .0) (texts .ptr .1)) ∷ holds (v texts) ∷ holds (vptr (references .ptr .0) (references .ptr .1)) ∷ holds (v references) ∷ holds (vptr (comments .ptr .0) (comments .ptr .1)) ∷ holds (v comments) ∷ holds (vptr l₁₁ 0) ∷ holds (sliceVal (l₁₁, 0) 8192) ∷ holds (vptr (qualifiers .ptr .0) (qualifiers .ptr .1)) ∷ holds
           (v qualifiers) ∷ holds (vptr (locations .ptr .0) (locations .ptr .1)) ∷ vacant ∷ vacant ∷ vacant ∷ vacant ∷ vacant ∷ vacant ∷ vacant ∷ vacant ∷ vacant ∷ vacant ∷ vacant ∷ vacant ∷ vacant ∷ vacant ∷ vacant ∷ vacant ∷ vacant ∷ vacant ∷ vacant ∷ []
 
       part-5 : Sq W (‵ (flft κ₀ q₀) ∷ ‵ (flft κ₁ q₁) ∷ ‵ (flft κ₂ q₂) ∷ ‵ (flft κ₃ q₃) ∷ ‵ (flft κ₄ q₄) ∷ ‵ (flft κ₅ q₅) ∷ ‵ (flft κ₆ q₆) ∷ ‵ (flft κ₇ q₇) ∷ ‵ s-own ∷ ‵ (texts-own (texts .now)) ∷ ‵ (references-own (references .now)) ∷ ‵ (comments-own (comments .now)) ∷ ‵ (qualifiers-own (qualifiers .now)) ∷ ‵ (locations-own (locations .now)) ∷ ‵
           (letters-own (letters .now)) ∷ ‵ (out-own (out .now)) ∷ standing part-5-holds) (runs C Λ E body.t-14 (atRet E Post))
       part-5 =
-          assigns ! (agg ! (and-then ! (load ! (from ! (stop !)) (look ! 43 refl)) (and-then ! (load ! (from ! (fld ! refl (stop !))) (look-in ! 23 (sub ! 1 refl (whole !)))) (no-more !)))) (from ! (stop !)) (init ! 44 refl (tt, (tt, (record { fits = locations-room .0 }, tt)))) $
-          assigns ! (addr ! (from ! (fld ! refl (hop ! (look-in ! 24 (sub ! 0 refl (whole !))) (stop !))))) (from ! (stop !)) (init ! 45 refl (tt, tt)) $
-          assigns ! (agg ! (and-then ! (load ! (from ! (stop !)) (look ! 45 refl)) (and-then ! (load ! (from ! (fld ! refl (stop !))) (look-in ! 24 (sub ! 1 refl (whole !)))) (no-more !)))) (from ! (stop !)) (init ! 46 refl (tt, (tt, (record { fits = letters-room .0 }, tt)))) $
+          assigns ! (agg ! (and-then ! (load ! (from ! (stop !)) (look ! 44 refl)) (and-then ! (load ! (from ! (fld ! refl (stop !))) (look-in ! 23 (sub ! 1 refl (whole !)))) (no-more !)))) (from ! (stop !)) (init ! 45 refl (tt, (tt, (record { fits = locations-room .0 }, tt)))) $
+          assigns ! (addr ! (from ! (fld ! refl (hop ! (look-in ! 24 (sub ! 0 refl (whole !))) (stop !))))) (from ! (stop !)) (init ! 46 refl (tt, tt)) $
+          assigns ! (agg ! (and-then ! (load ! (from ! (stop !)) (look ! 46 refl)) (and-then ! (load ! (from ! (fld ! refl (stop !))) (look-in ! 24 (sub ! 1 refl (whole !)))) (no-more !)))) (from ! (stop !)) (init ! 47 refl (tt, (tt, (record { fits = letters-room .0 }, tt)))) $
           part-6
 
       abbrev part-4-holds : List Cell
-      part-4-holds = vacant ∷ holds (v s) ∷ holds (vint w64 at′) ∷ holds (v texts) ∷ holds (v references) ∷ holds (v comments) ∷ holds (v qualifiers) ∷ holds (v locations) ∷ holds (v letters) ∷ holds (v out) ∷ holds (How-val how) ∷ holds (many-val r-no-rows) ∷ vacant ∷ vacant ∷ vacant ∷ vacant ∷ holds (many-val r-no-rows) ∷ holds
+      part-4-holds = vacant ∷ holds (v s) ∷ holds (vint w64 at′) ∷ holds (v texts) ∷ holds (v references) ∷ holds (v comments) ∷ holds (v qualifiers) ∷ holds (v locations) ∷ holds (v letters) ∷ holds (v out) ∷ holds (How-val how) ∷ holds (many-val r-no-rows) ∷ vacant ∷ vacant ∷ vacant ∷ vacant ∷ vacant ∷ holds (many-val r-no-rows) ∷ holds
           (vptr (texts .ptr .0) (texts .ptr .1)) ∷ holds (v texts) ∷ holds (vptr (references .ptr .0) (references .ptr .1)) ∷ holds (v references) ∷ holds (vptr (comments .ptr .0) (comments .ptr .1)) ∷ holds (v comments) ∷ holds (vptr l₁₁ 0) ∷ vacant ∷ vacant ∷ vacant ∷ vacant ∷ vacant ∷ vacant ∷ vacant ∷ vacant ∷ vacant ∷ vacant ∷ vacant ∷ vacant
           ∷ vacant ∷ vacant ∷ vacant ∷ vacant ∷ vacant ∷ vacant ∷ vacant ∷ vacant ∷ vacant ∷ vacant ∷ vacant ∷ []
 
       part-4 : Sq W (‵ (flft κ₀ q₀) ∷ ‵ (flft κ₁ q₁) ∷ ‵ (flft κ₂ q₂) ∷ ‵ (flft κ₃ q₃) ∷ ‵ (flft κ₄ q₄) ∷ ‵ (flft κ₅ q₅) ∷ ‵ (flft κ₆ q₆) ∷ ‵ (flft κ₇ q₇) ∷ ‵ s-own ∷ ‵ (texts-own (texts .now)) ∷ ‵ (references-own (references .now)) ∷ ‵ (comments-own (comments .now)) ∷ ‵ (qualifiers-own (qualifiers .now)) ∷ ‵ (locations-own (locations .now)) ∷ ‵
           (letters-own (letters .now)) ∷ ‵ (out-own (out .now)) ∷ standing part-4-holds) (runs C Λ E body.t-10 (atRet E Post))
       part-4 =
-          assigns ! (agg ! (and-then ! (load ! (from ! (stop !)) (look ! 39 refl)) (and-then ! (big-lit ! (record { fits = lit< tt })) (no-more !)))) (from ! (stop !)) (init ! 40 refl (tt, (tt, (record { fits = lit< tt }, tt)))) $
-          assigns ! (addr ! (from ! (fld ! refl (hop ! (look-in ! 22 (sub ! 0 refl (whole !))) (stop !))))) (from ! (stop !)) (init ! 41 refl (tt, tt)) $
-          assigns ! (agg ! (and-then ! (load ! (from ! (stop !)) (look ! 41 refl)) (and-then ! (load ! (from ! (fld ! refl (stop !))) (look-in ! 22 (sub ! 1 refl (whole !)))) (no-more !)))) (from ! (stop !)) (init ! 42 refl (tt, (tt, (record { fits = qualifiers-room .0 }, tt)))) $
-          assigns ! (addr ! (from ! (fld ! refl (hop ! (look-in ! 23 (sub ! 0 refl (whole !))) (stop !))))) (from ! (stop !)) (init ! 43 refl (tt, tt)) $
+          assigns ! (agg ! (and-then ! (load ! (from ! (stop !)) (look ! 40 refl)) (and-then ! (big-lit ! (record { fits = lit< tt })) (no-more !)))) (from ! (stop !)) (init ! 41 refl (tt, (tt, (record { fits = lit< tt }, tt)))) $
+          assigns ! (addr ! (from ! (fld ! refl (hop ! (look-in ! 22 (sub ! 0 refl (whole !))) (stop !))))) (from ! (stop !)) (init ! 42 refl (tt, tt)) $
+          assigns ! (agg ! (and-then ! (load ! (from ! (stop !)) (look ! 42 refl)) (and-then ! (load ! (from ! (fld ! refl (stop !))) (look-in ! 22 (sub ! 1 refl (whole !)))) (no-more !)))) (from ! (stop !)) (init ! 43 refl (tt, (tt, (record { fits = qualifiers-room .0 }, tt)))) $
+          assigns ! (addr ! (from ! (fld ! refl (hop ! (look-in ! 23 (sub ! 0 refl (whole !))) (stop !))))) (from ! (stop !)) (init ! 44 refl (tt, tt)) $
           part-5
 
       abbrev part-3-holds : List Cell
-      part-3-holds = vacant ∷ holds (v s) ∷ holds (vint w64 at′) ∷ holds (v texts) ∷ holds (v references) ∷ holds (v comments) ∷ holds (v qualifiers) ∷ holds (v locations) ∷ holds (v letters) ∷ holds (v out) ∷ holds (How-val how) ∷ holds (many-val r-no-rows) ∷ vacant ∷ vacant ∷ vacant ∷ vacant ∷ holds (many-val r-no-rows) ∷ holds
+      part-3-holds = vacant ∷ holds (v s) ∷ holds (vint w64 at′) ∷ holds (v texts) ∷ holds (v references) ∷ holds (v comments) ∷ holds (v qualifiers) ∷ holds (v locations) ∷ holds (v letters) ∷ holds (v out) ∷ holds (How-val how) ∷ holds (many-val r-no-rows) ∷ vacant ∷ vacant ∷ vacant ∷ vacant ∷ vacant ∷ holds (many-val r-no-rows) ∷ holds
           (vptr (texts .ptr .0) (texts .ptr .1)) ∷ holds (v texts) ∷ holds (vptr (references .ptr .0) (references .ptr .1)) ∷ vacant ∷ vacant ∷ vacant ∷ vacant ∷ vacant ∷ vacant ∷ vacant ∷ vacant ∷ vacant ∷ vacant ∷ vacant ∷ vacant ∷ vacant ∷ vacant ∷ vacant ∷ vacant ∷ vacant ∷ vacant ∷ vacant ∷ vacant ∷ vacant ∷ vacant ∷ vacant ∷ vacant ∷ vacant ∷
           vacant ∷ vacant ∷ []
 
       part-3 : Sq W (‵ (flft κ₀ q₀) ∷ ‵ (flft κ₁ q₁) ∷ ‵ (flft κ₂ q₂) ∷ ‵ (flft κ₃ q₃) ∷ ‵ (flft κ₄ q₄) ∷ ‵ (flft κ₅ q₅) ∷ ‵ (flft κ₆ q₆) ∷ ‵ (flft κ₇ q₇) ∷ ‵ s-own ∷ ‵ (texts-own (texts .now)) ∷ ‵ (references-own (references .now)) ∷ ‵ (comments-own (comments .now)) ∷ ‵ (qualifiers-own (qualifiers .now)) ∷ ‵ (locations-own (locations .now)) ∷ ‵
           (letters-own (letters .now)) ∷ ‵ (out-own (out .now)) ∷ standing part-3-holds) (runs C Λ E body.t-6 (atRet E Post))
       part-3 =
-          assigns ! (agg ! (and-then ! (load ! (from ! (stop !)) (look ! 35 refl)) (and-then ! (load ! (from ! (fld ! refl (stop !))) (look-in ! 20 (sub ! 1 refl (whole !)))) (no-more !)))) (from ! (stop !)) (init ! 36 refl (tt, (tt, (record { fits = references-room .0 }, tt)))) $
-          assigns ! (addr ! (from ! (fld ! refl (hop ! (look-in ! 21 (sub ! 0 refl (whole !))) (stop !))))) (from ! (stop !)) (init ! 37 refl (tt, tt)) $
-          assigns ! (agg ! (and-then ! (load ! (from ! (stop !)) (look ! 37 refl)) (and-then ! (load ! (from ! (fld ! refl (stop !))) (look-in ! 21 (sub ! 1 refl (whole !)))) (no-more !)))) (from ! (stop !)) (init ! 38 refl (tt, (tt, (record { fits = comments-room .0 }, tt)))) $
-          assigns ! (addr ! (from ! (stop !))) (from ! (stop !)) (init ! 39 refl (tt, tt)) $
+          assigns ! (agg ! (and-then ! (load ! (from ! (stop !)) (look ! 36 refl)) (and-then ! (load ! (from ! (fld ! refl (stop !))) (look-in ! 20 (sub ! 1 refl (whole !)))) (no-more !)))) (from ! (stop !)) (init ! 37 refl (tt, (tt, (record { fits = references-room .0 }, tt)))) $
+          assigns ! (addr ! (from ! (fld ! refl (hop ! (look-in ! 21 (sub ! 0 refl (whole !))) (stop !))))) (from ! (stop !)) (init ! 38 refl (tt, tt)) $
+          assigns ! (agg ! (and-then ! (load ! (from ! (stop !)) (look ! 38 refl)) (and-then ! (load ! (from ! (fld ! refl (stop !))) (look-in ! 21 (sub ! 1 refl (whole !)))) (no-more !)))) (from ! (stop !)) (init ! 39 refl (tt, (tt, (record { fits = comments-room .0 }, tt)))) $
+          assigns ! (addr ! (from ! (stop !))) (from ! (stop !)) (init ! 40 refl (tt, tt)) $
           part-4
 
       abbrev part-2-holds : List Cell
-      part-2-holds = vacant ∷ holds (v s) ∷ holds (vint w64 at′) ∷ holds (v texts) ∷ holds (v references) ∷ holds (v comments) ∷ holds (v qualifiers) ∷ holds (v locations) ∷ holds (v letters) ∷ holds (v out) ∷ holds (How-val how) ∷ vacant ∷ vacant ∷ vacant ∷ vacant ∷ vacant ∷ holds (many-val r-no-rows) ∷ vacant ∷ vacant ∷ vacant ∷ vacant ∷ vacant ∷
-          vacant ∷ vacant ∷ vacant ∷ vacant ∷ vacant ∷ vacant ∷ vacant ∷ vacant ∷ vacant ∷ vacant ∷ vacant ∷ vacant ∷ vacant ∷ vacant ∷ vacant ∷ vacant ∷ vacant ∷ vacant ∷ vacant ∷ vacant ∷ vacant ∷ vacant ∷ vacant ∷ vacant ∷ vacant ∷ []
+      part-2-holds = vacant ∷ holds (v s) ∷ holds (vint w64 at′) ∷ holds (v texts) ∷ holds (v references) ∷ holds (v comments) ∷ holds (v qualifiers) ∷ holds (v locations) ∷ holds (v letters) ∷ holds (v out) ∷ holds (How-val how) ∷ vacant ∷ vacant ∷ vacant ∷ vacant ∷ vacant ∷ vacant ∷ holds (many-val r-no-rows) ∷ vacant ∷ vacant ∷ vacant ∷ vacant ∷
+          vacant ∷ vacant ∷ vacant ∷ vacant ∷ vacant ∷ vacant ∷ vacant ∷ vacant ∷ vacant ∷ vacant ∷ vacant ∷ vacant ∷ vacant ∷ vacant ∷ vacant ∷ vacant ∷ vacant ∷ vacant ∷ vacant ∷ vacant ∷ vacant ∷ vacant ∷ vacant ∷ vacant ∷ vacant ∷ vacant ∷ []
 
       part-2 : Sq W (‵ (flft κ₀ q₀) ∷ ‵ (flft κ₁ q₁) ∷ ‵ (flft κ₂ q₂) ∷ ‵ (flft κ₃ q₃) ∷ ‵ (flft κ₄ q₄) ∷ ‵ (flft κ₅ q₅) ∷ ‵ (flft κ₆ q₆) ∷ ‵ (flft κ₇ q₇) ∷ ‵ s-own ∷ ‵ (texts-own (texts .now)) ∷ ‵ (references-own (references .now)) ∷ ‵ (comments-own (comments .now)) ∷ ‵ (qualifiers-own (qualifiers .now)) ∷ ‵ (locations-own (locations .now)) ∷ ‵
           (letters-own (letters .now)) ∷ ‵ (out-own (out .now)) ∷ standing part-2-holds) (runs C Λ E body.t-2 (atRet E Post))
       part-2 =
-          assigns ! (of-opd ! (load ! (from ! (stop !)) (look ! 32 refl))) (from ! (stop !)) (init ! 27 refl (array-lawful 𝓤 H A W Feature-is.the-row (LL.lawful Feature-is.the-type Feature-has.the-laws 𝓤 H A W) 8192 .typed r-no-rows (array-vals (LL.vals Feature-is.the-type Feature-has.the-laws) r-no-rows) r-no-rows-is .0)) $
-          assigns ! (addr ! (from ! (fld ! refl (hop ! (look-in ! 19 (sub ! 0 refl (whole !))) (stop !))))) (from ! (stop !)) (init ! 33 refl (tt, tt)) $
-          assigns ! (agg ! (and-then ! (load ! (from ! (stop !)) (look ! 33 refl)) (and-then ! (load ! (from ! (fld ! refl (stop !))) (look-in ! 19 (sub ! 1 refl (whole !)))) (no-more !)))) (from ! (stop !)) (init ! 34 refl (tt, (tt, (record { fits = texts-room .0 }, tt)))) $
-          assigns ! (addr ! (from ! (fld ! refl (hop ! (look-in ! 20 (sub ! 0 refl (whole !))) (stop !))))) (from ! (stop !)) (init ! 35 refl (tt, tt)) $
+          assigns ! (of-opd ! (load ! (from ! (stop !)) (look ! 33 refl))) (from ! (stop !)) (init ! 27 refl (array-lawful 𝓤 H A W Feature-is.the-row (LL.lawful Feature-is.the-type Feature-has.the-laws 𝓤 H A W) 8192 .typed r-no-rows (array-vals (LL.vals Feature-is.the-type Feature-has.the-laws) r-no-rows) r-no-rows-is .0)) $
+          assigns ! (addr ! (from ! (fld ! refl (hop ! (look-in ! 19 (sub ! 0 refl (whole !))) (stop !))))) (from ! (stop !)) (init ! 34 refl (tt, tt)) $
+          assigns ! (agg ! (and-then ! (load ! (from ! (stop !)) (look ! 34 refl)) (and-then ! (load ! (from ! (fld ! refl (stop !))) (look-in ! 19 (sub ! 1 refl (whole !)))) (no-more !)))) (from ! (stop !)) (init ! 35 refl (tt, (tt, (record { fits = texts-room .0 }, tt)))) $
+          assigns ! (addr ! (from ! (fld ! refl (hop ! (look-in ! 20 (sub ! 0 refl (whole !))) (stop !))))) (from ! (stop !)) (init ! 36 refl (tt, tt)) $
           part-3
 
     abbrev part-1-holds : List Cell
     part-1-holds = vacant ∷ holds (v s) ∷ holds (vint w64 at′) ∷ holds (v texts) ∷ holds (v references) ∷ holds (v comments) ∷ holds (v qualifiers) ∷ holds (v locations) ∷ holds (v letters) ∷ holds (v out) ∷ holds (How-val how) ∷ vacant ∷ vacant ∷ vacant ∷ vacant ∷ vacant ∷ vacant ∷ vacant ∷ vacant ∷ vacant ∷ vacant ∷ vacant ∷ vacant ∷ vacant ∷
-        vacant ∷ vacant ∷ vacant ∷ vacant ∷ vacant ∷ vacant ∷ vacant ∷ vacant ∷ vacant ∷ vacant ∷ vacant ∷ vacant ∷ vacant ∷ vacant ∷ vacant ∷ vacant ∷ vacant ∷ vacant ∷ vacant ∷ vacant ∷ vacant ∷ vacant ∷ vacant ∷ []
+        vacant ∷ vacant ∷ vacant ∷ vacant ∷ vacant ∷ vacant ∷ vacant ∷ vacant ∷ vacant ∷ vacant ∷ vacant ∷ vacant ∷ vacant ∷ vacant ∷ vacant ∷ vacant ∷ vacant ∷ vacant ∷ vacant ∷ vacant ∷ vacant ∷ vacant ∷ vacant ∷ vacant ∷ []
 
     part-1 : Sq W (‵ (flft κ₀ q₀) ∷ ‵ (flft κ₁ q₁) ∷ ‵ (flft κ₂ q₂) ∷ ‵ (flft κ₃ q₃) ∷ ‵ (flft κ₄ q₄) ∷ ‵ (flft κ₅ q₅) ∷ ‵ (flft κ₆ q₆) ∷ ‵ (flft κ₇ q₇) ∷ ‵ s-own ∷ ‵ (texts-own (texts .now)) ∷ ‵ (references-own (references .now)) ∷ ‵ (comments-own (comments .now)) ∷ ‵ (qualifiers-own (qualifiers .now)) ∷ ‵ (locations-own (locations .now)) ∷ ‵
         (letters-own (letters .now)) ∷ ‵ (out-own (out .now)) ∷ standing part-1-holds) (runs C Λ E body.t-1 (atRet E Post))
@@ -920,24 +929,25 @@ module _ {M : Type 1} (𝓤 : URA M) (H : Heap 𝓤) (A : Atoms 𝓤) (W : Given
         lends-no-rows ! tt (
         calls-at ! fm (no-rows-contract 𝓤 H A mem run) known-no-rows to-no-rows (no-more !)
         (back-no-rows ! (λ r-no-rows r-no-rows-is said-no-rows.
-        land ! (from ! (stop !)) (init ! 32 refl (array-lawful 𝓤 H A W Feature-is.the-row (LL.lawful Feature-is.the-type Feature-has.the-laws 𝓤 H A W) 8192 .typed r-no-rows (array-vals (LL.vals Feature-is.the-type Feature-has.the-laws) r-no-rows) r-no-rows-is .0)) $
+        land ! (from ! (stop !)) (init ! 33 refl (array-lawful 𝓤 H A W Feature-is.the-row (LL.lawful Feature-is.the-type Feature-has.the-laws 𝓤 H A W) 8192 .typed r-no-rows (array-vals (LL.vals Feature-is.the-type Feature-has.the-laws) r-no-rows) r-no-rows-is .0)) $
         part-2 r-no-rows r-no-rows-is said-no-rows)))
 
     begins : Sq W (locals 𝓤 H A E (vacant ∷ vacant ∷ vacant ∷ vacant ∷ vacant ∷ vacant ∷ vacant ∷ vacant ∷ vacant ∷ vacant ∷ vacant ∷ vacant ∷ vacant ∷ vacant ∷ vacant ∷ vacant ∷ vacant ∷ vacant ∷ vacant ∷ vacant ∷ vacant ∷ vacant ∷ vacant ∷ vacant ∷ vacant ∷ vacant ∷ vacant ∷ vacant ∷ vacant ∷ vacant ∷ vacant ∷ vacant ∷ vacant ∷ vacant ∷ vacant ∷
-        vacant ∷ vacant ∷ vacant ∷ vacant ∷ vacant ∷ vacant ∷ vacant ∷ vacant ∷ vacant ∷ vacant ∷ vacant ∷ vacant ∷ []) (raw (Dies 𝓤 H A E) ∷ Had [])) (params′ E ((v s) ∷ (vint w64 at′) ∷ (v texts) ∷ (v references) ∷ (v comments) ∷ (v qualifiers) ∷ (v locations) ∷ (v letters) ∷ (v out) ∷ (How-val how) ∷ []) (runs C Λ E body.t-1 (atRet E Post)))
+        vacant ∷ vacant ∷ vacant ∷ vacant ∷ vacant ∷ vacant ∷ vacant ∷ vacant ∷ vacant ∷ vacant ∷ vacant ∷ vacant ∷ vacant ∷ []) (raw (Dies 𝓤 H A E) ∷ Had []))
+        (params′ E ((v s) ∷ (vint w64 at′) ∷ (v texts) ∷ (v references) ∷ (v comments) ∷ (v qualifiers) ∷ (v locations) ∷ (v letters) ∷ (v out) ∷ (How-val how) ∷ []) (runs C Λ E body.t-1 (atRet E Post)))
     begins =
         params1 ! $ pass1 ! (init ! 1 refl (tt, (tt, (record { fits = s-room .0 }, tt)))) $ pass1 ! (init ! 2 refl (uint-lawful 𝓤 H A W w64 .typed at′ ((vint w64 at′) ∷ []) at′-is .0)) $ pass1 ! (init ! 3 refl (tt, (tt, (record { fits = texts-room .0 }, tt)))) $ pass1 ! (init ! 4 refl (tt, (tt, (record { fits = references-room .0 }, tt)))) $ pass1
         ! (init ! 5 refl (tt, (tt, (record { fits = comments-room .0 }, tt)))) $ pass1 ! (init ! 6 refl (tt, (tt, (record { fits = qualifiers-room .0 }, tt)))) $ pass1 ! (init ! 7 refl (tt, (tt, (record { fits = locations-room .0 }, tt)))) $ pass1 ! (init ! 8 refl (tt, (tt, (record { fits = letters-room .0 }, tt)))) $ pass1 !
         (init ! 9 refl (tt, (tt, (record { fits = out-room .0 }, tt)))) $ pass1 ! (init ! 10 refl (LL.lawful How-is.the-type How-has.the-laws 𝓤 H A W .typed how ((How-val how) ∷ []) how-is .0)) $ pass0 ! $
-        move ! (48 ∷ 49 ∷ []) $ opened ! part-1
+        move ! (49 ∷ 50 ∷ []) $ opened ! part-1
 
   walk : (C : Calls 𝓤 H) (Λ : Loops 𝓤 H) (fm : FmC 𝓤 H (W .laws) C) (known-no-rows : Triple 𝓤 (C #app-round·no-rows) (no-rows-contract 𝓤 H A mem run)) (known-read : Triple 𝓤 (C #read-record·read) (read-contract 𝓤 H A mem run)) (known-head-of : Triple 𝓤 (C #app-round·head-of) (head-of-contract 𝓤 H A mem run))
       (known-how-after : Triple 𝓤 (C #app-round·how-after) (how-after-contract 𝓤 H A mem run)) (known-write : Triple 𝓤 (C #write-record·write) (write-contract 𝓤 H A mem run)) → ent 𝓤 (onEntry 𝓤 H A f.signature (κ₀, (κ₁, (κ₂, (κ₃, (κ₄, (κ₅, (κ₆, (κ₇, tt)))))))) (q₀, (q₁, (q₂, (q₃, (q₄, (q₅, (q₆, (q₇, tt)))))))) a at-entry)
       (WpFn 𝓤 H C Λ code.function ((v s) ∷ (vint w64 at′) ∷ (v texts) ∷ (v references) ∷ (v comments) ∷ (v qualifiers) ∷ (v locations) ∷ (v letters) ∷ (v out) ∷ (How-val how) ∷ []) Post)
   walk C Λ fm known-no-rows known-read known-head-of known-how-after known-write =
       qed W (Had []) ∵ enter ! C Λ code.function ((v s) ∷ (vint w64 at′) ∷ (v texts) ∷ (v references) ∷ (v comments) ∷ (v qualifiers) ∷ (v locations) ∷ (v letters) ∷ (v out) ∷ (How-val how) ∷ []) _ $
-      allocs-all ! (λ l₀ l₁ l₂ l₃ l₄ l₅ l₆ l₇ l₈ l₉ l₁₀ l₁₁ l₁₂ l₁₃ l₁₄ l₁₅ l₁₆ l₁₇ l₁₈ l₁₉ l₂₀ l₂₁ l₂₂ l₂₃ l₂₄ l₂₅ l₂₆ l₂₇ l₂₈ l₂₉ l₃₀ l₃₁ l₃₂ l₃₃ l₃₄ l₃₅ l₃₆ l₃₇ l₃₈ l₃₉ l₄₀ l₄₁ l₄₂ l₄₃ l₄₄ l₄₅ l₄₆. begins C Λ fm known-no-rows known-read known-head-of known-how-after known-write l₀ l₁ l₂ l₃ l₄ l₅ l₆ l₇ l₈ l₉ l₁₀ l₁₁ l₁₂ l₁₃ l₁₄ l₁₅ l₁₆ l₁₇ l₁₈
-      l₁₉ l₂₀ l₂₁ l₂₂ l₂₃ l₂₄ l₂₅ l₂₆ l₂₇ l₂₈ l₂₉ l₃₀ l₃₁ l₃₂ l₃₃ l₃₄ l₃₅ l₃₆ l₃₇ l₃₈ l₃₉ l₄₀ l₄₁ l₄₂ l₄₃ l₄₄ l₄₅ l₄₆)
+      allocs-all ! (λ l₀ l₁ l₂ l₃ l₄ l₅ l₆ l₇ l₈ l₉ l₁₀ l₁₁ l₁₂ l₁₃ l₁₄ l₁₅ l₁₆ l₁₇ l₁₈ l₁₉ l₂₀ l₂₁ l₂₂ l₂₃ l₂₄ l₂₅ l₂₆ l₂₇ l₂₈ l₂₉ l₃₀ l₃₁ l₃₂ l₃₃ l₃₄ l₃₅ l₃₆ l₃₇ l₃₈ l₃₉ l₄₀ l₄₁ l₄₂ l₄₃ l₄₄ l₄₅ l₄₆ l₄₇. begins C Λ fm known-no-rows known-read known-head-of known-how-after known-write l₀ l₁ l₂ l₃ l₄ l₅ l₆ l₇ l₈ l₉ l₁₀ l₁₁ l₁₂ l₁₃ l₁₄ l₁₅ l₁₆ l₁₇
+      l₁₈ l₁₉ l₂₀ l₂₁ l₂₂ l₂₃ l₂₄ l₂₅ l₂₆ l₂₇ l₂₈ l₂₉ l₃₀ l₃₁ l₃₂ l₃₃ l₃₄ l₃₅ l₃₆ l₃₇ l₃₈ l₃₉ l₄₀ l₄₁ l₄₂ l₄₃ l₄₄ l₄₅ l₄₆ l₄₇)
 
 module _ {M : Type 1} (𝓤 : URA M) (H : Heap 𝓤) (A : Atoms 𝓤) (W : Given 𝓤 H A) (mem : Memory → SProp 𝓤) (run : Routine → Fun 𝓤) (𝓣 : Tables 𝓤 H) (known-no-rows : Triple 𝓤 (𝓣 .C #app-round·no-rows) (no-rows-contract 𝓤 H A mem run)) (known-read : Triple 𝓤 (𝓣 .C #read-record·read) (read-contract 𝓤 H A mem run))
     (known-head-of : Triple 𝓤 (𝓣 .C #app-round·head-of) (head-of-contract 𝓤 H A mem run)) (known-how-after : Triple 𝓤 (𝓣 .C #app-round·how-after) (how-after-contract 𝓤 H A mem run)) (known-write : Triple 𝓤 (𝓣 .C #write-record·write) (write-contract 𝓤 H A mem run)) where

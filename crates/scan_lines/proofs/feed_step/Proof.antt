@@ -14,6 +14,9 @@ Inv-loop input place i₀ i = (place ≤ i) × (place ≤ length input → i ≤
 abbrev μ-loop : tie.MeasureT-loop
 μ-loop input place i₀ i = length input - i
 
+past-blocks-requires : tie.Need-past-blocks-requires Inv-loop μ-loop
+past-blocks-requires c κs = search needs
+
 loop-holds : tie.Need-loop-holds Inv-loop μ-loop
 loop-holds c = search (feeding, needs)
 
@@ -44,6 +47,7 @@ feed-step-spec =
     (tie.spec
     Inv-loop
     μ-loop
+    past-blocks-requires
     loop-holds
     shared-slice-read-if1
     add-result

@@ -4,6 +4,9 @@ use borrow.Author.Needs.{needs}
 use Rattle.test_rows.proofs.read.Statement.{statement}
 use Rattle.test_rows.proofs.read.Tie as tie
 
+too-many-requires : tie.Need-too-many-requires
+too-many-requires c κs = search needs
+
 returns : tie.Need-returns
 returns c = λ h. absurd (omega arith)
 
@@ -38,4 +41,4 @@ returns-2 : tie.Need-returns-2
 returns-2 c = λ h. c .before .before .before .before .before .before .before .before .before .before .before .before .before .before .read-lent .ensures
 
 pub read-spec : {M : Type 1} → statement M
-read-spec = tie.close (tie.spec returns rows-of-requires read-lent-requires same-length same-length-2 same-length-3 same-length-4 same-length-5 same-length-6 same-length-7 returns-2)
+read-spec = tie.close (tie.spec too-many-requires returns rows-of-requires read-lent-requires same-length same-length-2 same-length-3 same-length-4 same-length-5 same-length-6 same-length-7 returns-2)

@@ -35,7 +35,6 @@ use denote.Ref.{RefT}
 use denote.Slice.{sliceTy, sliceVal, MutSlice, ShrSlice, Room, finally, slice-vals, mut-slice-tells, shr-slice-tells}
 use denote.Steps.{owned, peeks, heard, nothing}
 use denote.Struct.Laws as LL
-use denote.Enum.Laws as EL
 use denote.Signature.{plain, shrSliceOf}
 use denote.Triple.Statement.{Contract, Triple}
 use denote.Triple.Call.{calls-at}
@@ -51,16 +50,16 @@ use Rattle.base_walk.proofs.Loans.{Loan, again as slice-at, Own, placed, LentCe
 use Rattle.base_walk.proofs.Arrays.{Many, many-val, apart, together}
 use Rattle.base_walk.proofs.Fronts.{front, laid, Rest, front-long, front-room, laid-long, cut, joined}
 use Rattle.base_rows.specs.Rows.{flat}
-use Rattle.spec_contracts.specs.Reads.{Answered}
+use Rattle.spec_contracts.specs.Reads.{ReadReported}
 use Rattle.spec_format.specs.Rooms.{roomsIn}
 use Rattle.test_rows.specs.Through.{Through, through}
 use lib.Seq.{sets}
 use Rattle.base_rows.specs.declared.Feature.{Feature}
 use Rattle.base_rows.proofs.Feature as Feature-is
 use Rattle.base_rows.proofs.Feature.Laws as Feature-has
-use Rattle.spec_format.specs.declared.ReadAnswer.{ReadAnswer}
-use Rattle.spec_format.proofs.ReadAnswer as ReadAnswer-is
-use Rattle.spec_format.proofs.ReadAnswer.Laws as ReadAnswer-has
+use Rattle.spec_contracts.specs.declared.Reported.{Reported}
+use Rattle.spec_contracts.proofs.Reported as Reported-is
+use Rattle.spec_contracts.proofs.Reported.Laws as Reported-has
 use Rattle.read_record.proofs.read as read
 use Rattle.read_record.proofs.read.Symbol as read-def
 use Rattle.read_record.proofs.read.Symbol.{name as #read-record·read}
@@ -93,8 +92,8 @@ stayed = (
 abbrev Feature-val : Feature → Val
 Feature-val = LL.val Feature-is.the-type Feature-has.the-laws
 
-abbrev ReadAnswer-val : ReadAnswer → Val
-ReadAnswer-val = EL.val ReadAnswer-is.the-type ReadAnswer-has.the-laws
+abbrev Reported-val : Reported → Val
+Reported-val = LL.val Reported-is.the-type Reported-has.the-laws
 
 -- the machine value of a slice
 abbrev v : {X : Type 0} → RefT (List X) → Val
@@ -191,11 +190,11 @@ module _ {M : Type 1} (𝓤 : URA M) (H : Heap 𝓤) (A : Atoms 𝓤) (W : Given
       (l₀ l₁ l₂ l₃ l₄ l₅ l₆ l₇ l₈ l₉ l₁₀ l₁₁ l₁₂ l₁₃ l₁₄ l₁₅ l₁₆ l₁₇ l₁₈ l₁₉ l₂₀ l₂₁ l₂₂ l₂₃ l₂₄ l₂₅ l₂₆ l₂₇ l₂₈ l₂₉ l₃₀ l₃₁ : ℕ) where
     -- the locals, and their entries with what is owed of them
     abbrev E : Env 𝓤 H
-    E = (ReadAnswer-has.mir, l₀) ∷ (sliceTy (tyRef (named 0) imm (tyInt w8)), l₁) ∷ (tyInt w64, l₂) ∷ (sliceTy (tyRef (named 1) mut (tyInt w8)), l₃) ∷ (sliceTy (tyRef (named 2) mut (tyInt w64)), l₄) ∷ (sliceTy (tyRef (named 3) mut (tyInt w64)), l₅) ∷ (tyArray Feature-has.mir 33, l₆) ∷ (tyInt w64, l₇) ∷
-        (sliceTy (tyRef (named 4) mut (tyInt w64)), l₈) ∷ (sliceTy (tyRef (named 5) mut (tyInt w64)), l₉) ∷ (sliceTy (tyRef (named 6) mut (tyInt w64)), l₁₀) ∷ (sliceTy (tyRef (named 7) mut (tyInt w8)), l₁₁) ∷ (tyArray Feature-has.mir 33, l₁₂) ∷ (ReadAnswer-has.mir, l₁₃) ∷ (tyRef erased mut (tyInt w8), l₁₄) ∷
-        (sliceTy (tyRef erased mut (tyInt w8)), l₁₅) ∷ (tyRef erased mut (tyInt w64), l₁₆) ∷ (sliceTy (tyRef erased mut (tyInt w64)), l₁₇) ∷ (tyRef erased mut (tyInt w64), l₁₈) ∷ (sliceTy (tyRef erased mut (tyInt w64)), l₁₉) ∷ (tyRef erased mut (tyArray (pointee (Feature-is.the-row .written)) 33), l₂₀) ∷
-        (sliceTy (tyRef erased mut (pointee (Feature-is.the-row .written))), l₂₁) ∷ (tyRef erased mut (tyInt w64), l₂₂) ∷ (sliceTy (tyRef erased mut (tyInt w64)), l₂₃) ∷ (tyRef erased mut (tyInt w64), l₂₄) ∷ (sliceTy (tyRef erased mut (tyInt w64)), l₂₅) ∷ (tyRef erased mut (tyInt w8), l₂₆) ∷ (sliceTy (tyRef erased mut (tyInt w8)), l₂₇) ∷
-        (tyUnit, l₂₈) ∷ (tyArray Feature-has.mir 33, l₂₉) ∷ (tyRef erased mut (tyInt w64), l₃₀) ∷ (sliceTy (tyRef erased mut (tyInt w64)), l₃₁) ∷ []
+    E = (Reported-has.mir, l₀) ∷ (sliceTy (tyRef (named 0) imm (tyInt w8)), l₁) ∷ (tyInt w64, l₂) ∷ (sliceTy (tyRef (named 1) mut (tyInt w8)), l₃) ∷ (sliceTy (tyRef (named 2) mut (tyInt w64)), l₄) ∷ (sliceTy (tyRef (named 3) mut (tyInt w64)), l₅) ∷ (tyArray Feature-has.mir 33, l₆) ∷ (tyInt w64, l₇) ∷ (sliceTy (tyRef (named 4) mut (tyInt w64)), l₈)
+        ∷ (sliceTy (tyRef (named 5) mut (tyInt w64)), l₉) ∷ (sliceTy (tyRef (named 6) mut (tyInt w64)), l₁₀) ∷ (sliceTy (tyRef (named 7) mut (tyInt w8)), l₁₁) ∷ (tyArray Feature-has.mir 33, l₁₂) ∷ (Reported-has.mir, l₁₃) ∷ (tyRef erased mut (tyInt w8), l₁₄) ∷ (sliceTy (tyRef erased mut (tyInt w8)), l₁₅) ∷ (tyRef erased mut (tyInt w64), l₁₆) ∷
+        (sliceTy (tyRef erased mut (tyInt w64)), l₁₇) ∷ (tyRef erased mut (tyInt w64), l₁₈) ∷ (sliceTy (tyRef erased mut (tyInt w64)), l₁₉) ∷ (tyRef erased mut (tyArray (pointee (Feature-is.the-row .written)) 33), l₂₀) ∷ (sliceTy (tyRef erased mut (pointee (Feature-is.the-row .written))), l₂₁) ∷ (tyRef erased mut (tyInt w64), l₂₂) ∷
+        (sliceTy (tyRef erased mut (tyInt w64)), l₂₃) ∷ (tyRef erased mut (tyInt w64), l₂₄) ∷ (sliceTy (tyRef erased mut (tyInt w64)), l₂₅) ∷ (tyRef erased mut (tyInt w8), l₂₆) ∷ (sliceTy (tyRef erased mut (tyInt w8)), l₂₇) ∷ (tyUnit, l₂₈) ∷ (tyArray Feature-has.mir 33, l₂₉) ∷ (tyRef erased mut (tyInt w64), l₃₀) ∷
+        (sliceTy (tyRef erased mut (tyInt w64)), l₃₁) ∷ []
 
     abbrev standing : List Cell → List (Item 𝓤)
     standing cs = locals 𝓤 H A E cs (raw (Dies 𝓤 H A E) ∷ [])
@@ -263,20 +262,20 @@ module _ {M : Type 1} (𝓤 : URA M) (H : Heap 𝓤) (A : Atoms 𝓤) (W : Given
         next full-array k-array))
 
     -- what `read` says of its answer and of the lists that it leaves
-    abbrev Said-read : ReadAnswer → List ℕ → List ℕ → List ℕ → List Feature → List ℕ → List ℕ → List ℕ → Type 0
-    Said-read r-read texts-read references-read comments-read array-read qualifiers-read locations-read letters-read = Answered (s .now) at′ (roomsIn (texts .now) (references .now) (comments .now) (flat (front n rows)) (qualifiers .now) (locations .now) (letters .now))
+    abbrev Said-read : Reported → List ℕ → List ℕ → List ℕ → List Feature → List ℕ → List ℕ → List ℕ → Type 0
+    Said-read r-read texts-read references-read comments-read array-read qualifiers-read locations-read letters-read = ReadReported (s .now) at′ (roomsIn (texts .now) (references .now) (comments .now) (flat (front n rows)) (qualifiers .now) (locations .now) (letters .now))
         (roomsIn (texts-read) (references-read) (comments-read) (flat (array-read)) (qualifiers-read) (locations-read) (letters-read)) r-read
 
     back-read : {K : Type 0} {Γ : List (Item 𝓤)} {d : S.Place} {rest : S.Body} {q : Ending 𝓤 H} → K → (full-array : length rows ≡ 33) (k-array : Loan) →
-        ((r-read : ReadAnswer) (r-read-is : Is ReadAnswer-is.the-row r-read ((ReadAnswer-val r-read) ∷ [])) (texts-read : List ℕ) (references-read : List ℕ) (comments-read : List ℕ) (array-read : List Feature) (qualifiers-read : List ℕ) (locations-read : List ℕ) (letters-read : List ℕ) (texts-read-long : length texts-read ≡ length (texts .now))
+        ((r-read : Reported) (r-read-is : Is Reported-is.the-row r-read ((Reported-val r-read) ∷ [])) (texts-read : List ℕ) (references-read : List ℕ) (comments-read : List ℕ) (array-read : List Feature) (qualifiers-read : List ℕ) (locations-read : List ℕ) (letters-read : List ℕ) (texts-read-long : length texts-read ≡ length (texts .now))
         (references-read-long : length references-read ≡ length (references .now)) (comments-read-long : length comments-read ≡ length (comments .now)) (array-read-is : Is (Many 33) (laid n array-read rows) (array-vals (LL.vals Feature-is.the-type Feature-has.the-laws) (laid n array-read rows)))
         (qualifiers-read-long : length qualifiers-read ≡ length (qualifiers .now)) (locations-read-long : length locations-read ≡ length (locations .now)) (letters-read-long : length letters-read ≡ length (letters .now))
         (said-read : Said-read r-read texts-read references-read comments-read array-read qualifiers-read locations-read letters-read) → Seq K W
         (‵ (fat fullShare (tyArray Feature-has.mir 33) l₁₂ 0 (many-val (laid n array-read rows))) ∷ ‵ (flft κ₀ q₀) ∷ ‵ (flft κ₁ q₁) ∷ ‵ (flft κ₂ q₂) ∷ ‵ (flft κ₃ q₃) ∷ ‵ (flft κ₄ q₄) ∷ ‵ (flft κ₅ q₅) ∷ ‵ (flft κ₆ q₆) ∷ ‵ (flft κ₇ q₇) ∷ ‵ (texts-last texts-read) ∷ ‵ (references-last references-read) ∷ ‵ (comments-last comments-read)
-        ∷ ‵ (features-own (features .now)) ∷ ‵ (qualifiers-last qualifiers-read) ∷ ‵ (locations-last locations-read) ∷ ‵ (letters-last letters-read) ∷ Γ) (lands C Λ E d (ReadAnswer-val r-read) rest q))
+        ∷ ‵ (features-own (features .now)) ∷ ‵ (qualifiers-last qualifiers-read) ∷ ‵ (locations-last locations-read) ∷ ‵ (letters-last letters-read) ∷ Γ) (lands C Λ E d (Reported-val r-read) rest q))
         → (u : Val) → Seq K W (raw (read-contract 𝓤 H A mem run .post (to-read full-array k-array) u) ∷ ‵ (MineMut Feature-is.the-row l₁₂ n k-array) ∷ ‵ (Rest Feature-is.the-row n rows l₁₂) ∷ ‵ (flft κ₄ q₄) ∷ ‵ (features-own (features .now)) ∷ Γ) (lands C Λ E d u rest q)
     back-read t full-array k-array next u =
-        use1 W (later (some (λ (r-read : ReadAnswer). ((‵ (flft κ₀ q₀) ⊛ ‵ (flft κ₁ q₁) ⊛ ‵ (flft κ₂ q₂) ⊛ ‵ (flft κ₃ q₃) ⊛ ‵ (flft (k-array .life ∷ []) fullShare) ⊛ ‵ (flft κ₅ q₅) ⊛ ‵ (flft κ₆ q₆) ⊛ ‵ (flft κ₇ q₇) ⊛ ‵ ftrue) ⊛ ‵ (ReadAnswer-is.the-row .own r-read (u ∷ []))) ⊛ raw
+        use1 W (later (some (λ (r-read : Reported). ((‵ (flft κ₀ q₀) ⊛ ‵ (flft κ₁ q₁) ⊛ ‵ (flft κ₂ q₂) ⊛ ‵ (flft κ₃ q₃) ⊛ ‵ (flft (k-array .life ∷ []) fullShare) ⊛ ‵ (flft κ₅ q₅) ⊛ ‵ (flft κ₆ q₆) ⊛ ‵ (flft κ₇ q₇) ⊛ ‵ ftrue) ⊛ ‵ (Reported-is.the-row .own r-read (u ∷ []))) ⊛ raw
         (ensured 𝓤 H A read.ended (read.clauses 𝓤 H A mem run) (lfts-read full-array k-array) (args-read full-array k-array) tt r-read)))) (id⊢ 𝓤 _) $
         await t tt $ pick t (λ r-read. split t $ move t (1 ∷ []) $
         use1 W (some (λ (ws : (Unit {0}) × ((Unit {0}) × ((List ℕ) × ((List ℕ) × ((List ℕ) × ((List Feature) × ((List ℕ) × ((List ℕ) × ((List ℕ) × Unit {0}))))))))).
@@ -311,7 +310,7 @@ module _ {M : Type 1} (𝓤 : URA M) (H : Heap 𝓤) (A : Atoms 𝓤) (W : Given
         split t $
         splits t (‵ (flft κ₀ q₀) ∷ ‵ (flft κ₁ q₁) ∷ ‵ (flft κ₂ q₂) ∷ ‵ (flft κ₃ q₃) ∷ ‵ (flft (k-array .life ∷ []) fullShare) ∷ ‵ (flft κ₅ q₅) ∷ ‵ (flft κ₆ q₆) ∷ ‵ (flft κ₇ q₇) ∷ []) (id⊢ 𝓤 _) $
         move t (8 ∷ []) $
-        lands-at t ReadAnswer-is.the-row (EL.vals ReadAnswer-is.the-type ReadAnswer-has.the-laws) (EL.tells ReadAnswer-is.the-type ReadAnswer-has.the-laws) r-read u (λ r-read-is.
+        lands-at t Reported-is.the-row (LL.vals Reported-is.the-type Reported-has.the-laws) (LL.tells Reported-is.the-type Reported-has.the-laws) r-read u (λ r-read-is.
         move t (4 ∷ 15 ∷ 11 ∷ []) $
         use3 W (later (given (length (ws .1 .1 .1 .1 .1 .0) ≡ n) (‵ (side-by-side (in-memory Feature-is.the-row) (ws .1 .1 .1 .1 .1 .0) l₁₂ 0)))) (mut-cells-back Feature-is.the-row 𝓤 H A W (named 4) l₁₂ n (front-room Feature-is.the-row n 33 within-read rows full-array (lit< tt, lit< tt)) k-array (ws .1 .1 .1 .1 .1 .0)) $
         await t tt $ learn t (λ filled.
@@ -323,7 +322,7 @@ module _ {M : Type 1} (𝓤 : URA M) (H : Heap 𝓤) (A : Atoms 𝓤) (W : Given
         move t (0 ∷ 1 ∷ 2 ∷ 3 ∷ 4 ∷ 14 ∷ 5 ∷ 6 ∷ 7 ∷ 13 ∷ 12 ∷ 11 ∷ 15 ∷ 10 ∷ 9 ∷ 8 ∷ []) $
         next r-read r-read-is (ws .1 .1 .0) (ws .1 .1 .1 .0) (ws .1 .1 .1 .1 .0) (ws .1 .1 .1 .1 .1 .0) (ws .1 .1 .1 .1 .1 .1 .0) (ws .1 .1 .1 .1 .1 .1 .1 .0) (ws .1 .1 .1 .1 .1 .1 .1 .1 .0) texts-long references-long comments-long array-is qualifiers-long locations-long letters-long said-read)))))))))))))
 
-    module _ (r-read : ReadAnswer) (r-read-is : Is ReadAnswer-is.the-row r-read ((ReadAnswer-val r-read) ∷ [])) (texts-read : List ℕ) (references-read : List ℕ) (comments-read : List ℕ) (array-read : List Feature) (qualifiers-read : List ℕ) (locations-read : List ℕ) (letters-read : List ℕ) (texts-read-long : length texts-read ≡ length (texts .now))
+    module _ (r-read : Reported) (r-read-is : Is Reported-is.the-row r-read ((Reported-val r-read) ∷ [])) (texts-read : List ℕ) (references-read : List ℕ) (comments-read : List ℕ) (array-read : List Feature) (qualifiers-read : List ℕ) (locations-read : List ℕ) (letters-read : List ℕ) (texts-read-long : length texts-read ≡ length (texts .now))
         (references-read-long : length references-read ≡ length (references .now)) (comments-read-long : length comments-read ≡ length (comments .now)) (array-read-is : Is (Many 33) (laid n array-read rows) (array-vals (LL.vals Feature-is.the-type Feature-has.the-laws) (laid n array-read rows)))
         (qualifiers-read-long : length qualifiers-read ≡ length (qualifiers .now)) (locations-read-long : length locations-read ≡ length (locations .now)) (letters-read-long : length letters-read ≡ length (letters .now))
         (said-read : Said-read r-read texts-read references-read comments-read array-read qualifiers-read locations-read letters-read) where
@@ -399,36 +398,35 @@ module _ {M : Type 1} (𝓤 : URA M) (H : Heap 𝓤) (A : Atoms 𝓤) (W : Given
         at-last = ‵ (flft κ₀ q₀) ∷ ‵ (flft κ₁ q₁) ∷ ‵ (flft κ₂ q₂) ∷ ‵ (flft κ₃ q₃) ∷ ‵ (flft κ₄ q₄) ∷ ‵ (flft κ₅ q₅) ∷ ‵ (flft κ₆ q₆) ∷ ‵ (flft κ₇ q₇) ∷ ‵ (texts-last texts-read) ∷ ‵ (references-last references-read) ∷ ‵ (comments-last comments-read) ∷ ‵ (features-last features-put-rows) ∷ ‵ (qualifiers-last qualifiers-read) ∷ ‵
             (locations-last locations-read) ∷ ‵ (letters-last letters-read) ∷ []
 
-        exits : ent 𝓤 (⋆ 𝓤 H A at-last) (Post (ReadAnswer-val r-read))
+        exits : ent 𝓤 (⋆ 𝓤 H A at-last) (Post (Reported-val r-read))
         exits =
             qed W at-last ∵
-            suffices ! _ (ends-at 𝓤 H A f.ended stayed (f.clauses 𝓤 H A mem run) W bound (ReadAnswer-val r-read) r-read (tt, (tt, (texts-read, (references-read, (comments-read, (tt, (tt, (features-put-rows, (qualifiers-read, (locations-read, (letters-read, tt)))))))))))
+            suffices ! _ (ends-at 𝓤 H A f.ended stayed (f.clauses 𝓤 H A mem run) W bound (Reported-val r-read) r-read (tt, (tt, (texts-read, (references-read, (comments-read, (tt, (tt, (features-put-rows, (qualifiers-read, (locations-read, (letters-read, tt)))))))))))
             (tt, (tt, (texts-read-long, (references-read-long, (comments-read-long, (tt, (tt, (features-put-rows-long, (qualifiers-read-long, (locations-read-long, (letters-read-long, tt)))))))))))) $ says ! ended $
-            owned ! ReadAnswer-is.the-row (Is ReadAnswer-is.the-row) (EL.makes ReadAnswer-is.the-type ReadAnswer-has.the-plain 𝓤 H A) r-read ((ReadAnswer-val r-read) ∷ []) r-read-is $
+            owned ! Reported-is.the-row (Is Reported-is.the-row) (LL.makes Reported-is.the-type Reported-has.the-plain 𝓤 H A) r-read ((Reported-val r-read) ∷ []) r-read-is $
             nothing ! $ nothing ! $ nothing ! $ nothing ! $ nothing ! $ nothing ! $
             move ! (7 ∷ 8 ∷ 9 ∷ 10 ∷ 11 ∷ 12 ∷ 13 ∷ 14 ∷ 4 ∷ 0 ∷ 1 ∷ 15 ∷ 16 ∷ 17 ∷ 2 ∷ 3 ∷ 18 ∷ 19 ∷ 20 ∷ 21 ∷ 5 ∷ 6 ∷ []) $
             group ! 9 $ frame ! $ group ! 12 $
             done !
 
         abbrev part-8-holds : List Cell
-        part-8-holds = vacant ∷ holds (v s) ∷ holds (vint w64 at′) ∷ holds (v texts) ∷ holds (v references) ∷ holds (v comments) ∷ holds (many-val rows) ∷ holds (vint w64 n) ∷ holds (v features) ∷ holds (v qualifiers) ∷ holds (v locations) ∷ holds (v letters) ∷ away ∷ holds (ReadAnswer-val r-read) ∷ holds (vptr (texts .ptr .0) (texts .ptr .1)) ∷
+        part-8-holds = vacant ∷ holds (v s) ∷ holds (vint w64 at′) ∷ holds (v texts) ∷ holds (v references) ∷ holds (v comments) ∷ holds (many-val rows) ∷ holds (vint w64 n) ∷ holds (v features) ∷ holds (v qualifiers) ∷ holds (v locations) ∷ holds (v letters) ∷ away ∷ holds (Reported-val r-read) ∷ holds (vptr (texts .ptr .0) (texts .ptr .1)) ∷
             holds (v texts) ∷ holds (vptr (references .ptr .0) (references .ptr .1)) ∷ holds (v references) ∷ holds (vptr (comments .ptr .0) (comments .ptr .1)) ∷ holds (v comments) ∷ holds (vptr l₁₂ 0) ∷ holds (sliceVal (l₁₂, 0) n) ∷ holds (vptr (qualifiers .ptr .0) (qualifiers .ptr .1)) ∷ holds (v qualifiers) ∷ holds
             (vptr (locations .ptr .0) (locations .ptr .1)) ∷ holds (v locations) ∷ holds (vptr (letters .ptr .0) (letters .ptr .1)) ∷ holds (v letters) ∷ holds vunit ∷ holds (many-val (laid n array-read rows)) ∷ holds (vptr (features .ptr .0) (features .ptr .1)) ∷ holds (v features) ∷ []
 
         part-8 : Sq W (‵ (fat fullShare (tyArray Feature-has.mir 33) l₁₂ 0 (many-val (laid n array-read rows))) ∷ ‵ (flft κ₀ q₀) ∷ ‵ (flft κ₁ q₁) ∷ ‵ (flft κ₂ q₂) ∷ ‵ (flft κ₃ q₃) ∷ ‵ (flft κ₄ q₄) ∷ ‵ (flft κ₅ q₅) ∷ ‵ (flft κ₆ q₆) ∷ ‵ (flft κ₇ q₇) ∷ ‵ (texts-last texts-read) ∷ ‵ (references-last references-read) ∷ ‵ (comments-last comments-read) ∷
             ‵ (features-last features-put-rows) ∷ ‵ (qualifiers-last qualifiers-read) ∷ ‵ (locations-last locations-read) ∷ ‵ (letters-last letters-read) ∷ standing part-8-holds) (runs C Λ E body.t-21 (atRet E Post))
         part-8 =
-            assigns ! (of-opd ! (load ! (from ! (stop !)) (look ! 28 refl))) (from ! (stop !)) (init ! 16 refl (EL.lawful ReadAnswer-is.the-type ReadAnswer-has.the-laws 𝓤 H A W tt .typed r-read ((ReadAnswer-val r-read) ∷ []) r-read-is .0)) $
+            assigns ! (of-opd ! (load ! (from ! (stop !)) (look ! 28 refl))) (from ! (stop !)) (init ! 16 refl (LL.lawful Reported-is.the-type Reported-has.the-laws 𝓤 H A W .typed r-read ((Reported-val r-read) ∷ []) r-read-is .0)) $
             move ! (1 ∷ 2 ∷ 3 ∷ 4 ∷ 5 ∷ 6 ∷ 7 ∷ 8 ∷ 9 ∷ 10 ∷ 11 ∷ 12 ∷ 13 ∷ 14 ∷ 15 ∷ 16 ∷ 17 ∷ 18 ∷ 19 ∷ 20 ∷ 21 ∷ 22 ∷ 23 ∷ 24 ∷ 25 ∷ 26 ∷ 27 ∷ 0 ∷ []) $
             returns ! (look ! 15 refl) $ frees-all ! at-last
-            (holds (ReadAnswer-val r-read) ∷ holds (v s) ∷ holds (vint w64 at′) ∷ holds (v texts) ∷ holds (v references) ∷ holds (v comments) ∷ holds (many-val rows) ∷ holds (vint w64 n) ∷ holds (v features) ∷ holds (v qualifiers) ∷ holds (v locations) ∷ holds (v letters) ∷ holds (many-val (laid n array-read rows)) ∷ holds
-            (ReadAnswer-val r-read) ∷ holds (vptr (texts .ptr .0) (texts .ptr .1)) ∷ holds (v texts) ∷ holds (vptr (references .ptr .0) (references .ptr .1)) ∷ holds (v references) ∷ holds (vptr (comments .ptr .0) (comments .ptr .1)) ∷ holds (v comments) ∷ holds (vptr l₁₂ 0) ∷ holds (sliceVal (l₁₂, 0) n) ∷ holds
-            (vptr (qualifiers .ptr .0) (qualifiers .ptr .1)) ∷ holds (v qualifiers) ∷ holds (vptr (locations .ptr .0) (locations .ptr .1)) ∷ holds (v locations) ∷ holds (vptr (letters .ptr .0) (letters .ptr .1)) ∷ holds (v letters) ∷ holds vunit ∷ holds (many-val (laid n array-read rows)) ∷ holds
-            (vptr (features .ptr .0) (features .ptr .1)) ∷ holds (v features) ∷ []) tt exits
+            (holds (Reported-val r-read) ∷ holds (v s) ∷ holds (vint w64 at′) ∷ holds (v texts) ∷ holds (v references) ∷ holds (v comments) ∷ holds (many-val rows) ∷ holds (vint w64 n) ∷ holds (v features) ∷ holds (v qualifiers) ∷ holds (v locations) ∷ holds (v letters) ∷ holds (many-val (laid n array-read rows)) ∷ holds (Reported-val r-read) ∷
+            holds (vptr (texts .ptr .0) (texts .ptr .1)) ∷ holds (v texts) ∷ holds (vptr (references .ptr .0) (references .ptr .1)) ∷ holds (v references) ∷ holds (vptr (comments .ptr .0) (comments .ptr .1)) ∷ holds (v comments) ∷ holds (vptr l₁₂ 0) ∷ holds (sliceVal (l₁₂, 0) n) ∷ holds (vptr (qualifiers .ptr .0) (qualifiers .ptr .1)) ∷
+            holds (v qualifiers) ∷ holds (vptr (locations .ptr .0) (locations .ptr .1)) ∷ holds (v locations) ∷ holds (vptr (letters .ptr .0) (letters .ptr .1)) ∷ holds (v letters) ∷ holds vunit ∷ holds (many-val (laid n array-read rows)) ∷ holds (vptr (features .ptr .0) (features .ptr .1)) ∷ holds (v features) ∷ []) tt exits
 
       abbrev part-7-holds : List Cell
-      part-7-holds = vacant ∷ holds (v s) ∷ holds (vint w64 at′) ∷ holds (v texts) ∷ holds (v references) ∷ holds (v comments) ∷ holds (many-val rows) ∷ holds (vint w64 n) ∷ holds (v features) ∷ holds (v qualifiers) ∷ holds (v locations) ∷ holds (v letters) ∷ away ∷ holds (ReadAnswer-val r-read) ∷ holds (vptr (texts .ptr .0) (texts .ptr .1)) ∷
-          holds (v texts) ∷ holds (vptr (references .ptr .0) (references .ptr .1)) ∷ holds (v references) ∷ holds (vptr (comments .ptr .0) (comments .ptr .1)) ∷ holds (v comments) ∷ holds (vptr l₁₂ 0) ∷ holds (sliceVal (l₁₂, 0) n) ∷ holds (vptr (qualifiers .ptr .0) (qualifiers .ptr .1)) ∷ holds (v qualifiers) ∷ holds
+      part-7-holds = vacant ∷ holds (v s) ∷ holds (vint w64 at′) ∷ holds (v texts) ∷ holds (v references) ∷ holds (v comments) ∷ holds (many-val rows) ∷ holds (vint w64 n) ∷ holds (v features) ∷ holds (v qualifiers) ∷ holds (v locations) ∷ holds (v letters) ∷ away ∷ holds (Reported-val r-read) ∷ holds (vptr (texts .ptr .0) (texts .ptr .1)) ∷ holds
+          (v texts) ∷ holds (vptr (references .ptr .0) (references .ptr .1)) ∷ holds (v references) ∷ holds (vptr (comments .ptr .0) (comments .ptr .1)) ∷ holds (v comments) ∷ holds (vptr l₁₂ 0) ∷ holds (sliceVal (l₁₂, 0) n) ∷ holds (vptr (qualifiers .ptr .0) (qualifiers .ptr .1)) ∷ holds (v qualifiers) ∷ holds
           (vptr (locations .ptr .0) (locations .ptr .1)) ∷ holds (v locations) ∷ holds (vptr (letters .ptr .0) (letters .ptr .1)) ∷ holds (v letters) ∷ vacant ∷ holds (many-val (laid n array-read rows)) ∷ holds (vptr (features .ptr .0) (features .ptr .1)) ∷ holds (v features) ∷ []
 
       part-7 : Sq W (‵ (fat fullShare (tyArray Feature-has.mir 33) l₁₂ 0 (many-val (laid n array-read rows))) ∷ ‵ (flft κ₀ q₀) ∷ ‵ (flft κ₁ q₁) ∷ ‵ (flft κ₂ q₂) ∷ ‵ (flft κ₃ q₃) ∷ ‵ (flft κ₄ q₄) ∷ ‵ (flft κ₅ q₅) ∷ ‵ (flft κ₆ q₆) ∷ ‵ (flft κ₇ q₇) ∷ ‵ (texts-last texts-read) ∷ ‵ (references-last references-read) ∷ ‵ (comments-last comments-read) ∷ ‵
@@ -441,8 +439,8 @@ module _ {M : Type 1} (𝓤 : URA M) (H : Heap 𝓤) (A : Atoms 𝓤) (W : Given
           part-8 r-put-rows r-put-rows-is features-put-rows features-put-rows-long said-put-rows)))
 
       abbrev part-6-holds : List Cell
-      part-6-holds = vacant ∷ holds (v s) ∷ holds (vint w64 at′) ∷ holds (v texts) ∷ holds (v references) ∷ holds (v comments) ∷ holds (many-val rows) ∷ holds (vint w64 n) ∷ holds (v features) ∷ holds (v qualifiers) ∷ holds (v locations) ∷ holds (v letters) ∷ away ∷ holds (ReadAnswer-val r-read) ∷ holds (vptr (texts .ptr .0) (texts .ptr .1)) ∷
-          holds (v texts) ∷ holds (vptr (references .ptr .0) (references .ptr .1)) ∷ holds (v references) ∷ holds (vptr (comments .ptr .0) (comments .ptr .1)) ∷ holds (v comments) ∷ holds (vptr l₁₂ 0) ∷ holds (sliceVal (l₁₂, 0) n) ∷ holds (vptr (qualifiers .ptr .0) (qualifiers .ptr .1)) ∷ holds (v qualifiers) ∷ holds
+      part-6-holds = vacant ∷ holds (v s) ∷ holds (vint w64 at′) ∷ holds (v texts) ∷ holds (v references) ∷ holds (v comments) ∷ holds (many-val rows) ∷ holds (vint w64 n) ∷ holds (v features) ∷ holds (v qualifiers) ∷ holds (v locations) ∷ holds (v letters) ∷ away ∷ holds (Reported-val r-read) ∷ holds (vptr (texts .ptr .0) (texts .ptr .1)) ∷ holds
+          (v texts) ∷ holds (vptr (references .ptr .0) (references .ptr .1)) ∷ holds (v references) ∷ holds (vptr (comments .ptr .0) (comments .ptr .1)) ∷ holds (v comments) ∷ holds (vptr l₁₂ 0) ∷ holds (sliceVal (l₁₂, 0) n) ∷ holds (vptr (qualifiers .ptr .0) (qualifiers .ptr .1)) ∷ holds (v qualifiers) ∷ holds
           (vptr (locations .ptr .0) (locations .ptr .1)) ∷ holds (v locations) ∷ holds (vptr (letters .ptr .0) (letters .ptr .1)) ∷ holds (v letters) ∷ vacant ∷ vacant ∷ vacant ∷ vacant ∷ []
 
       part-6 : Sq W (‵ (fat fullShare (tyArray Feature-has.mir 33) l₁₂ 0 (many-val (laid n array-read rows))) ∷ ‵ (flft κ₀ q₀) ∷ ‵ (flft κ₁ q₁) ∷ ‵ (flft κ₂ q₂) ∷ ‵ (flft κ₃ q₃) ∷ ‵ (flft κ₄ q₄) ∷ ‵ (flft κ₅ q₅) ∷ ‵ (flft κ₆ q₆) ∷ ‵ (flft κ₇ q₇) ∷ ‵ (texts-last texts-read) ∷ ‵ (references-last references-read) ∷ ‵ (comments-last comments-read) ∷ ‵
@@ -471,7 +469,7 @@ module _ {M : Type 1} (𝓤 : URA M) (H : Heap 𝓤) (A : Atoms 𝓤) (W : Given
         (and-then ! (load ! (from ! (stop !)) (look ! 21 refl))
         (and-then ! (load ! (from ! (stop !)) (look ! 23 refl)) (and-then ! (load ! (from ! (stop !)) (look ! 25 refl)) (and-then ! (load ! (from ! (stop !)) (look ! 27 refl)) (and-then ! (load ! (from ! (stop !)) (look ! 29 refl)) (and-then ! (load ! (from ! (stop !)) (look ! 31 refl)) (no-more !))))))))))
         (back-read ! full-array k-array (λ r-read r-read-is texts-read references-read comments-read array-read qualifiers-read locations-read letters-read texts-read-long references-read-long comments-read-long array-read-is qualifiers-read-long locations-read-long letters-read-long said-read.
-        land ! (from ! (stop !)) (init ! 28 refl (EL.lawful ReadAnswer-is.the-type ReadAnswer-has.the-laws 𝓤 H A W tt .typed r-read ((ReadAnswer-val r-read) ∷ []) r-read-is .0)) $
+        land ! (from ! (stop !)) (init ! 28 refl (LL.lawful Reported-is.the-type Reported-has.the-laws 𝓤 H A W .typed r-read ((Reported-val r-read) ∷ []) r-read-is .0)) $
         part-6 r-read r-read-is texts-read references-read comments-read array-read qualifiers-read locations-read letters-read texts-read-long references-read-long comments-read-long array-read-is qualifiers-read-long locations-read-long letters-read-long said-read)))
 
     abbrev part-4-holds : List Cell

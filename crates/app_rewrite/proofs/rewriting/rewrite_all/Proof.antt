@@ -26,12 +26,6 @@ enum-told c = search needs
 returns : tie.Need-returns Inv-loop μ-loop
 returns c = search needs
 
-enum-known-number : tie.Need-enum-known-number Inv-loop μ-loop
-enum-known-number c = search needs
-
-complain-requires : tie.Need-complain-requires Inv-loop μ-loop
-complain-requires c κs = search needs
-
 returns-2 : tie.Need-returns-2 Inv-loop μ-loop
 returns-2 c = search needs
 
@@ -46,9 +40,6 @@ loop-less c = search needs
 
 loop-again : tie.Need-loop-again Inv-loop μ-loop
 loop-again c = (search needs, search needs, search needs, search needs, search needs, search needs, search needs)
-
-returns-3 : tie.Need-returns-3 Inv-loop μ-loop
-returns-3 c = search needs
 
 same-length : tie.Need-same-length Inv-loop μ-loop
 same-length c = search needs
@@ -92,27 +83,6 @@ same-length-13 c = search needs
 same-length-14 : tie.Need-same-length-14 Inv-loop μ-loop
 same-length-14 c = search needs
 
-same-length-15 : tie.Need-same-length-15 Inv-loop μ-loop
-same-length-15 c = search needs
-
-same-length-16 : tie.Need-same-length-16 Inv-loop μ-loop
-same-length-16 c = search needs
-
-same-length-17 : tie.Need-same-length-17 Inv-loop μ-loop
-same-length-17 c = search needs
-
-same-length-18 : tie.Need-same-length-18 Inv-loop μ-loop
-same-length-18 c = search needs
-
-same-length-19 : tie.Need-same-length-19 Inv-loop μ-loop
-same-length-19 c = search needs
-
-same-length-20 : tie.Need-same-length-20 Inv-loop μ-loop
-same-length-20 c = search needs
-
-same-length-21 : tie.Need-same-length-21 Inv-loop μ-loop
-same-length-21 c = search needs
-
 pub rewrite-all-spec : {M : Type 1} → statement M
 rewrite-all-spec =
     tie.close
@@ -130,8 +100,10 @@ rewrite-all-spec =
     same-length-6
     same-length-7
     returns
-    enum-known-number
-    complain-requires
+    enum-known-next
+    add-ordinal
+    loop-less
+    loop-again
     same-length-8
     same-length-9
     same-length-10
@@ -139,16 +111,4 @@ rewrite-all-spec =
     same-length-12
     same-length-13
     same-length-14
-    returns-2
-    enum-known-next
-    add-ordinal
-    loop-less
-    loop-again
-    same-length-15
-    same-length-16
-    same-length-17
-    same-length-18
-    same-length-19
-    same-length-20
-    same-length-21
-    returns-3)
+    returns-2)

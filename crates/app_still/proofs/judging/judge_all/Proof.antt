@@ -7,11 +7,11 @@ use Rattle.app_still.proofs.judging.judge_all.Statement.{statement}
 use Rattle.app_still.proofs.judging.judge_all.Tie as tie
 
 abbrev Inv-loop : tie.InvT-loop
-Inv-loop input texts₀ references₀ comments₀ qualifiers₀ locations₀ letters₀ width at₀ ordinal₀ texts references comments qualifiers locations letters at ordinal =
+Inv-loop input texts₀ references₀ comments₀ qualifiers₀ locations₀ letters₀ options at₀ ordinal₀ texts references comments qualifiers locations letters at ordinal =
     (length texts ≡ length texts₀) × (length references ≡ length references₀) × (length comments ≡ length comments₀) × (length qualifiers ≡ length qualifiers₀) × (length locations ≡ length locations₀) × (length letters ≡ length letters₀)
 
 abbrev μ-loop : tie.MeasureT-loop
-μ-loop input texts₀ references₀ comments₀ qualifiers₀ locations₀ letters₀ width at₀ ordinal₀ texts references comments qualifiers locations letters at ordinal =
+μ-loop input texts₀ references₀ comments₀ qualifiers₀ locations₀ letters₀ options at₀ ordinal₀ texts references comments qualifiers locations letters at ordinal =
     suc (length input) - ordinal
 
 loop-holds : tie.Need-loop-holds Inv-loop μ-loop
@@ -19,9 +19,6 @@ loop-holds c = (refl, refl, refl, refl, refl, refl)
 
 returns : tie.Need-returns Inv-loop μ-loop
 returns c = search needs
-
-show-ordinal-requires : tie.Need-show-ordinal-requires Inv-loop μ-loop
-show-ordinal-requires c κs = search needs
 
 judge-at-requires : tie.Need-judge-at-requires Inv-loop μ-loop
 judge-at-requires c κs = search needs
@@ -115,7 +112,6 @@ judge-all-spec =
     same-length-5
     same-length-6
     returns
-    show-ordinal-requires
     judge-at-requires
     enum-told
     same-length-7

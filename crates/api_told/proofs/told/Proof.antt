@@ -1,8 +1,8 @@
--- `api_told::reading_of` meets its contract.
+-- `api_told::told` meets its contract.
 use borrow.Author.Needs.{needs}
 use Rattle.api_told.proofs.Laws.{done-told, refused-told, room-told}
-use Rattle.api_told.proofs.reading_of.Statement.{statement}
-use Rattle.api_told.proofs.reading_of.Tie as tie
+use Rattle.api_told.proofs.told.Statement.{statement}
+use Rattle.api_told.proofs.told.Tie as tie
 
 enum-known-answer : tie.Need-enum-known-answer
 enum-known-answer c = search needs
@@ -37,8 +37,8 @@ returns-2 c = search (refused-told, needs)
 returns-3 : tie.Need-returns-3
 returns-3 c = search (room-told, needs)
 
-pub reading-of-spec : {M : Type 1} → statement M
-reading-of-spec =
+pub told-spec : {M : Type 1} → statement M
+told-spec =
     tie.close
     (tie.spec
     enum-known-answer

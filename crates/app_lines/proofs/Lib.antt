@@ -1,0 +1,2 @@
+-- Laws of the line that a message tells.
+pub mod Laws

@@ -1,0 +1,111 @@
+//! Which line a refusal tells, found again from the words of document 02's ticket 2: the line is a count of LF from the place given, and each number has a line of its own. For 2, 4, 5 and 6 that
+//! line is found here; for 7, 8, 9 and 14 it is held that what is told can be such a line, and gb-io is asked whether all is well up to it.
+use crate::reading::departed_reading;
+use crate::Reading;
+use std::str::from_utf8;
+
+/// The line and the offset are those due with the number; with 0, 1 and 3 there are none.
+pub fn right(slice: &[u8], at: usize, number: usize, line: usize, offset: usize) -> Result<(), &'static str> {
+    if matches!(number, 0 | 1 | 3) {
+        return held((line, offset) == (0, 0), "a line or an offset with 0, 1 or 3");
+    }
+    held(at <= offset && offset <= slice.len(), "an offset ahead of the place or past the slice")?;
+    held(offset == at || slice[offset - 1] == b'\n', "an offset that is no line's first byte")?;
+    held(line == 1 + feeds(&slice[at..offset]), "another line than that of the offset")?;
+    if number == 2 {
+        return held(feeds(&slice[offset..]) == 0, "2: not the line of the slice's end");
+    }
+    let locus = stopped(slice, at);
+    if number == 4 {
+        return held(offset == locus, "4: not the line that stopped the search");
+    }
+    held(slice[locus..].starts_with(b"LOCUS"), "no LOCUS line, and another number than 2 and 4")?;
+    if number == 6 {
+        return held(offset == locus, "6: not the LOCUS line");
+    }
+    held(locus < offset, "a line ahead of the header")?;
+    let origin = begin(&slice[locus..offset], b"ORIGIN").last().map(|start| locus + start);
+    let text = first_line(&slice[offset..]);
+    // the record, if `//` stood there: gb-io reads it. Not where that line is no UTF-8: it may have spoilt a DEFINITION before it, which is one without it
+    let well_up_to = |end: usize| matches!(departed_reading(&[&slice[at..end], b"//\n"].concat()), Reading::Done(..));
+    held(origin.is_some() || from_utf8(text).is_err() || well_up_to(offset), "a trouble before that line")?;
+    match number {
+        5 => {
+            held(text.starts_with(b"DEFINITION "), "5: not a DEFINITION")?;
+            held(begin(&slice[locus..offset], b"DEFINITION ").count() == 1, "5: not the second DEFINITION")
+        }
+        7 => {
+            held(slice[offset..].windows(3).any(|w| w == b"\n//"), "7: no later line begins //")?;
+            let next = offset + text.len() + 1;
+            let (here, there) = (indent(text), indent(&slice[next..]));
+            // then what is wrong may stand in a further line of it; two quotes with a line end and an indent between them are one quote, so the second one may be what is wrong
+            let quote = slice[next + there..].starts_with(b"\"");
+            let goes_on = quote || there > here && !text.starts_with(b"FEATURES") || there == here && text[here..].starts_with(b"/");
+            match origin {
+                None => held(!text.starts_with(b"//") && (goes_on || !well_up_to(next)), "7: nothing is wrong with that line"),
+                Some(origin) => ends_letters(slice, origin, offset, |b, next| b == b'/' && next != Some(b'/'), "7: no single / after the letters"),
+            }
+        }
+        8 | 9 => {
+            let origin = origin.ok_or("8 or 9: no ORIGIN before that line")?;
+            ends_letters(slice, origin, offset, |b, _| (b == b'/') == (number == 8), "8 or 9: not the line of the / or of the byte")
+        }
+        14 => {
+            held(origin.is_none(), "14: a line after ORIGIN")?;
+            held(text.starts_with(b" ") || text.starts_with(b"CONTIG"), "14: neither a feature's line nor CONTIG's")?;
+            held(slice[offset..].iter().filter(|&&b| b == b'(').count() > 16, "14: no seventeen brackets from that line on")
+        }
+        _ => Err("another number than those of reading"),
+    }
+}
+
+fn held(so: bool, otherwise: &'static str) -> Result<(), &'static str> {
+    so.then_some(()).ok_or(otherwise)
+}
+
+fn feeds(bytes: &[u8]) -> usize {
+    bytes.iter().filter(|&&b| b == b'\n').count()
+}
+
+/// The bytes before the first LF.
+fn first_line(bytes: &[u8]) -> &[u8] {
+    bytes.split(|&b| b == b'\n').next().unwrap_or(b"")
+}
+
+fn indent(line: &[u8]) -> usize {
+    line.iter().take_while(|&&b| b == b' ').count()
+}
+
+/// Where lines begin with this.
+fn begin<'a>(bytes: &'a [u8], with: &'a [u8]) -> impl Iterator<Item = usize> + 'a {
+    (0..bytes.len()).filter(move |&i| bytes[i..].starts_with(with) && (i == 0 || bytes[i - 1] == b'\n'))
+}
+
+/// The first line from the place on that begins LOCUS, is not UTF-8, has a stray CR or has no end.
+fn stopped(slice: &[u8], at: usize) -> usize {
+    let mut start = at;
+    loop {
+        let line = first_line(&slice[start..]);
+        let end = start + line.len();
+        let text = line.strip_suffix(b"\r").unwrap_or(line);
+        if end == slice.len() || line.starts_with(b"LOCUS") || text.contains(&b'\r') || from_utf8(line).is_err() {
+            return start;
+        }
+        start = end + 1;
+    }
+}
+
+/// The line at the offset has a byte that ends the letters, with what follows it, as `due` says. If ORIGIN stands alone on its line, all that follows it is letters, and it is the first such byte.
+fn ends_letters(slice: &[u8], origin: usize, offset: usize, due: impl Fn(u8, Option<u8>) -> bool, otherwise: &'static str) -> Result<(), &'static str> {
+    let passed = |b: u8| b.is_ascii_alphanumeric() || matches!(b, b' ' | b'\r' | b'\n');
+    let tag = first_line(&slice[origin..]);
+    let alone = tag[6..].iter().all(|&b| matches!(b, b' ' | b'\t' | b'\r'));
+    let end = offset + first_line(&slice[offset..]).len();
+    let mut ends = (offset..end).filter(|&i| !passed(slice[i]));
+    let so = |i: usize| due(slice[i], slice.get(i + 1).copied());
+    if !alone {
+        return held(ends.any(so), otherwise);
+    }
+    let before = &slice[origin + tag.len()..offset];
+    held(before.iter().all(|&b| passed(b)) && ends.next().is_some_and(so), otherwise)
+}
