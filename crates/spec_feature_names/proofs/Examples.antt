@@ -1,6 +1,6 @@
 -- Keys and kinds, each with what is read of it, computed by the definitions: by the rule, by a list alone, and by a list with a word that does not fit, whose answer is then another.
 use Prim.Native.Nat.{ℕ}
-use mathlib.Core.Bool.{false}
+use mathlib.Core.Bool.{true, false}
 use mathlib.Core.Path.{_≡_, refl}
 use mathlib.Core.List.{List, [], _∷_, _++_, map}
 use lib.ListN.{replicate}
@@ -80,6 +80,11 @@ examples =
 pub unfit : map keyTaken ([] ∷ bytes "a=b" ∷ bytes "a\nb" ∷ bytes "a\rb" ∷ (195 ∷ []) ∷ []) ++ map (wordFits space) (bytes "a b" ∷ []) ++ map kindText (bytes "/gene" ∷ (195 ∷ 169 ∷ []) ∷ []) ≡ replicate 8 false
 unfolding chars utf8
 unfit = refl
+
+-- but the last two do before the Rust's rule of kinds: what is asked there is too little before ours
+pub fit-there : map (wordFits space) (bytes "/gene" ∷ (195 ∷ 169 ∷ []) ∷ []) ≡ replicate 2 true
+unfolding chars utf8
+fit-there = refl
 
 pub examples-hold : map (λ e. e .got) examples ≡ map (λ e. e .should) examples
 unfolding examples reads words no-rule by-list differ begins listed until chars utf8
