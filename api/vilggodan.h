@@ -39,6 +39,8 @@
  *    features     a struct a row: kind; location; first qualifier's row; number of qualifiers; first of the location's rows; number of these
  *    qualifiers   4 numbers a row: key; value (may be absent)
  *    locations    7 numbers a row: a part of a feature's location or of CONTIG, see below
+ * Any key is read that has one or more bytes but `=`, CR and LF and is UTF-8, and any kind of bytes 33 to 126 that does not begin with `/`: there is no list of
+ * allowed keys or kinds. To be written (else 11), a key too has bytes 33 to 126 alone, and both have to fit the width.
  *
  * LOCATIONS. A location's text is read into rows, a row for each base, range, place between two bases, word and gap. The rows of what stands in a word's brackets
  * come right before the word's own. A row is

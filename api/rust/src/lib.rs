@@ -132,7 +132,7 @@ pub struct Reference<'a> {
     pub remark: Option<&'a [u8]>,
 }
 
-/// A feature: its kind, where it lies, and its qualifiers.
+/// A feature: its kind, where it lies, and its qualifiers. Any kind is read that has one or more bytes 33 to 126 and does not begin with `/`: there is no list of allowed kinds.
 #[derive(Clone, Copy)]
 pub struct Feature<'a> {
     pub kind: &'a [u8],
@@ -156,7 +156,7 @@ impl<'a> Feature<'a> {
     }
 }
 
-/// A key with a value or without one.
+/// A key with a value or without one. Any key is read that has one or more bytes but `=`, CR and LF and is UTF-8: there is no list of allowed keys.
 #[derive(Clone, Copy, Debug, PartialEq, Eq)]
 pub struct Qualifier<'a> {
     pub key: &'a [u8],

@@ -10,13 +10,13 @@ use lib.ListN.{length, drop, getD, drop-of-length-le}
 use lib.Seq.{drop-cons}
 use Rattle.spec_format.specs.Bytes.{all, visible}
 use Rattle.spec_format.specs.Readers.{Ans, Got, No, Cut, passing, tag}
-use Rattle.spec_format.specs.Features.{kindText}
+use Rattle.spec_format.specs.Features.{qualifierKey, kindText}
 use Rattle.scan_bytes.specs.Places.{part}
 use Rattle.scan_bytes.specs.Views.{Texted, Emptied, PastOne}
 use Rattle.scan_bytes.specs.declared.Step.{Step}
 use Rattle.scan_bytes.specs.declared.Step.the-variants as step
 use Rattle.scan_bytes.specs.Parts.{length-part, part-none, part-cons}
-use Rattle.read_feature_names.specs.Headed.{Head, keySlash, keyText}
+use Rattle.read_feature_names.specs.Headed.{Head, keySlash}
 
 -- all bytes of a part pass a test, one at a time; r is what the test returned
 module _ (p : ℕ → Bool) (s : List ℕ) (i to : ℕ) (o : Bool) where
@@ -74,7 +74,7 @@ module _ (s : List ℕ) (i : ℕ) where
   unfolding tag
   slash-no h e = rw (drop-cons s i 0 h, tag, ne-eqb _ _ e)
 
-  pub slash-got : i < length s → getD s i 0 ≡ 47 → keyText (drop (i + 1) s) ≡ keySlash (drop i s)
+  pub slash-got : i < length s → getD s i 0 ≡ 47 → qualifierKey (drop (i + 1) s) ≡ keySlash (drop i s)
   unfolding tag
   slash-got h e = rw (add-one, drop-cons s i 0 h, tag, eq-eqb _ _ e)
 

@@ -4,10 +4,10 @@ use mathlib.Core.Path.{_≡_, refl, ap}
 use mathlib.Core.Bool.{false}
 use mathlib.Core.List.{List}
 use lib.ListN.{length, drop}
-use Rattle.spec_format.specs.Bytes.{bytes, spaces, space, notBlank}
+use Rattle.spec_format.specs.Bytes.{bytes, spaces, notBlank}
 use Rattle.spec_format.specs.Table.{Qualifier, Feature}
-use Rattle.spec_format.specs.Readers.{Ans, Got, No, Cut, bind, passing, tag, until1, spaces1, lineEnd, utf8Of}
-use Rattle.spec_format.specs.Features.{keyEnd, kindText, valueOf, qualifier, featureFrom, feature}
+use Rattle.spec_format.specs.Readers.{Ans, Got, No, Cut, bind, tag, until1, spaces1, lineEnd}
+use Rattle.spec_format.specs.Features.{qualifierKey, valueOf, qualifier, featureKind, featureFrom, feature}
 use Rattle.spec_format.specs.Deep.{asked, deepFrom, deepFeature}
 use Rattle.scan_bytes.specs.Places.{part}
 use Rattle.read_feature_names.specs.declared.Kind.{Kind}
@@ -32,7 +32,7 @@ abbrev pub kindGap : ℕ → List ℕ → List ℕ → Ans Head
 kindGap n k s = bind (spaces1 s) λ after s. Got (record { indent = n + length k + length after; kind = k }) s
 
 abbrev pub kindFrom : ℕ → List ℕ → Ans Head
-kindFrom n s = bind (passing kindText (until1 space s)) λ k s. kindGap n k s
+kindFrom n s = bind (featureKind s) λ k s. kindGap n k s
 
 abbrev pub featureHead : List ℕ → Ans Head
 featureHead s = bind (spaces1 s) λ before s. kindFrom (length before) s
@@ -54,7 +54,7 @@ pub record KindRead (s : List ℕ) (at : ℕ) (o : Ans Head) (r : Kind) : Type 0
 
 -- whatever is made of head and rest is made of the reader's three steps
 head-then : {A : Type 0} (f : Head → List ℕ → Ans A) (s : List ℕ) →
-    (bind (spaces1 s) λ before s. bind (passing kindText (until1 space s)) λ k s. bind (spaces1 s) λ after s.
+    (bind (spaces1 s) λ before s. bind (featureKind s) λ k s. bind (spaces1 s) λ after s.
     f (record { indent = length before + length k + length after; kind = k }) s) ≡ bind (featureHead s) f
 head-then {A} f s = go (spaces1 s)
   where
@@ -70,9 +70,9 @@ head-then {A} f s = go (spaces1 s)
     from n No = refl
     from n Cut = refl
 
-    go : (o : Ans (List ℕ)) → (bind o λ before s. bind (passing kindText (until1 space s)) λ k s. bind (spaces1 s) λ after s.
+    go : (o : Ans (List ℕ)) → (bind o λ before s. bind (featureKind s) λ k s. bind (spaces1 s) λ after s.
         f (record { indent = length before + length k + length after; kind = k }) s) ≡ bind (bind o λ before s. kindFrom (length before) s) f
-    go (Got b r) = from (length b) (passing kindText (until1 space r))
+    go (Got b r) = from (length b) (featureKind r)
     go No = refl
     go Cut = refl
 
@@ -85,12 +85,9 @@ pub deep-is : (s : List ℕ) → deepFeature s ≡ asked (bind (featureHead s) �
 unfolding deepFeature
 deep-is s = ap asked (head-then (λ h z. deepFrom false (h .indent) z) s)
 
--- a qualifier's key, behind its indent and `/`
-abbrev pub keyText : List ℕ → Ans (List ℕ)
-keyText s = utf8Of (until1 keyEnd s)
-
+-- a qualifier's key behind its `/`, and behind its indent too
 abbrev pub keySlash : List ℕ → Ans (List ℕ)
-keySlash s = bind (tag (bytes "/") s) λ _ s. keyText s
+keySlash s = bind (tag (bytes "/") s) λ _ s. qualifierKey s
 
 abbrev pub keyHead : ℕ → List ℕ → Ans (List ℕ)
 keyHead indent s = bind (tag (spaces indent) s) λ _ s. keySlash s
@@ -121,13 +118,13 @@ qualifier-is indent s = go (tag (spaces indent) s)
     text : (o : Ans (List ℕ)) → (bind o λ k s. bind (valueOf indent k s) λ v s. Got (record { key = k; value = v }) s) ≡ withKey indent o
     text o = refl
 
-    slash : (o : Ans Unit) → (bind o λ _ s. bind (keyText s) λ k s. bind (valueOf indent k s) λ v s. Got (record { key = k; value = v }) s) ≡ withKey indent (bind o λ _ s. keyText s)
+    slash : (o : Ans Unit) → (bind o λ _ s. bind (qualifierKey s) λ k s. bind (valueOf indent k s) λ v s. Got (record { key = k; value = v }) s) ≡ withKey indent (bind o λ _ s. qualifierKey s)
     slash (Got u r) = refl
     slash No = refl
     slash Cut = refl
 
     go : (o : Ans Unit) →
-        (bind o λ _ s. bind (tag (bytes "/") s) λ _ s. bind (keyText s) λ k s. bind (valueOf indent k s) λ v s. Got (record { key = k; value = v }) s) ≡ withKey indent (bind o λ _ s. keySlash s)
+        (bind o λ _ s. bind (tag (bytes "/") s) λ _ s. bind (qualifierKey s) λ k s. bind (valueOf indent k s) λ v s. Got (record { key = k; value = v }) s) ≡ withKey indent (bind o λ _ s. keySlash s)
     go (Got u r) = slash (tag (bytes "/") r)
     go No = refl
     go Cut = refl

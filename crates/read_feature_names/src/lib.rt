@@ -4,10 +4,10 @@ ghost use mathlib.Core.Path.{_≡_};
 ghost use Prim.Native.Nat.{_-_, _≤_, _<_};
 ghost use lib.ListN.{length, drop};
 ghost use Rattle.spec_format.specs.Bytes.{all, visible};
-ghost use Rattle.spec_format.specs.Features.{featuresHeader, kindText};
+ghost use Rattle.spec_format.specs.Features.{featuresHeader, qualifierKey, kindText};
 ghost use Rattle.scan_bytes.specs.Places.{part};
 ghost use Rattle.scan_bytes.specs.Views.{Emptied};
-ghost use Rattle.read_feature_names.specs.Headed.{headerWords, headerGap, kindGap, kindFrom, featureHead, KindRead, keyText, keySlash, keyHead, KeyRead};
+ghost use Rattle.read_feature_names.specs.Headed.{headerWords, headerGap, kindGap, kindFrom, featureHead, KindRead, keySlash, keyHead, KeyRead};
 
 // A feature's kind is first..end, and its location starts at `next`.
 pub enum Kind {
@@ -97,10 +97,10 @@ pub fn kind_at(s: &[u8], at: usize) -> Kind
     }
 }
 
-// A key, up to `=` or the line's end.
+// A key, up to `=` or the line's end: any that is UTF-8, there is no list of allowed keys.
 fn key_text(s: &[u8], at: usize, from: usize) -> Key
     requires { ⌜ (at < from) × (from ≤ length (now s)) ⌝ }
-    ensures { λ r. ⌜ KeyRead (now (s .entry)) at (keyText (drop from (now (s .entry)))) r ⌝ }
+    ensures { λ r. ⌜ KeyRead (now (s .entry)) at (qualifierKey (drop from (now (s .entry)))) r ⌝ }
 {
     match scan_bytes::until_key_end(s, from) {
         Step::No => Key::No,

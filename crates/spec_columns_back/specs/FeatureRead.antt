@@ -20,7 +20,8 @@ use Rattle.spec_texts_back.specs.Pieces.{spaces-back, noEnd, visible-noEnd, vis
 use Rattle.spec_texts_back.specs.FieldBack.{line-starts}
 use Rattle.spec_texts_back.specs.BareBack.{ends}
 use Rattle.spec_record_back.specs.QualifierBack.{outside, starts-outside}
-use Rattle.spec_record_back.specs.FeatureBack.{spaces-last, feature-steps, kind-read, no-feature}
+use Rattle.spec_feature_names.specs.Taken.{any-kind}
+use Rattle.spec_record_back.specs.FeatureBack.{spaces-last, feature-steps, no-feature}
 use Rattle.spec_columns_back.specs.Cells.{cell, last-cell, cell-short}
 use Rattle.spec_columns_back.specs.Further.{ended, goesOn, bare-read}
 
@@ -82,7 +83,7 @@ feature-read key l line ms lines s rest qs h c k t e q =
     (feature-steps (spaces 5 ++ (key ++ (gap ++ x₃))) (key ++ (gap ++ x₃)) (gap ++ x₃) x₃ (spaces 5) key gap
     (featureOf key (l ++ concat ms) qs) rest
     (spaces-back 4 (key ++ (gap ++ x₃)) (starts-more (but 32) key (gap ++ x₃) (seen-starts key (and-left (some key) _ k) kv)))
-    (kind-read key (gap ++ x₃) k refl)
+    (any-kind key (gap ++ x₃) k refl)
     (spaces-back (15 - length key) x₃ (starts-more (but 32) (ended l) (each ended lines ++ s) (line-starts l [] lv)))
     (rw length-replicate (omega (arith, length-replicate {A = ℕ} (15 - length key) 32)))
     (rw (b, t, q)))

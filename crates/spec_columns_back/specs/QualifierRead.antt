@@ -1,9 +1,9 @@
 -- EVERY QUALIFIER at column 22 is read as its key and value: a key alone, with a bare value over lines, with a quoted value as the public document presents it.
 use Prim.Native.Nat.{ℕ}
-use mathlib.Core.Bool.{Bool, true, _&&_, not}
+use mathlib.Core.Bool.{true, not}
 use mathlib.Core.Path.{_≡_, refl, _∙_}
 use mathlib.Core.List.{List, [], _∷_, _++_, append-assoc}
-use Rattle.spec_format.specs.Bytes.{May, absent, is, bytes, spaces, some, starts, all, same, each, concat, quote, but}
+use Rattle.spec_format.specs.Bytes.{May, absent, is, bytes, spaces, starts, all, same, each, concat, quote, but}
 use Rattle.spec_format.specs.Utf8.{utf8}
 use Rattle.spec_format.specs.Readers.{Got, many0}
 use Rattle.spec_format.specs.Features.{valueOf, qualifier, keyEnd}
@@ -11,17 +11,13 @@ use Rattle.spec_format.specs.Table.{Qualifier}
 use Rattle.spec_public.specs.Public.{qualifierColumns, presented, brokenText, continued}
 use Rattle.spec_loops.specs.Loops.{many0-more, many0-stop}
 use Rattle.spec_loops.specs.Shrinks.{qualifier-small}
-use Rattle.spec_texts_back.specs.Tests.{and-left, and-right}
 use Rattle.spec_texts_back.specs.Pieces.{noEnd}
 use Rattle.spec_texts_back.specs.BareBack.{ends}
 use Rattle.spec_texts_back.specs.QuotedBack.{presented-back}
-use Rattle.spec_record_back.specs.QualifierBack.{outside, outside-qualifier, inKey, key-steps, flag-value, pair-value, value-bare, value-quoted}
+use Rattle.spec_feature_names.specs.Taken.{keyTaken}
+use Rattle.spec_record_back.specs.QualifierBack.{outside, outside-qualifier, key-steps, flag-value, pair-value, value-bare, value-quoted}
 use Rattle.spec_columns_back.specs.Cells.{cell, last-cell}
 use Rattle.spec_columns_back.specs.Further.{ended, goesOn, bare-read}
-
--- "key (one or more bytes but `=`, CR, LF)"; "Texts must be UTF-8"
-abbrev pub keyTaken : List ℕ → Bool
-keyTaken k = some k && (all inKey k && utf8 k)
 
 line-is : (t line : List ℕ) → qualifierColumns t line ≡ true → line ≡ spaces 21 ++ t
 line-is t line h = cell line 0 21 (spaces 21) t _ h (λ h. last-cell line 21 t h)
@@ -30,9 +26,7 @@ line-is t line h = cell line 0 21 (spaces 21) t _ h (λ h. last-cell line 21 t h
 key-read :
     (k x y : List ℕ) (v : May (List ℕ)) (rest : List ℕ) → y ≡ spaces 21 ++ (47 ∷ (k ++ x)) → keyTaken k ≡ true → starts keyEnd x ≡ true →
     valueOf 21 k x ≡ Got v rest → qualifier 21 y ≡ Got (record { key = k; value = v }) rest
-key-read k x y v rest e h s g =
-    let a = and-right (some k) _ h in
-    rw e (key-steps k x v rest (and-left (some k) _ h) (and-left (all inKey k) _ a) (and-right (all inKey k) _ a) s g)
+key-read k x y v rest e h s g = rw e (key-steps k x v rest h s g)
 
 -- A KEY ALONE has no value
 pub flag-read :

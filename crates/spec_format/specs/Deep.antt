@@ -4,10 +4,10 @@ use mathlib.Core.Bool.{Bool, true, false, _||_, not}
 use mathlib.Core.List.{List, _++_}
 use lib.ListN.{length}
 use lib.Dec.{eqb}
-use Rattle.spec_format.specs.Bytes.{pick, bytes, spaces, concat, space}
-use Rattle.spec_format.specs.Readers.{Ans, Got, No, Cut, bind, passing, tag, until1, spaces1, lineEnd, Turn, more, members}
+use Rattle.spec_format.specs.Bytes.{pick, bytes, spaces, concat}
+use Rattle.spec_format.specs.Readers.{Ans, Got, No, Cut, bind, tag, spaces1, lineEnd, Turn, more, members}
 use Rattle.spec_format.specs.Location.{run, past, reading, isDeep}
-use Rattle.spec_format.specs.Features.{notSlash, kindText}
+use Rattle.spec_format.specs.Features.{notSlash, featureKind}
 
 -- neither CR nor LF
 abbrev pub inLine : ℕ → Bool
@@ -36,7 +36,7 @@ asked Cut = false
 -- a feature whose location is too deep stands here: spaces, kind, spaces, as in `feature`
 unfoldable pub deepFeature : List ℕ → Bool
 deepFeature s =
-    asked (bind (spaces1 s) λ before s. bind (passing kindText (until1 space s)) λ kind s. bind (spaces1 s) λ after s.
+    asked (bind (spaces1 s) λ before s. bind (featureKind s) λ kind s. bind (spaces1 s) λ after s.
     deepFrom false (length before + length kind + length after) s)
 
 -- a CONTIG that is too deep

@@ -73,19 +73,27 @@ value indent key s = orElse (utf8Of (quoted (same key (bytes "translation")) ind
 abbrev pub keyEnd : ℕ → Bool
 keyEnd b = eqb b 61 || (eqb b 13 || eqb b 10)
 
+-- `qualifier_key`: "key (one or more bytes but `=`, CR, LF)", and UTF-8 as every text. Any such key is taken: there is no list of allowed keys (crates/spec_feature_names)
+abbrev pub qualifierKey : List ℕ → Ans (List ℕ)
+qualifierKey s = utf8Of (until1 keyEnd s)
+
 -- "then a line end or `=` and a value"
 unfoldable pub valueOf : ℕ → List ℕ → List ℕ → Ans (May (List ℕ))
 valueOf indent key s = orElse (bind (tag (bytes "=") s) λ _ s. mapped is (value indent key s)) (mapped (λ _. absent) (lineEnd s))
 
--- `qualifier`: "A qualifier is indent, `/`, key (one or more bytes but `=`, CR, LF), .."
+-- `qualifier`: "A qualifier is indent, `/`, key .."
 unfoldable pub qualifier : ℕ → List ℕ → Ans Qualifier
 qualifier indent s =
-    bind (tag (spaces indent) s) λ _ s. bind (tag (bytes "/") s) λ _ s. bind (utf8Of (until1 keyEnd s)) λ key s.
+    bind (tag (spaces indent) s) λ _ s. bind (tag (bytes "/") s) λ _ s. bind (qualifierKey s) λ key s.
     bind (valueOf indent key s) λ value s. Got (record { key = key; value = value }) s
 
 -- departure 3: "kinds for number 11's bytes and first byte, any length"
 abbrev pub kindText : List ℕ → Bool
 kindText t = some t && (all visible t && not (starts slash t))
+
+-- `feature_kind`, the bytes before the next space. Any such kind is taken: there is no list of allowed kinds
+abbrev pub featureKind : List ℕ → Ans (List ℕ)
+featureKind s = passing kindText (until1 space s)
 
 -- from the location on; ticket 1: "any other bad location is 7 or 2", so a feature whose location has no reading is not taken
 unfoldable pub featureFrom : ℕ → List ℕ → List ℕ → Ans Feature
@@ -96,5 +104,5 @@ featureFrom indent kind s =
 -- `feature`: "for each feature spaces, kind, spaces, location. All before the location is the feature's indent"
 unfoldable pub feature : List ℕ → Ans Feature
 feature s =
-    bind (spaces1 s) λ before s. bind (passing kindText (until1 space s)) λ kind s. bind (spaces1 s) λ after s.
+    bind (spaces1 s) λ before s. bind (featureKind s) λ kind s. bind (spaces1 s) λ after s.
     featureFrom (length before + length kind + length after) kind s

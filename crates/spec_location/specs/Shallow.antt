@@ -7,11 +7,11 @@ use native.Mathlib.Omega.{arith}
 use borrow.Author.Tests.{not-true}
 use lib.ListN.{length}
 use lib.Dec.{eqb}
-use Rattle.spec_format.specs.Bytes.{May, bytes, spaces, starts, but, space}
-use Rattle.spec_format.specs.Readers.{Ans, Got, No, Cut, passing, optional, tag, until, until1, spaces1}
+use Rattle.spec_format.specs.Bytes.{May, bytes, spaces, starts, but}
+use Rattle.spec_format.specs.Readers.{Ans, Got, No, Cut, passing, optional, tag, until, spaces1}
 use Rattle.spec_format.specs.Table.{Feature, Contig}
 use Rattle.spec_format.specs.Header.{fieldText, fieldBytes}
-use Rattle.spec_format.specs.Features.{kindText, bare, featureFrom, feature}
+use Rattle.spec_format.specs.Features.{featureKind, bare, featureFrom, feature}
 use Rattle.spec_format.specs.Location.{Reading, one, none, tooDeep, reading, isOne, isDeep, locates}
 use Rattle.spec_format.specs.Deep.{soFar, asked, deepFrom, deepFeature, deepContig}
 use Rattle.spec_format.specs.Record.{features, baseCount, contig, isThere, deepIn}
@@ -54,9 +54,9 @@ unfolding feature deepFeature
 shallow-feature s f r h = go (spaces1 s) refl
   where
     go : (o : Ans (List ℕ)) → spaces1 s ≡ o → deepFeature s ≡ false
-    go (Got before s₁) e₁ = on (passing kindText (until1 space s₁)) refl
+    go (Got before s₁) e₁ = on (featureKind s₁) refl
       where
-        on : (o : Ans (List ℕ)) → passing kindText (until1 space s₁) ≡ o → deepFeature s ≡ false
+        on : (o : Ans (List ℕ)) → featureKind s₁ ≡ o → deepFeature s ≡ false
         on (Got kind s₂) e₂ = last (spaces1 s₂) refl
           where
             last : (o : Ans (List ℕ)) → spaces1 s₂ ≡ o → deepFeature s ≡ false

@@ -7,9 +7,9 @@ use mathlib.Core.List.{List, [], _∷_, _++_, append-assoc}
 use lib.ListN.{length, length-append, length-replicate}
 use lib.Dec.{leb}
 use borrow.Author.Tests.{leb-true}
-use Rattle.spec_format.specs.Bytes.{bytes, spaces, some, starts, all, each, visible, but, space, slash}
-use Rattle.spec_format.specs.Readers.{Got, No, passing, tag, until, until1, spaces1, lineEnd, more, fitTurn, many0, tryTurn, whileFits}
-use Rattle.spec_format.specs.Features.{featuresHeader, bare, qualifier, kindText, featureFrom, feature}
+use Rattle.spec_format.specs.Bytes.{bytes, spaces, some, starts, all, each, visible, but, slash}
+use Rattle.spec_format.specs.Readers.{Got, No, tag, until, spaces1, lineEnd, more, fitTurn, many0, tryTurn, whileFits}
+use Rattle.spec_format.specs.Features.{featuresHeader, bare, qualifier, kindText, featureKind, featureFrom, feature}
 use Rattle.spec_format.specs.Location.{locates, rowsIn}
 use Rattle.spec_format.specs.Record.{features}
 use Rattle.spec_format.specs.Table.{Qualifier, Feature}
@@ -23,9 +23,10 @@ use Rattle.spec_loops.specs.Shrinks.{qualifier-small, feature-small}
 use Rattle.spec_location.specs.Bytes.{locates-some, locates-visible}
 use Rattle.spec_rooms.specs.LocationRows.{rows-are}
 use Rattle.spec_texts_back.specs.Tests.{and-left, and-right, all-head, all-tail, all-imp, all-first, starts-more}
-use Rattle.spec_texts_back.specs.Pieces.{until-back, spaces-back, visible-but}
+use Rattle.spec_texts_back.specs.Pieces.{spaces-back, visible-but}
 use Rattle.spec_texts_back.specs.Joins.{each-follow, each-back}
 use Rattle.spec_texts_back.specs.BareBack.{ends, commas-starts, commas-back}
+use Rattle.spec_feature_names.specs.Taken.{any-kind}
 use Rattle.spec_record_back.specs.QualifierBack.{qualifier-back, qualifier-follow, outside, outside-ends, outside-qualifier, starts-outside}
 
 all-both : {A : Type 0} (p q : A → Bool) (xs : List A) → all p xs ≡ true → all q xs ≡ true → all (λ x. p x && q x) xs ≡ true
@@ -72,16 +73,10 @@ location-back W kind location rest qs w f n g fine =
     rw (b, f, qualifiers-back W rest fine qs g)
 
 pub feature-steps :
-    (s x₁ x₂ x₃ a k c : List ℕ) (f : Feature) (r : List ℕ) → spaces1 s ≡ Got a x₁ → passing kindText (until1 space x₁) ≡ Got k x₂ →
+    (s x₁ x₂ x₃ a k c : List ℕ) (f : Feature) (r : List ℕ) → spaces1 s ≡ Got a x₁ → featureKind x₁ ≡ Got k x₂ →
     spaces1 x₂ ≡ Got c x₃ → length a + length k + length c ≡ 21 → featureFrom 21 k x₃ ≡ Got f r → feature s ≡ Got f r
 unfolding feature
 feature-steps s x₁ x₂ x₃ a k c f r e₁ e₂ e₃ e₄ e₅ = rw (e₁, e₂, e₃, e₄, e₅)
-
-pub kind-read : (k x : List ℕ) → kindText k ≡ true → starts space x ≡ true → passing kindText (until1 space (k ++ x)) ≡ Got k x
-kind-read k x h e =
-    let s : some k ≡ true = and-left (some k) _ h in
-    let a : all visible k ≡ true = and-left (all visible k) (not (starts slash k)) (and-right (some k) _ h) in
-    rw (until-back space k x (all-imp visible (but 32) visible-but k a) e, s, h)
 
 pub spaces-last : (n : ℕ) (x : List ℕ) → spaces n ++ 32 ∷ x ≡ spaces (suc n) ++ x
 spaces-last zero x = refl
@@ -148,7 +143,7 @@ feature-back W f rest w h g rows fine =
     rw (lines-split W f rest len)
     (feature-steps (spaces 5 ++ (k ++ (gap ++ x₃))) (k ++ (gap ++ x₃)) (gap ++ x₃) x₃ (spaces 5) k gap f rest
     (spaces-back 4 (k ++ (gap ++ x₃)) (starts-more (but 32) k (gap ++ x₃) sk))
-    (kind-read k (gap ++ x₃) kt refl)
+    (any-kind k (gap ++ x₃) kt refl)
     (spaces-back (15 - length k) x₃ (commas-starts W 21 (but 32) (length l) 21 l x₄ w sl))
     (rw length-replicate (omega (arith, length-replicate {A = ℕ} (15 - length k) 32)))
     (rw (rows-are false l (f .rows) rows lt) (location-back W k l rest (f .qualifiers) w lt ns q fine)))

@@ -5,11 +5,11 @@ use mathlib.Core.Bool.{Bool, true, false, _&&_, not}
 use mathlib.Core.Path.{_≡_, refl, ap, _∙_}
 use mathlib.Core.List.{List, [], _∷_, _++_, append-assoc}
 use lib.ListN.{length, length-append}
-use lib.Dec.{eqb, ltb, leb}
+use lib.Dec.{eqb, leb}
 use borrow.Author.Tests.{ltb-true, lt-ltb, leb-true, not-true}
 use Rattle.spec_format.specs.Bytes.{pick, May, absent, is, bytes, spaces, some, starts, all, same, visible, but}
-use Rattle.spec_format.specs.Utf8.{chars, utf8}
-use Rattle.spec_format.specs.Readers.{Got, No, tag, until, lineEnd}
+use Rattle.spec_format.specs.Utf8.{utf8}
+use Rattle.spec_format.specs.Readers.{Got, No, tag, lineEnd}
 use Rattle.spec_format.specs.Features.{bare, quoted, value, keyEnd, valueOf, qualifier}
 use Rattle.spec_format.specs.Table.{Qualifier}
 use Rattle.spec_format.specs.Wrap.{commaLines, wrapLocation, wrapped, wrapText}
@@ -17,25 +17,14 @@ use Rattle.spec_format.specs.Write.{commaKey, bareKey, keyText, valueLines, qua
 use Rattle.spec_format.specs.WellFormed.{commaText, ifIs, keyFine, valueFine, qualifierFine}
 use Rattle.spec_format.specs.Keeping.{linesKept, noSlash, noQuoteFirst, translationKept, bareKept, valueKept, qualifierKept}
 use Rattle.spec_texts_back.specs.Tests.{and-left, and-right, and-both, all-head, all-tail, all-and}
-use Rattle.spec_texts_back.specs.Pieces.{until-back, noEnd, visible-noEnd}
+use Rattle.spec_texts_back.specs.Pieces.{noEnd, visible-noEnd}
 use Rattle.spec_texts_back.specs.WrapKept.{laid-one, wrapped-kept}
 use Rattle.spec_texts_back.specs.BareBack.{ends, line-bare, commas-starts, commas-back}
 use Rattle.spec_texts_back.specs.QuotedBack.{quoted-back, joined-back}
+use Rattle.spec_feature_names.specs.Taken.{inside, keyTaken, any-key, visible-utf8}
 use Rattle.spec_format.specs.Impossible.{impossible}
 
 -- ---- bytes
-
-visible-chars : (t : List ℕ) → all visible t ≡ true → chars 0 0 0 t ≡ true
-unfolding chars
-visible-chars [] h = refl
-visible-chars (b ∷ t) h =
-    let u : b ≤ 126 = leb-true b 126 (and-right (leb 33 b) (leb b 126) (all-head visible b t h)) in
-    let l : ltb b 128 ≡ true = lt-ltb b 128 (omega arith) in
-    rw (l, chars) (visible-chars t (all-tail visible b t h))
-
-visible-utf8 : (t : List ℕ) → all visible t ≡ true → utf8 t ≡ true
-unfolding utf8
-visible-utf8 t h = visible-chars t h
 
 no-end : (b : ℕ) → but 10 b ≡ true → but 13 b ≡ true → noEnd b ≡ true
 no-end b h k = and-both (but 10 b) (but 13 b) h k
@@ -142,15 +131,11 @@ module _ (W : ℕ) (k v rest : List ℕ) (room : 25 + length k ≤ W) (fine : en
 
 -- ---- a qualifier
 
--- a byte of a key
-abbrev pub inKey : ℕ → Bool
-inKey b = not (keyEnd b)
-
 pub key-steps :
-    (k x : List ℕ) (v : May (List ℕ)) (r : List ℕ) → some k ≡ true → all inKey k ≡ true → utf8 k ≡ true → starts keyEnd x ≡ true →
-    valueOf 21 k x ≡ Got v r → qualifier 21 (keyText k ++ x) ≡ Got (record { key = k; value = v }) r
+    (k x : List ℕ) (v : May (List ℕ)) (r : List ℕ) → keyTaken k ≡ true → starts keyEnd x ≡ true → valueOf 21 k x ≡ Got v r →
+    qualifier 21 (keyText k ++ x) ≡ Got (record { key = k; value = v }) r
 unfolding qualifier tag
-key-steps k x v r s a u e h = let f : until keyEnd (k ++ x) ≡ Got k x = until-back keyEnd k x a e in rw (f, s, u, h)
+key-steps k x v r t e h = rw (any-key k x t e, h)
 
 some-pos : (k : List ℕ) → some k ≡ true → 1 ≤ length k
 some-pos [] h = impossible cc
@@ -181,20 +166,23 @@ parts-back W k o rest f v h e = go o v h
     free : all (but 61) k ≡ true
     free = search (and-left, and-right)
 
-    inside : all inKey k ≡ true
-    inside = all-and visible (but 61) inKey key-byte k seen free
+    within : inside keyEnd k ≡ true
+    within = all-and visible (but 61) (λ b. not (keyEnd b)) key-byte k seen free
+
+    taken : keyTaken k ≡ true
+    taken = and-both (some k) _ held (and-both (inside keyEnd k) _ within (visible-utf8 k seen))
 
     go :
         (o : May (List ℕ)) → ifIs (valueFine k) o ≡ true → ifIs (valueKept W k) o ≡ true →
         qualifier 21 (qualifierText W k o ++ rest) ≡ Got (record { key = k; value = o }) rest
-    go absent v h = rw (append-assoc (keyText k) (bytes "\n") rest) (key-steps k (10 ∷ rest) absent rest held inside (visible-utf8 k seen) refl (flag-value k rest))
+    go absent v h = rw (append-assoc (keyText k) (bytes "\n") rest) (key-steps k (10 ∷ rest) absent rest taken refl (flag-value k rest))
     go (is t) v h =
         let x : List ℕ = valueText W k t ++ rest in
         let l : 25 + length k ≤ W = omega (arith, long, some-pos k held) in
         let e₁ : qualifierText W k (is t) ++ rest ≡ keyText k ++ (61 ∷ x) =
         ap (λ (y : List ℕ). y ++ rest) (value-lines W k t) ∙ append-assoc (keyText k ++ bytes "=") (valueText W k t) rest ∙
         append-assoc (keyText k) (bytes "=") x in
-        rw e₁ (key-steps k (61 ∷ x) (is t) rest held inside (visible-utf8 k seen) refl (pair-value k t x rest (value-back W k t rest l e v h)))
+        rw e₁ (key-steps k (61 ∷ x) (is t) rest taken refl (pair-value k t x rest (value-back W k t rest l e v h)))
 
 -- A QUALIFIER is read back
 pub qualifier-back :

@@ -5,11 +5,11 @@ use mathlib.Core.Path.{_≡_, refl}
 use mathlib.Core.List.{List, []}
 use lib.ListN.{length, drop}
 use lib.Dec.{eqb, leb}
-use Rattle.spec_format.specs.Bytes.{pick, May, bytes, all, space}
-use Rattle.spec_format.specs.Readers.{Ans, Got, No, Cut, bind, mapped, passing, optional, tag, until1, spaces1, tryTurn, membersUpTo, members, end, many0, whileFits}
+use Rattle.spec_format.specs.Bytes.{pick, May, bytes, all}
+use Rattle.spec_format.specs.Readers.{Ans, Got, No, Cut, bind, mapped, passing, optional, tag, spaces1, tryTurn, membersUpTo, members, end, many0, whileFits}
 use Rattle.spec_format.specs.Table.{Locus, Qualifier, Feature, Contig, Table}
 use Rattle.spec_format.specs.Header.{Field, fieldBytes, headerField, every, textIn}
-use Rattle.spec_format.specs.Features.{bare, qualifier, kindText, feature, featureFrom, featuresHeader}
+use Rattle.spec_format.specs.Features.{bare, qualifier, featureKind, feature, featureFrom, featuresHeader}
 use Rattle.spec_format.specs.Location.{locates, rowsIn}
 use Rattle.spec_format.specs.Origin.{Letters, AtSlash, AtEnd, Bad, letters, originTag}
 use Rattle.spec_format.specs.Locus.{preamble, locus}
@@ -74,8 +74,8 @@ feature-read : (s : List ℕ) → gives featureRead (feature s) ≡ true
 unfolding feature
 feature-read s =
     gives-then featureRead (spaces1 s)
-    (λ before r. bind (passing kindText (until1 space r)) λ kind r. bind (spaces1 r) λ after r. featureFrom (length before + length kind + length after) kind r)
-    (λ before r. gives-then featureRead (passing kindText (until1 space r))
+    (λ before r. bind (featureKind r) λ kind r. bind (spaces1 r) λ after r. featureFrom (length before + length kind + length after) kind r)
+    (λ before r. gives-then featureRead (featureKind r)
     (λ kind r. bind (spaces1 r) λ after r. featureFrom (length before + length kind + length after) kind r)
     (λ kind r. gives-then featureRead (spaces1 r) (λ after r. featureFrom (length before + length kind + length after) kind r)
     (λ after r. feature-from (length before + length kind + length after) kind r)))
