@@ -3,9 +3,10 @@ import json
 import re
 
 
-def _text_goes_on(data):
-    """Whether ORIGIN has a text, and behind its line the input ends or goes on at the text's column: what ticket 5 changes."""
-    return any(line[2].strip(b" \t\r") and not data[line.end():line.end() + len(line[1])].strip(b" ") for line in re.finditer(rb"^(ORIGIN +)(.*)\n", data, re.M))
+def _origin_goes_on(v):
+    """Whether ORIGIN has a text, and behind its line the input ends or goes on at the text's column: what ticket 5 changes. Other numbers are decided ahead of ORIGIN."""
+    data = bytes.fromhex(v["hex"])
+    return v["number"] in (0, 2, 6, 7, 8, 9) and any(line[2].strip(b" \t\r") and not data[line.end():line.end() + len(line[1])].strip(b" ") for line in re.finditer(rb"^(ORIGIN +)(.*)\n", data, re.M))
 
 
 def standing(folder, name):
@@ -16,5 +17,5 @@ def standing(folder, name):
     older = name in ("requests/ticket1-read.jsonl", "requests/ticket2-read.jsonl")
     for line, text in enumerate((folder / name).read_text().splitlines(), 1):
         v = json.loads(text)
-        if line not in overtaken and not (older and _text_goes_on(bytes.fromhex(v["hex"]))):
+        if line not in overtaken and not (older and _origin_goes_on(v)):
             yield line, v
