@@ -298,6 +298,7 @@ answers =
     record { got = origin-read (bytes "LOCUS x 0 bp DNA linear SYN 01-MAR-2024\nORIGIN x\n       a\n//\n"); should = 8 ∷ 0 ∷ [] } ∷
     record { got = origin-read (bytes "LOCUS x\nORIGIN x\n       a-b\n//\n"); should = 9 ∷ 0 ∷ [] } ∷
     record { got = origin-read (bytes "LOCUS x\nORIGIN x\n       a/b\n//\n"); should = 7 ∷ 0 ∷ [] } ∷
+    record { got = origin-read (bytes "LOCUS x\nORIGIN x\n       //\n//\n"); should = 0 ∷ 27 ∷ [] } ∷
     record { got = origin-read (bytes "LOCUS x\nORIGIN x\n       " ++ 255 ∷ bytes "\n//\n"); should = 9 ∷ 0 ∷ [] } ∷
     record { got = origin-read (bytes "LOCUS x 0 bp DNA linear SYN 01-MAR-2024\nORIGIN x\n"); should = 0 ∷ 49 ∷ [] } ∷
     []
