@@ -16,10 +16,10 @@ const ROUND: usize = 4 << 20;
 
 const GB_IO: [&str; 2] = ["gb-io, parse_slice", "gb-io, SeqReader"];
 const GB_IO_WRITES: [&str; 1] = ["gb-io, SeqWriter"];
-const OTHERS: [&str; 4] = ["library, asked for sizes first", "library, room at hand", "landing before, room at hand", "memcpy"];
+const OTHERS: [&str; 4] = ["library, asked for sizes first", "library, room at hand", "the other, room at hand", "memcpy"];
 
 /// The library of another landing, if `evidence/run` was given one; else this one once more, which shows what two equal ones differ by.
-fn before() -> Library {
+fn other() -> Library {
     std::env::var("EVIDENCE_BEFORE").ok().map_or(THIS, |path| library::opened(&path).expect("a library of another landing"))
 }
 
@@ -30,7 +30,8 @@ pub fn run(rounds: u64) -> bool {
         ("feature-heavy, 4 MB", table(&mut r, 6_000, 19_500)), ("letters alone, 10 MB", table(&mut r, 8_280_000, 0)),
         ("letters alone, 64 KiB", table(&mut r, 51_700, 0)), ("letters alone, 16 MiB", table(&mut r, 13_244_000, 0))];
     println!("speed: {rounds} rounds, turn by turn; nanoseconds for a byte of the record's text, best and worst round;");
-    println!("how many times the speed of the faster gb-io (best against best; worst round), and how many times memcpy's time");
+    println!("how many times the speed of the faster gb-io (best against best; worst round), and how many times memcpy's time;");
+    println!("the other is {}", if std::env::var("EVIDENCE_BEFORE").is_ok() { "the library of another landing" } else { "the same library" });
     inputs.into_iter().all(|(name, table)| measured(name, &table, rounds).is_some())
         && headers().into_iter().chain(locations()).all(|(name, text)| measured_reading(name, &text, rounds).is_some())
 }
@@ -59,12 +60,12 @@ fn locations() -> [(&'static str, Vec<u8>); 5] {
 }
 
 fn measured_reading(name: &str, text: &[u8], rounds: u64) -> Option<()> {
-    let (seq, before) = (parse_slice(text).ok()?.pop()?, before());
+    let (seq, other) = (parse_slice(text).ok()?.pop()?, other());
     let mut room = read_asked(text)?;
     let mut out = vec![0; text.len()];
     let mut reading = vec![Vec::new(); GB_IO.len() + OTHERS.len()];
     for _ in 0..rounds {
-        time_reading(before, &mut reading, text, &mut room, &mut out, 1);
+        time_reading(other, &mut reading, text, &mut room, &mut out, 1);
     }
     println!("\n{name}: {} bytes, {} comments, {} features", text.len(), seq.comments.len(), seq.features.len());
     show("reading", text.len(), &GB_IO, &reading);
@@ -72,12 +73,12 @@ fn measured_reading(name: &str, text: &[u8], rounds: u64) -> Option<()> {
 }
 
 /// A turn of each contender.
-fn time_reading(before: Library, reading: &mut [Vec<f64>], text: &[u8], room: &mut Rooms, out: &mut [u8], repeats: usize) {
+fn time_reading(other: Library, reading: &mut [Vec<f64>], text: &[u8], room: &mut Rooms, out: &mut [u8], repeats: usize) {
     reading[0].push(timed(repeats, || parse_slice(black_box(text)).unwrap()));
     reading[1].push(timed(repeats, || SeqReader::new(black_box(text)).next().unwrap().unwrap()));
     reading[2].push(timed(repeats, || read_asked(black_box(text)).unwrap()));
     reading[3].push(timed(repeats, || read_at_hand(THIS, black_box(text), room)));
-    reading[4].push(timed(repeats, || read_at_hand(before, black_box(text), room)));
+    reading[4].push(timed(repeats, || read_at_hand(other, black_box(text), room)));
     reading[5].push(timed(repeats, || out[..text.len()].copy_from_slice(black_box(text))));
 }
 
@@ -85,7 +86,7 @@ fn measured(name: &str, table: &Table, rounds: u64) -> Option<()> {
     let Writing::Done(text) = asis::write(table, false, false) else {
         return None;
     };
-    let (seq, before) = (parse_slice(&text).ok()?.pop()?, before());
+    let (seq, other) = (parse_slice(&text).ok()?.pop()?, other());
     let rooms = read_asked(&text)?;
     let mut room = rooms.clone();
     let size = size_of(&rooms)?;
@@ -94,11 +95,11 @@ fn measured(name: &str, table: &Table, rounds: u64) -> Option<()> {
     let mut reading = vec![Vec::new(); GB_IO.len() + OTHERS.len()];
     let mut writing = vec![Vec::new(); GB_IO_WRITES.len() + OTHERS.len()];
     for _ in 0..rounds {
-        time_reading(before, &mut reading, &text, &mut room, &mut out, repeats);
+        time_reading(other, &mut reading, &text, &mut room, &mut out, repeats);
         writing[0].push(timed(repeats, || write_gb_io(black_box(&seq))));
         writing[1].push(timed(repeats, || write_asked(black_box(&rooms)).unwrap()));
         writing[2].push(timed(repeats, || THIS.write(&mut out[..size], black_box(&rooms), HOW)));
-        writing[3].push(timed(repeats, || before.write(&mut out[..size], black_box(&rooms), HOW)));
+        writing[3].push(timed(repeats, || other.write(&mut out[..size], black_box(&rooms), HOW)));
         writing[4].push(timed(repeats, || out[..text.len()].copy_from_slice(black_box(&text))));
     }
     if room.texts != rooms.texts || room.letters != rooms.letters || rooms.letters != seq.seq {

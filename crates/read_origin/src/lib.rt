@@ -65,6 +65,7 @@ fn origin_text(s: &[u8], at: usize) -> Step
     }
 }
 
+// Blanks alone, or else a text.
 fn origin_rest(s: &[u8], at: usize) -> Step
     requires { ⌜ at ≤ length (now s) ⌝ }
     ensures { λ r. ⌜ Passed (now (s .entry)) at (originRest (drop at (now (s .entry)))) r ⌝ }
@@ -76,7 +77,7 @@ fn origin_rest(s: &[u8], at: usize) -> Step
     }
 }
 
-// The word alone, or else with a text.
+// ORIGIN's line.
 pub fn origin_at(s: &[u8], at: usize) -> Step
     requires { ⌜ at ≤ length (now s) ⌝ }
     ensures { λ r. ⌜ Passed (now (s .entry)) at (originTag (drop at (now (s .entry)))) r ⌝ }
