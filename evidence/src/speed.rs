@@ -18,9 +18,10 @@ const GB_IO: [&str; 2] = ["gb-io, parse_slice", "gb-io, SeqReader"];
 const GB_IO_WRITES: [&str; 1] = ["gb-io, SeqWriter"];
 const OTHERS: [&str; 4] = ["library, asked for sizes first", "library, room at hand", "the other, room at hand", "memcpy"];
 
-/// The library of another landing, if `evidence/run` was given one; else this one once more, which shows what two equal ones differ by.
-fn other() -> Library {
-    std::env::var("EVIDENCE_BEFORE").ok().map_or(THIS, |path| library::opened(&path).expect("a library of another landing"))
+/// The library and that of another landing, as shared objects, if `evidence/run` was given one; else the library twice, which shows what two equal ones differ by.
+fn libraries() -> (Library, Library) {
+    let named = |name| std::env::var(name).ok().map_or(THIS, |path| library::opened(&path).expect("a library as a shared object"));
+    (named("EVIDENCE_THIS"), named("EVIDENCE_BEFORE"))
 }
 
 /// False where the library and gb-io do not do the same work.
@@ -60,12 +61,12 @@ fn locations() -> [(&'static str, Vec<u8>); 5] {
 }
 
 fn measured_reading(name: &str, text: &[u8], rounds: u64) -> Option<()> {
-    let (seq, other) = (parse_slice(text).ok()?.pop()?, other());
+    let (seq, both) = (parse_slice(text).ok()?.pop()?, libraries());
     let mut room = read_asked(text)?;
     let mut out = vec![0; text.len()];
     let mut reading = vec![Vec::new(); GB_IO.len() + OTHERS.len()];
     for _ in 0..rounds {
-        time_reading(other, &mut reading, text, &mut room, &mut out, 1);
+        time_reading(both, &mut reading, text, &mut room, &mut out, 1);
     }
     println!("\n{name}: {} bytes, {} comments, {} features", text.len(), seq.comments.len(), seq.features.len());
     show("reading", text.len(), &GB_IO, &reading);
@@ -73,11 +74,11 @@ fn measured_reading(name: &str, text: &[u8], rounds: u64) -> Option<()> {
 }
 
 /// A turn of each contender.
-fn time_reading(other: Library, reading: &mut [Vec<f64>], text: &[u8], room: &mut Rooms, out: &mut [u8], repeats: usize) {
+fn time_reading((this, other): (Library, Library), reading: &mut [Vec<f64>], text: &[u8], room: &mut Rooms, out: &mut [u8], repeats: usize) {
     reading[0].push(timed(repeats, || parse_slice(black_box(text)).unwrap()));
     reading[1].push(timed(repeats, || SeqReader::new(black_box(text)).next().unwrap().unwrap()));
     reading[2].push(timed(repeats, || read_asked(black_box(text)).unwrap()));
-    reading[3].push(timed(repeats, || read_at_hand(THIS, black_box(text), room)));
+    reading[3].push(timed(repeats, || read_at_hand(this, black_box(text), room)));
     reading[4].push(timed(repeats, || read_at_hand(other, black_box(text), room)));
     reading[5].push(timed(repeats, || out[..text.len()].copy_from_slice(black_box(text))));
 }
@@ -86,7 +87,7 @@ fn measured(name: &str, table: &Table, rounds: u64) -> Option<()> {
     let Writing::Done(text) = asis::write(table, false, false) else {
         return None;
     };
-    let (seq, other) = (parse_slice(&text).ok()?.pop()?, other());
+    let (seq, (this, other)) = (parse_slice(&text).ok()?.pop()?, libraries());
     let rooms = read_asked(&text)?;
     let mut room = rooms.clone();
     let size = size_of(&rooms)?;
@@ -95,10 +96,10 @@ fn measured(name: &str, table: &Table, rounds: u64) -> Option<()> {
     let mut reading = vec![Vec::new(); GB_IO.len() + OTHERS.len()];
     let mut writing = vec![Vec::new(); GB_IO_WRITES.len() + OTHERS.len()];
     for _ in 0..rounds {
-        time_reading(other, &mut reading, &text, &mut room, &mut out, repeats);
+        time_reading((this, other), &mut reading, &text, &mut room, &mut out, repeats);
         writing[0].push(timed(repeats, || write_gb_io(black_box(&seq))));
         writing[1].push(timed(repeats, || write_asked(black_box(&rooms)).unwrap()));
-        writing[2].push(timed(repeats, || THIS.write(&mut out[..size], black_box(&rooms), HOW)));
+        writing[2].push(timed(repeats, || this.write(&mut out[..size], black_box(&rooms), HOW)));
         writing[3].push(timed(repeats, || other.write(&mut out[..size], black_box(&rooms), HOW)));
         writing[4].push(timed(repeats, || out[..text.len()].copy_from_slice(black_box(&text))));
     }
