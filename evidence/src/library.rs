@@ -1,5 +1,6 @@
 //! The proved library, called through its boundary with rooms that have canaries around them.
 use crate::table::{Rooms, HEAD, ROWS};
+use std::ffi::{c_char, c_int, c_void, CStr, CString};
 
 /// A row of features, which is eight numbers in memory.
 #[repr(C)]
@@ -36,6 +37,17 @@ struct Written {
     count: usize,
 }
 
+/// An entry point that reads: the slice and the place, then each room and its length.
+type Reader = unsafe extern "C" fn(
+    *const u8, usize, usize, *mut u8, usize, *mut usize, usize, *mut usize, usize, *mut Feature, usize, *mut usize, usize, *mut usize, usize, *mut u8, usize,
+) -> Answer;
+
+/// An entry point that writes: the slice, each room and the head with their lengths, the width, and the three switches.
+type Writer = unsafe extern "C" fn(
+    *mut u8, usize, *const u8, usize, *const usize, usize, *const usize, usize, *const Feature, usize, *const usize, usize, *const usize, usize, *const u8, usize, *const usize, usize,
+    usize, bool, bool, bool,
+) -> Written;
+
 #[link(name = "api_boundary", kind = "static")]
 extern "C" {
     fn vilggodan_read(
@@ -50,15 +62,62 @@ extern "C" {
     ) -> Written;
 }
 
+extern "C" {
+    fn dlopen(path: *const c_char, flags: c_int) -> *mut c_void;
+    fn dlsym(object: *mut c_void, name: *const c_char) -> *mut c_void;
+}
+
+/// The entry points of a landing.
+#[derive(Clone, Copy)]
+pub struct Library {
+    reader: Reader,
+    writer: Writer,
+}
+
+pub const THIS: Library = Library { reader: vilggodan_read, writer: vilggodan_write };
+
+/// Those of a shared object: the library of another landing whose rooms and answers have the same layout.
+pub fn opened(path: &str) -> Option<Library> {
+    const NOW: c_int = 2;
+    let path = CString::new(path).ok()?;
+    let found = |object, name: &CStr| Some(unsafe { dlsym(object, name.as_ptr()) }).filter(|f| !f.is_null());
+    let object = Some(unsafe { dlopen(path.as_ptr(), NOW) }).filter(|o| !o.is_null())?;
+    let (reader, writer) = (found(object, c"vilggodan_read")?, found(object, c"vilggodan_write")?);
+    Some(unsafe { Library { reader: std::mem::transmute::<*mut c_void, Reader>(reader), writer: std::mem::transmute::<*mut c_void, Writer>(writer) } })
+}
+
 /// Reads into these rooms.
 pub fn read(s: &[u8], at: usize, texts: &mut [u8], rows: [&mut [usize]; 5], letters: &mut [u8]) -> Answer {
-    let [references, comments, features, qualifiers, locations] = rows;
-    unsafe {
-        vilggodan_read(
-            s.as_ptr(), s.len(), at, texts.as_mut_ptr(), texts.len(), references.as_mut_ptr(), references.len(), comments.as_mut_ptr(), comments.len(),
-            features.as_mut_ptr().cast(), features.len() / ROWS[2], qualifiers.as_mut_ptr(), qualifiers.len(), locations.as_mut_ptr(), locations.len(),
-            letters.as_mut_ptr(), letters.len(),
-        )
+    THIS.read(s, at, texts, rows, letters)
+}
+
+/// Writes the table of the rooms; the number answered and the bytes written or needed.
+pub fn write(out: &mut [u8], rooms: &Rooms, how: How) -> (usize, usize) {
+    THIS.write(out, rooms, how)
+}
+
+impl Library {
+    pub fn read(self, s: &[u8], at: usize, texts: &mut [u8], rows: [&mut [usize]; 5], letters: &mut [u8]) -> Answer {
+        let [references, comments, features, qualifiers, locations] = rows;
+        unsafe {
+            (self.reader)(
+                s.as_ptr(), s.len(), at, texts.as_mut_ptr(), texts.len(), references.as_mut_ptr(), references.len(), comments.as_mut_ptr(), comments.len(),
+                features.as_mut_ptr().cast(), features.len() / ROWS[2], qualifiers.as_mut_ptr(), qualifiers.len(), locations.as_mut_ptr(), locations.len(),
+                letters.as_mut_ptr(), letters.len(),
+            )
+        }
+    }
+
+    pub fn write(self, out: &mut [u8], rooms: &Rooms, how: How) -> (usize, usize) {
+        let Rooms { texts, references, comments, features, qualifiers, locations, letters, head } = rooms;
+        let Written { number, count } = unsafe {
+            (self.writer)(
+                out.as_mut_ptr(), out.len(), texts.as_ptr(), texts.len(), references.as_ptr(), references.len(), comments.as_ptr(), comments.len(),
+                features.as_ptr().cast(), features.len() / ROWS[2], qualifiers.as_ptr(), qualifiers.len(), locations.as_ptr(), locations.len(), letters.as_ptr(), letters.len(), head.as_ptr(),
+                head.len(), how.width, how.keeping, how.truncate, how.escape,
+            )
+        };
+        (number, count)
     }
 }
 
@@ -69,19 +128,6 @@ pub struct How {
     pub width: usize,
     pub truncate: bool,
     pub escape: bool,
-}
-
-/// Writes the table of the rooms; the number answered and the bytes written or needed.
-pub fn write(out: &mut [u8], rooms: &Rooms, how: How) -> (usize, usize) {
-    let Rooms { texts, references, comments, features, qualifiers, locations, letters, head } = rooms;
-    let Written { number, count } = unsafe {
-        vilggodan_write(
-            out.as_mut_ptr(), out.len(), texts.as_ptr(), texts.len(), references.as_ptr(), references.len(), comments.as_ptr(), comments.len(),
-            features.as_ptr().cast(), features.len() / ROWS[2], qualifiers.as_ptr(), qualifiers.len(), locations.as_ptr(), locations.len(), letters.as_ptr(), letters.len(), head.as_ptr(),
-            head.len(), how.width, how.keeping, how.truncate, how.escape,
-        )
-    };
-    (number, count)
 }
 
 /// A room with canaries before and after it.

@@ -95,17 +95,11 @@ fn stopped(slice: &[u8], at: usize) -> usize {
     }
 }
 
-/// The line at the offset has a byte that ends the letters, with what follows it, as `due` says. If ORIGIN stands alone on its line, all that follows it is letters, and it is the first such byte.
+/// The line at the offset has the first byte after ORIGIN's line that ends the letters, and with what follows it is as `due` says.
 fn ends_letters(slice: &[u8], origin: usize, offset: usize, due: impl Fn(u8, Option<u8>) -> bool, otherwise: &'static str) -> Result<(), &'static str> {
     let passed = |b: u8| b.is_ascii_alphanumeric() || matches!(b, b' ' | b'\r' | b'\n');
-    let tag = first_line(&slice[origin..]);
-    let alone = tag[6..].iter().all(|&b| matches!(b, b' ' | b'\t' | b'\r'));
+    let before = &slice[origin + first_line(&slice[origin..]).len()..offset];
     let end = offset + first_line(&slice[offset..]).len();
-    let mut ends = (offset..end).filter(|&i| !passed(slice[i]));
-    let so = |i: usize| due(slice[i], slice.get(i + 1).copied());
-    if !alone {
-        return held(ends.any(so), otherwise);
-    }
-    let before = &slice[origin + tag.len()..offset];
-    held(before.iter().all(|&b| passed(b)) && ends.next().is_some_and(so), otherwise)
+    let first = (offset..end).find(|&i| !passed(slice[i]));
+    held(before.iter().all(|&b| passed(b)) && first.is_some_and(|i| due(slice[i], slice.get(i + 1).copied())), otherwise)
 }

@@ -7,10 +7,8 @@ use crate::table::{Rooms, ROWS};
 use crate::tally::Tally;
 use crate::{asis, departed, Reading};
 
-/// Sets of departures by their masks, the small ones first, and what they are called.
-const DEPARTURES: [(u32, &str); 7] = [(2, "departure 1"), (4, "departure 2"), (8, "departure 3"), (6, "departures 1 and 2"), (10, "departures 1 and 3"),
-    (12, "departures 2 and 3"), (ALL, "departures 1, 2 and 3")];
-const ALL: u32 = 14;
+/// The departures for reading, 1, 2, 3 and 7, as a mask: bit d for departure d.
+const ALL: u32 = 1 << 1 | 1 << 2 | 1 << 3 | 1 << 7;
 
 /// The longest slice.
 pub const MOST: usize = 16_777_216;
@@ -64,12 +62,12 @@ fn shrunk(mut slice: Vec<u8>, mut at: usize, r: &mut Random) -> (Vec<u8>, usize)
 /// The number that the library answers, and the departures that lie between it and the Rust.
 pub struct Judged {
     number: usize,
-    verdict: &'static str,
+    verdict: String,
 }
 
 impl Judged {
     pub fn count(&self, tally: &mut Tally) {
-        tally.count(self.verdict);
+        tally.count(&self.verdict);
         tally.count(&format!("number {}", self.number));
     }
 }
@@ -83,7 +81,7 @@ pub fn departed_reading(bytes: &[u8]) -> Reading {
 /// The verdict, or what is wrong.
 pub fn judged(slice: &[u8], at: usize, r: &mut Random) -> Result<Judged, &'static str> {
     if at > slice.len() || slice.len() > MOST {
-        return Ok(Judged { number: refused(slice, at, &[3], 0)?, verdict: "departure 5, a place beyond the slice or a slice too long" });
+        return Ok(Judged { number: refused(slice, at, &[3], 0)?, verdict: "departure 5, a place beyond the slice or a slice too long".into() });
     }
     let bytes = &slice[at..];
     let unchanged = asis::read(bytes);
@@ -96,18 +94,27 @@ pub fn judged(slice: &[u8], at: usize, r: &mut Random) -> Result<Judged, &'stati
         Reading::None => refused(slice, at, &[2, 4], at)?,
     };
     let verdict = match expected {
-        Reading::Panicked => Some("departure 5, the Rust panics"),
-        Reading::None | Reading::Refused if unchanged == Reading::None && !bytes.is_empty() => Some("departure 2, None at a cut LOCUS line"),
-        _ if same(&unchanged, &expected) => Some("agrees with the Rust"),
-        _ => DEPARTURES.iter().find(|(mask, _)| {
-            departed::set(*mask, 0);
-            same(&departed::read(bytes), &expected)
-        }).map(|(_, name)| *name),
+        Reading::Panicked => "departure 5, the Rust panics".into(),
+        Reading::None | Reading::Refused if unchanged == Reading::None && !bytes.is_empty() => "departure 2, None at a cut LOCUS line".into(),
+        _ if same(&unchanged, &expected) => "agrees with the Rust".into(),
+        _ => named(between(bytes, &expected).ok_or("no set of departures gives this answer")?),
     };
-    match verdict {
-        Some(verdict) => Ok(Judged { number, verdict }),
-        None => Err("no set of departures gives this answer"),
-    }
+    Ok(Judged { number, verdict })
+}
+
+/// The smallest set of departures, as a mask, with which gb-io reads this.
+fn between(bytes: &[u8], expected: &Reading) -> Option<u32> {
+    let mut sets: Vec<u32> = (1..=ALL).filter(|set| set & !ALL == 0).collect();
+    sets.sort_by_key(|set| set.count_ones());
+    sets.into_iter().find(|&set| {
+        departed::set(set, 0);
+        same(&departed::read(bytes), expected)
+    })
+}
+
+fn named(set: u32) -> String {
+    let names: Vec<String> = (0..u32::BITS).filter(|d| set >> d & 1 == 1).map(|d| d.to_string()).collect();
+    format!("departure{} {}", if names.len() == 1 { "" } else { "s" }, names.join(" and "))
 }
 
 fn same(a: &Reading, b: &Reading) -> bool {

@@ -1,5 +1,5 @@
-//! Speed: gb-io, the proved library and memcpy on the same inputs, turn by turn.
-use crate::library::{self, How};
+//! Speed: gb-io, the proved library, that of another landing if one is named, and memcpy on the same inputs, turn by turn.
+use crate::library::{self, How, Library, THIS};
 use crate::random::Random;
 use crate::table::{Feature, Reference, Rooms, Table, ROWS};
 use crate::{asis, Writing};
@@ -16,7 +16,13 @@ const ROUND: usize = 4 << 20;
 
 const GB_IO: [&str; 2] = ["gb-io, parse_slice", "gb-io, SeqReader"];
 const GB_IO_WRITES: [&str; 1] = ["gb-io, SeqWriter"];
-const OTHERS: [&str; 3] = ["library, asked for sizes first", "library, room at hand", "memcpy"];
+const OTHERS: [&str; 4] = ["library, asked for sizes first", "library, room at hand", "the other, room at hand", "memcpy"];
+
+/// The library and that of another landing, as shared objects, if `evidence/run` was given one; else the library twice, which shows what two equal ones differ by.
+fn libraries() -> (Library, Library) {
+    let named = |name| std::env::var(name).ok().map_or(THIS, |path| library::opened(&path).expect("a library as a shared object"));
+    (named("EVIDENCE_THIS"), named("EVIDENCE_BEFORE"))
+}
 
 /// False where the library and gb-io do not do the same work.
 pub fn run(rounds: u64) -> bool {
@@ -25,7 +31,8 @@ pub fn run(rounds: u64) -> bool {
         ("feature-heavy, 4 MB", table(&mut r, 6_000, 19_500)), ("letters alone, 10 MB", table(&mut r, 8_280_000, 0)),
         ("letters alone, 64 KiB", table(&mut r, 51_700, 0)), ("letters alone, 16 MiB", table(&mut r, 13_244_000, 0))];
     println!("speed: {rounds} rounds, turn by turn; nanoseconds for a byte of the record's text, best and worst round;");
-    println!("how many times the speed of the faster gb-io (best against best; worst round), and how many times memcpy's time");
+    println!("how many times the speed of the faster gb-io (best against best; worst round), and how many times memcpy's time;");
+    println!("the other is {}", if std::env::var("EVIDENCE_BEFORE").is_ok() { "the library of another landing" } else { "the same library" });
     inputs.into_iter().all(|(name, table)| measured(name, &table, rounds).is_some())
         && headers().into_iter().chain(locations()).all(|(name, text)| measured_reading(name, &text, rounds).is_some())
 }
@@ -54,12 +61,12 @@ fn locations() -> [(&'static str, Vec<u8>); 5] {
 }
 
 fn measured_reading(name: &str, text: &[u8], rounds: u64) -> Option<()> {
-    let seq = parse_slice(text).ok()?.pop()?;
+    let (seq, both) = (parse_slice(text).ok()?.pop()?, libraries());
     let mut room = read_asked(text)?;
     let mut out = vec![0; text.len()];
     let mut reading = vec![Vec::new(); GB_IO.len() + OTHERS.len()];
     for _ in 0..rounds {
-        time_reading(&mut reading, text, &mut room, &mut out, 1);
+        time_reading(both, &mut reading, text, &mut room, &mut out, 1);
     }
     println!("\n{name}: {} bytes, {} comments, {} features", text.len(), seq.comments.len(), seq.features.len());
     show("reading", text.len(), &GB_IO, &reading);
@@ -67,19 +74,20 @@ fn measured_reading(name: &str, text: &[u8], rounds: u64) -> Option<()> {
 }
 
 /// A turn of each contender.
-fn time_reading(reading: &mut [Vec<f64>], text: &[u8], room: &mut Rooms, out: &mut [u8], repeats: usize) {
+fn time_reading((this, other): (Library, Library), reading: &mut [Vec<f64>], text: &[u8], room: &mut Rooms, out: &mut [u8], repeats: usize) {
     reading[0].push(timed(repeats, || parse_slice(black_box(text)).unwrap()));
     reading[1].push(timed(repeats, || SeqReader::new(black_box(text)).next().unwrap().unwrap()));
     reading[2].push(timed(repeats, || read_asked(black_box(text)).unwrap()));
-    reading[3].push(timed(repeats, || read_at_hand(black_box(text), room)));
-    reading[4].push(timed(repeats, || out[..text.len()].copy_from_slice(black_box(text))));
+    reading[3].push(timed(repeats, || read_at_hand(this, black_box(text), room)));
+    reading[4].push(timed(repeats, || read_at_hand(other, black_box(text), room)));
+    reading[5].push(timed(repeats, || out[..text.len()].copy_from_slice(black_box(text))));
 }
 
 fn measured(name: &str, table: &Table, rounds: u64) -> Option<()> {
     let Writing::Done(text) = asis::write(table, false, false) else {
         return None;
     };
-    let seq = parse_slice(&text).ok()?.pop()?;
+    let (seq, (this, other)) = (parse_slice(&text).ok()?.pop()?, libraries());
     let rooms = read_asked(&text)?;
     let mut room = rooms.clone();
     let size = size_of(&rooms)?;
@@ -88,11 +96,12 @@ fn measured(name: &str, table: &Table, rounds: u64) -> Option<()> {
     let mut reading = vec![Vec::new(); GB_IO.len() + OTHERS.len()];
     let mut writing = vec![Vec::new(); GB_IO_WRITES.len() + OTHERS.len()];
     for _ in 0..rounds {
-        time_reading(&mut reading, &text, &mut room, &mut out, repeats);
+        time_reading((this, other), &mut reading, &text, &mut room, &mut out, repeats);
         writing[0].push(timed(repeats, || write_gb_io(black_box(&seq))));
         writing[1].push(timed(repeats, || write_asked(black_box(&rooms)).unwrap()));
-        writing[2].push(timed(repeats, || library::write(&mut out[..size], black_box(&rooms), HOW)));
-        writing[3].push(timed(repeats, || out[..text.len()].copy_from_slice(black_box(&text))));
+        writing[2].push(timed(repeats, || this.write(&mut out[..size], black_box(&rooms), HOW)));
+        writing[3].push(timed(repeats, || other.write(&mut out[..size], black_box(&rooms), HOW)));
+        writing[4].push(timed(repeats, || out[..text.len()].copy_from_slice(black_box(&text))));
     }
     if room.texts != rooms.texts || room.letters != rooms.letters || rooms.letters != seq.seq {
         return None;
@@ -138,14 +147,14 @@ fn read_asked(text: &[u8]) -> Option<Rooms> {
     let row = |i: usize| vec![0; sizes[1 + i] * ROWS[i]];
     let mut rooms = Rooms { texts: vec![0; sizes[0]], references: row(0), comments: row(1), features: row(2), qualifiers: row(3), locations: row(4),
         letters: vec![0; sizes[6]], head: Vec::new() };
-    rooms.head = read_at_hand(text, &mut rooms)?;
+    rooms.head = read_at_hand(THIS, text, &mut rooms)?;
     Some(rooms)
 }
 
 /// The head of the record that is read into these rooms.
-fn read_at_hand(text: &[u8], rooms: &mut Rooms) -> Option<Vec<usize>> {
+fn read_at_hand(by: Library, text: &[u8], rooms: &mut Rooms) -> Option<Vec<usize>> {
     let Rooms { texts, references, comments, features, qualifiers, locations, letters, .. } = rooms;
-    let answer = library::read(text, 0, texts, [references, comments, features, qualifiers, locations], letters);
+    let answer = by.read(text, 0, texts, [references, comments, features, qualifiers, locations], letters);
     (answer.number == 0).then(|| answer.head.to_vec())
 }
 

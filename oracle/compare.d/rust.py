@@ -5,9 +5,9 @@ import subprocess
 PROGRAM = pathlib.Path(__file__).resolve().parent.parent / "build" / "oracle"
 
 UNCHANGED = "-"
-READING = (1, 2, 3)  # the departures that a reading can be put down to
+READING = (1, 2, 3, 7)  # the departures that a reading can be put down to
 WRITING = (4, 6)  # and a writing
-SEVENTEEN = 7  # no departure: with departure 3 on, seventeen words may be open at once
+SEVENTEEN = 16  # no departure: with departure 3 on, seventeen words may be open at once
 
 
 def subsets(departures):

@@ -1,17 +1,22 @@
-// Ours, only in the departed copy: which departures of document 01 are on, the width, and what
+// Ours, only in the departed copy: which departures of documents 01 and 02 are on, the width, and what
 // the patched lines call.
 use std::sync::atomic::{AtomicU32, AtomicUsize, Ordering::Relaxed};
 
+use nom::bytes::streaming::{is_a, tag};
+use nom::character::streaming::{line_ending, not_line_ending};
+use nom::combinator::map_res;
 use nom::error::{Error, ErrorKind};
-use nom::IResult;
+use nom::sequence::{preceded, terminated};
+use nom::{IResult, Parser};
 
+use super::field::field_string;
 use super::locus::Locus;
 use crate::seq::{Date, Location, Topology};
 
 static MASK: AtomicU32 = AtomicU32::new(0);
 static WIDTH: AtomicUsize = AtomicUsize::new(79);
 
-/// Bit d of `mask` switches departure d on.
+/// Bit d of `mask` switches departure d on; bits 16 and 17 are no departures.
 pub fn set(mask: u32, width: usize) {
     MASK.store(mask, Relaxed);
     WIDTH.store(width, Relaxed);
@@ -46,7 +51,7 @@ fn taken(text: &[u8], contig: bool) -> IResult<&[u8], Location> {
     if !on(3) {
         return super::location::location(text);
     }
-    let words = if on(7) { 17 } else { 16 }; // 7 is no departure: it tells a seventeenth word from a fault
+    let words = if on(16) { 17 } else { 16 }; // 16 is no departure: it tells a seventeenth word from a fault
     match after_location(text, contig, words) {
         Some([]) => Ok((&[], Location::External(text.iter().map(|&b| b as char).collect(), None))),
         _ => Err(nom::Err::Error(Error::new(text, ErrorKind::MapRes))),
@@ -170,4 +175,13 @@ fn date(text: &str) -> Option<Date> {
     let month = months.split(' ').position(|m| m == parts[1])? + 1;
     let year = number(parts[2], 4..=4, 9999)?;
     Date::from_ymd(year as i32, month as u32, day as u32).ok() // day 0 is refused here
+}
+
+/// Departure 7: the text of ORIGIN is its line alone.
+pub fn origin_text(i: &[u8]) -> IResult<&[u8], String> {
+    if !on(7) {
+        return field_string(0, "ORIGIN", true).parse(i);
+    }
+    let line = preceded((tag("ORIGIN"), is_a(" ")), terminated(not_line_ending, line_ending));
+    map_res(line, |text: &[u8]| String::from_utf8(text.to_vec())).parse(i)
 }

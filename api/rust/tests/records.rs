@@ -40,6 +40,14 @@ fn written_again() {
 }
 
 #[test]
+fn an_old_origin_line() {
+    let old = String::from_utf8(P318.to_vec()).unwrap().replace("ORIGIN      ", "ORIGIN 1 bp upstream");
+    let record = first(old.as_bytes());
+    assert_eq!(record.letters(), b"acgtacgtacgt");
+    assert_eq!(record.keep(Layout::default()).unwrap(), P318);
+}
+
+#[test]
 fn record_after_record() {
     let file = [P318, b"\n", P318].concat();
     assert_eq!(records(&file).filter(Result::is_ok).count(), 2);

@@ -1,20 +1,19 @@
 -- One reader or else another, lines that are dropped, and entries that may be missing. Assumes nothing.
 use Prim.Native.Nat.{ℕ, _≤_}
 use mathlib.Core.Path.{_≡_, refl, sym, ap, _∙_}
-use mathlib.Core.Bool.{Bool, true, false}
+use mathlib.Core.Bool.{Bool, true}
 use mathlib.Core.List.{List}
 use native.Mathlib.Omega.{arith}
 use lib.ListN.{length, drop}
 use Rattle.spec_format.specs.Bytes.{absent, is, bytes}
-use Rattle.spec_format.specs.Readers.{Ans, Got, No, Cut, passing, orElse, optional, unless, tag, line, utf8Of}
+use Rattle.spec_format.specs.Readers.{Ans, Got, No, Cut, orElse, optional, unless, tag, line, utf8Of}
 use Rattle.spec_format.specs.Header.{field, maybeField, source, ignoredLine}
 use Rattle.scan_bytes.specs.declared.Step.{Step}
 use Rattle.scan_bytes.specs.declared.Step.the-variants as step
 use Rattle.scan_bytes.specs.declared.Line.{Line}
 use Rattle.scan_bytes.specs.declared.Line.the-variants as line′
-use Rattle.scan_bytes.specs.Places.{part}
 use Rattle.scan_bytes.specs.Views.{Stepped, Lined}
-use Rattle.scan_bytes.specs.Sequence.{step-places, line-places}
+use Rattle.scan_bytes.specs.Sequence.{step-places}
 use Rattle.read_field_entry.specs.declared.Entry.{Entry}
 use Rattle.read_field_entry.specs.declared.EntryAt.{EntryAt}
 use Rattle.read_field_entry.specs.declared.EntryAt.the-variants as entry
@@ -62,19 +61,6 @@ module _ (s : List ℕ) (at : ℕ) (r : Step) (h : Stepped s at (sectionWord (dr
   drop-no q e k = record { is = k .is ∙ sym (ignored-as (drop at s) ∙ rw (← h .is, e)); place = k .place }
 
 pub ruleset dropping = (drop-got, drop-cut, drop-no)
-
-module _ (s : List ℕ) (at : ℕ) (o : Ans (List ℕ)) (r : Line) (h : Lined s at o r) where
-  pub test-no : (p : List ℕ → Bool) → r ≡ line′.No → Lined s at (passing p o) line′.No
-  test-no p e = record { is = rw (← h .is, e); place = tt }
-
-  pub test-cut : (p : List ℕ → Bool) → r ≡ line′.Cut → Lined s at (passing p o) line′.Cut
-  test-cut p e = record { is = rw (← h .is, e); place = tt }
-
-  pub test-true : (p : List ℕ → Bool) (end next : ℕ) (b : Bool) → r ≡ line′.Got end next → b ≡ p (part at end s) → b ≡ true → Lined s at (passing p o) (line′.Got end next)
-  test-true p end next b e k t = record { is = rw (← h .is, e, ← k, t); place = line-places h e }
-
-  pub test-false : (p : List ℕ → Bool) (end next : ℕ) (b : Bool) → r ≡ line′.Got end next → b ≡ p (part at end s) → b ≡ false → Lined s at (passing p o) line′.No
-  test-false p end next b e k t = record { is = rw (← h .is, e, ← k, t); place = tt }
 
 -- ---- entries that may be missing
 

@@ -7,7 +7,7 @@ ghost use mathlib.Core.Path.{_≡_};
 ghost use Prim.Native.Nat.{_≤_, _<_};
 ghost use lib.ListN.{length, drop};
 ghost use Rattle.spec_format.specs.Bytes.{bytes};
-ghost use Rattle.spec_format.specs.Readers.{orElse, tag, line, utf8Of};
+ghost use Rattle.spec_format.specs.Readers.{orElse, tag};
 ghost use Rattle.spec_format.specs.Header.{maybeField, source, ignoredLine};
 ghost use Rattle.scan_bytes.specs.Views.{Stepped, Lined};
 ghost use Rattle.read_field_optional.specs.Fields.{sectionWord, mayLength, MayEnter, Sources};
@@ -58,22 +58,6 @@ fn section_word(s: &[u8], at: usize) -> Step
     }
 }
 
-fn utf8_line(s: &[u8], at: usize) -> Line
-    requires { ⌜ at ≤ length (now s) ⌝ }
-    ensures { λ r. ⌜ Lined (now (s .entry)) at (utf8Of (line (drop at (now (s .entry))))) r ⌝ }
-{
-    match scan_bytes::line_at(s, at) {
-        Line::No => Line::No,
-        Line::Cut => Line::Cut,
-        Line::Got { end, next } => {
-            if scan_utf8::utf8_ok(s, at, end) {
-                return Line::Got { end, next };
-            }
-            Line::No
-        }
-    }
-}
-
 // A line that is dropped.
 pub fn dropped_at(s: &[u8], at: usize) -> Line
     requires { ⌜ at ≤ length (now s) ⌝ }
@@ -82,7 +66,7 @@ pub fn dropped_at(s: &[u8], at: usize) -> Line
     match section_word(s, at) {
         Step::Got(_) => Line::No,
         Step::Cut => Line::Cut,
-        Step::No => utf8_line(s, at),
+        Step::No => scan_utf8::utf8_line(s, at),
     }
 }
 

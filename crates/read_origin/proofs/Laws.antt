@@ -6,24 +6,20 @@ use mathlib.Core.Bool.{Bool, true, false}
 use mathlib.Core.Path.{_≡_, refl, sym, ap, subst, _∙_}
 use mathlib.Core.List.{List, []}
 use lib.ListN.{length, drop, drop-of-length-le}
-use Rattle.spec_format.specs.Bytes.{bytes}
 use Rattle.spec_format.specs.Readers.{Ans, Got, No, Cut, bind, orElse}
-use Rattle.spec_format.specs.Header.{field}
 use Rattle.spec_format.specs.Table.{Table}
 use Rattle.spec_format.specs.Origin.{originTag, AtSlash, AtEnd, Bad, letters}
 use Rattle.spec_format.specs.Record.{Outcome, Not, withLetters, slashesAt, promised, counted, sequence, afterOrigin}
 use Rattle.spec_format.specs.Rooms.{mayLength}
 use Rattle.spec_format.specs.declared.Length.{Length}
 use Rattle.spec_format.specs.declared.Unread.the-variants as unread
-use Rattle.scan_bytes.specs.Views.{stepOf, Past, Stepped, Texted, Emptied, emptyOf, PastOne}
-use Rattle.scan_bytes.specs.Sequence.{step-places, text-places, step-is, step-within, text-within, text-got}
+use Rattle.scan_bytes.specs.Views.{stepOf, Past, Stepped, Texted, Emptied, emptyOf, PastOne, Lined}
+use Rattle.scan_bytes.specs.Sequence.{step-places, text-places, line-places, step-is, text-is, line-is, step-within, text-within, text-got}
 use Rattle.scan_bytes.specs.Places.{part}
 use Rattle.scan_bytes.specs.declared.Step.{Step}
 use Rattle.scan_bytes.specs.declared.Step.the-variants as step
-use Rattle.read_field_entry.specs.declared.Entry.{Entry}
-use Rattle.read_field_entry.specs.declared.EntryAt.{EntryAt}
-use Rattle.read_field_entry.specs.declared.EntryAt.the-variants as entry
-use Rattle.read_field_entry.specs.Entries.{Known, EntryAs, Enters}
+use Rattle.scan_bytes.specs.declared.Line.{Line}
+use Rattle.scan_bytes.specs.declared.Line.the-variants as line
 use Rattle.read_letters.specs.declared.Counted.{Counted}
 use Rattle.read_letters.specs.declared.Counted.the-variants as count
 use Rattle.read_letters.specs.Runs.{tally, PastCounted, Counts, sifted, count-slash, count-end, count-bad}
@@ -32,7 +28,7 @@ use Rattle.read_slashes.specs.declared.RecordEnd.the-variants as record-end
 use Rattle.read_slashes.specs.Ends.{PastEnd, Ended}
 use Rattle.read_origin.specs.declared.EndAt.{EndAt}
 use Rattle.read_origin.specs.declared.EndAt.the-variants as ended
-use Rattle.read_origin.specs.Ends.{originWord, passed, Passed, lettersThen, sequenceThen, originThen, Before, Ends}
+use Rattle.read_origin.specs.Ends.{passed, Passed, lettersThen, sequenceThen, originThen, Before, Ends}
 use Rattle.spec_format.specs.Impossible.{impossible}
 
 -- ---- ORIGIN
@@ -67,6 +63,10 @@ module _ (s : List ℕ) (at : ℕ) (o : Ans (List ℕ)) (f : List ℕ → List �
       let k : emptyOf s q ≡ bind o f = text-got s at o r f n (emptyOf s q) h e (w .is) in
       record { is = passed-empty s q ∙ ap passed k; place = past-one s at n q (text-places h e .0) (w .place) }
 
+  pub gap-then : (n : ℕ) (q : Step) → r ≡ step.Got n → Passed s n (f (part at n s) (drop n s)) q → Passed s at (bind o f) q
+  gap-then n q e w =
+      record { is = w .is ∙ ap (λ (x : Ans (List ℕ)). passed (bind x f)) (sym (text-is h e)); place = past-from s at n q (text-places h e .0) (w .place) }
+
 module _ (s : List ℕ) (at : ℕ) (o : Ans Unit) (f : Unit → List ℕ → Ans (List ℕ)) (r : Step) (h : Stepped s at o r) where
   pub word-no : r ≡ step.No → Passed s at (bind o f) step.No
   word-no e = record { is = rw (← h .is, e); place = tt }
@@ -77,13 +77,6 @@ module _ (s : List ℕ) (at : ℕ) (o : Ans Unit) (f : Unit → List ℕ → Ans
   pub word-then : (n : ℕ) (q : Step) → r ≡ step.Got n → Passed s n (f tt (drop n s)) q → Passed s at (bind o f) q
   word-then n q e w =
       record { is = w .is ∙ ap (λ (x : Ans Unit). passed (bind x f)) (sym (step-is h e)); place = past-from s at n q (step-places h e .0) (w .place) }
-
-abbrev withText : List ℕ → Ans (List ℕ)
-withText s = field 0 (bytes "ORIGIN") true s
-
-origin-as : (s : List ℕ) → originTag s ≡ orElse (originWord s) (withText s)
-unfolding originTag
-origin-as s = refl
 
 passed-else : (a b : Ans (List ℕ)) → passed a ≡ No → orElse a b ≡ b
 passed-else (Got t r) b e = impossible cc
@@ -100,41 +93,43 @@ passed-cut (Got t r) b e = e
 passed-cut No b e = impossible cc
 passed-cut Cut b e = refl
 
-module _ (s : List ℕ) (at : ℕ) (r : Step) (h : Passed s at (originWord (drop at s)) r) where
-  pub origin-got : (n : ℕ) → r ≡ step.Got n → Passed s at (originTag (drop at s)) (step.Got n)
-  origin-got n e =
-      record {
-        is = sym (ap passed (origin-as (drop at s)) ∙ passed-got (originWord (drop at s)) (withText (drop at s)) (drop n s) (sym (h .is) ∙ rw e));
-        place = passed-places h e;
-      }
+module _ (s : List ℕ) (at : ℕ) (a b : Ans (List ℕ)) (r : Step) (h : Passed s at a r) where
+  pub else-got : (n : ℕ) → r ≡ step.Got n → Passed s at (orElse a b) (step.Got n)
+  else-got n e = record { is = sym (passed-got a b (drop n s) (sym (h .is) ∙ rw e)); place = passed-places h e }
 
-  pub origin-cut : r ≡ step.Cut → Passed s at (originTag (drop at s)) step.Cut
-  origin-cut e =
-      record {
-        is = sym (ap passed (origin-as (drop at s)) ∙ passed-cut (originWord (drop at s)) (withText (drop at s)) (sym (h .is) ∙ rw e));
-        place = tt;
-      }
+  pub else-cut : r ≡ step.Cut → Passed s at (orElse a b) step.Cut
+  else-cut e = record { is = sym (passed-cut a b (sym (h .is) ∙ rw e)); place = tt }
 
-  module _ (q : EntryAt) (e : r ≡ step.No) (w : Enters s at true (withText (drop at s)) q) where
-    else-is : originTag (drop at s) ≡ withText (drop at s)
-    else-is = origin-as (drop at s) ∙ passed-else (originWord (drop at s)) (withText (drop at s)) (sym (h .is) ∙ rw e)
+  pub else-no : (q : Step) → r ≡ step.No → Passed s at b q → Passed s at (orElse a b) q
+  else-no q e w = record { is = w .is ∙ ap passed (sym (passed-else a b (sym (h .is) ∙ rw e))); place = w .place }
 
-    pub text-got′ : (x : Entry) → q ≡ entry.Got x → Passed s at (originTag (drop at s)) (step.Got (x .next))
-    text-got′ x f =
-        let k : Known s at true (withText (drop at s)) x = subst (λ (y : EntryAt). EntryAs s at true (withText (drop at s)) y) f (w .is) in
-        record { is = sym (ap passed (else-is ∙ k .is)); place = (omega (arith, k .from, k .ahead), k .within) }
+module _ (s : List ℕ) (at : ℕ) (o : Ans (List ℕ)) (r : Line) (h : Lined s at o r) where
+  pub lined-got : (end next : ℕ) → r ≡ line.Got end next → Passed s at o (step.Got next)
+  lined-got end next e = let p = line-places h e in record { is = rw (line-is h e); place = (omega arith, p .2) }
 
-    pub text-no : q ≡ entry.No → Passed s at (originTag (drop at s)) step.No
-    text-no f =
-        let k : withText (drop at s) ≡ No = subst (λ (y : EntryAt). EntryAs s at true (withText (drop at s)) y) f (w .is) in
-        record { is = sym (ap passed (else-is ∙ k)); place = tt }
+  pub lined-no : r ≡ line.No → Passed s at o step.No
+  lined-no e = record { is = rw (← h .is, e); place = tt }
 
-    pub text-cut : q ≡ entry.Cut → Passed s at (originTag (drop at s)) step.Cut
-    text-cut f =
-        let k : withText (drop at s) ≡ Cut = subst (λ (y : EntryAt). EntryAs s at true (withText (drop at s)) y) f (w .is) in
-        record { is = sym (ap passed (else-is ∙ k)); place = tt }
+  pub lined-cut : r ≡ line.Cut → Passed s at o step.Cut
+  lined-cut e = record { is = rw (← h .is, e); place = tt }
 
-pub ruleset tagging = (gap-no, gap-cut, gap-end, word-no, word-cut, word-then, origin-got, origin-cut, text-got′, text-no, text-cut, step-within, text-within)
+pub ruleset tagging = (
+  gap-no,
+  gap-cut,
+  gap-end,
+  gap-then,
+  word-no,
+  word-cut,
+  word-then,
+  else-got,
+  else-cut,
+  else-no,
+  lined-got,
+  lined-no,
+  lined-cut,
+  step-within,
+  text-within,
+)
 
 -- ---- the record's end
 

@@ -3,8 +3,8 @@ use Prim.Native.Nat.{ℕ, _≤_}
 use mathlib.Core.Path.{_≡_}
 use mathlib.Core.List.{List, []}
 use lib.ListN.{length, drop}
-use Rattle.spec_format.specs.Bytes.{bytes, notBlank}
-use Rattle.spec_format.specs.Readers.{Ans, Got, No, Cut, bind, tag, until, lineEnd}
+use Rattle.spec_format.specs.Bytes.{notBlank}
+use Rattle.spec_format.specs.Readers.{Ans, Got, No, Cut, bind, orElse, until, spaces1, line, lineEnd, utf8Of}
 use Rattle.spec_format.specs.Table.{Table}
 use Rattle.spec_format.specs.Origin.{originTag, letters}
 use Rattle.spec_format.specs.Record.{Outcome, Read, Not, withLetters, slashesAt, sequence, afterOrigin}
@@ -16,13 +16,16 @@ use Rattle.read_letters.specs.Runs.{sifted}
 use Rattle.read_origin.specs.declared.EndAt.{EndAt}
 use Rattle.read_origin.specs.declared.EndAt.the-variants as ended
 
--- ---- ORIGIN
+-- ---- ORIGIN: what may stand after the word
+
+abbrev pub originBlanks : List ℕ → Ans (List ℕ)
+originBlanks s = bind (until notBlank s) λ _ s. lineEnd s
+
+abbrev pub originText : List ℕ → Ans (List ℕ)
+originText s = bind (spaces1 s) λ _ s. utf8Of (line s)
 
 abbrev pub originRest : List ℕ → Ans (List ℕ)
-originRest s = bind (until notBlank s) λ _ s. lineEnd s
-
-abbrev pub originWord : List ℕ → Ans (List ℕ)
-originWord s = bind (tag (bytes "ORIGIN") s) λ _ s. originRest s
+originRest s = orElse (originBlanks s) (originText s)
 
 -- an answer whose text is of no interest
 abbrev pub passed : Ans (List ℕ) → Ans Unit

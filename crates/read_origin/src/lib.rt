@@ -1,19 +1,20 @@
 // From ORIGIN on: `origin_tag` of misc.rs, the letters and the record's end of stream_parser.rs. Nothing is written.
-use read_field_entry::EntryAt;
 use read_letters::Counted;
 use read_slashes::RecordEnd;
+use scan_bytes::Line;
 use scan_bytes::Step;
 use spec_format::Length;
 use spec_format::Unread;
 ghost use mathlib.Core.Path.{_≡_};
 ghost use Prim.Native.Nat.{_≤_};
 ghost use lib.ListN.{length, drop};
+ghost use Rattle.spec_format.specs.Readers.{line, utf8Of};
 ghost use Rattle.spec_format.specs.Origin.{originTag};
 ghost use Rattle.spec_format.specs.Record.{promised, counted};
 ghost use Rattle.spec_format.specs.Rooms.{mayLength};
 ghost use Rattle.spec_format.specs.declared.Length.{Length};
 ghost use Rattle.read_letters.specs.Runs.{sifted};
-ghost use Rattle.read_origin.specs.Ends.{originRest, originWord, Passed, lettersThen, sequenceThen, originThen, Ends};
+ghost use Rattle.read_origin.specs.Ends.{originBlanks, originText, originRest, Passed, lettersThen, sequenceThen, originThen, Ends};
 
 // The letters stand at `letters_at` and are `letters` many, and the record ends at `place`; or why there is none. A record without ORIGIN has
 // its letters at the slice's end, where none are.
@@ -29,9 +30,9 @@ pub enum EndAt {
 // ---- ORIGIN
 
 // Blanks and a line end, after the word.
-fn origin_rest(s: &[u8], at: usize) -> Step
+fn origin_blanks(s: &[u8], at: usize) -> Step
     requires { ⌜ at ≤ length (now s) ⌝ }
-    ensures { λ r. ⌜ Passed (now (s .entry)) at (originRest (drop at (now (s .entry)))) r ⌝ }
+    ensures { λ r. ⌜ Passed (now (s .entry)) at (originBlanks (drop at (now (s .entry)))) r ⌝ }
 {
     match scan_bytes::blanks0(s, at) {
         Step::Got(next) => scan_bytes::line_end(s, next),
@@ -40,30 +41,51 @@ fn origin_rest(s: &[u8], at: usize) -> Step
     }
 }
 
-fn origin_word(s: &[u8], at: usize) -> Step
+// A text up to the line's end, which is dropped; no line after it belongs to it.
+fn origin_line(s: &[u8], at: usize) -> Step
     requires { ⌜ at ≤ length (now s) ⌝ }
-    ensures { λ r. ⌜ Passed (now (s .entry)) at (originWord (drop at (now (s .entry)))) r ⌝ }
+    ensures { λ r. ⌜ Passed (now (s .entry)) at (utf8Of (line (drop at (now (s .entry))))) r ⌝ }
 {
-    match scan_bytes::tag(s, at, b"ORIGIN") {
-        Step::Got(next) => origin_rest(s, next),
+    match scan_utf8::utf8_line(s, at) {
+        Line::Got { end: _, next } => Step::Got(next),
+        Line::No => Step::No,
+        Line::Cut => Step::Cut,
+    }
+}
+
+// A space at least and a text, after the word.
+fn origin_text(s: &[u8], at: usize) -> Step
+    requires { ⌜ at ≤ length (now s) ⌝ }
+    ensures { λ r. ⌜ Passed (now (s .entry)) at (originText (drop at (now (s .entry)))) r ⌝ }
+{
+    match scan_bytes::spaces1(s, at) {
+        Step::Got(next) => origin_line(s, next),
         Step::No => Step::No,
         Step::Cut => Step::Cut,
     }
 }
 
-// The word alone, or else with a text, which is dropped.
+// Blanks alone, or else a text.
+fn origin_rest(s: &[u8], at: usize) -> Step
+    requires { ⌜ at ≤ length (now s) ⌝ }
+    ensures { λ r. ⌜ Passed (now (s .entry)) at (originRest (drop at (now (s .entry)))) r ⌝ }
+{
+    match origin_blanks(s, at) {
+        Step::Got(next) => Step::Got(next),
+        Step::Cut => Step::Cut,
+        Step::No => origin_text(s, at),
+    }
+}
+
+// ORIGIN's line.
 pub fn origin_at(s: &[u8], at: usize) -> Step
     requires { ⌜ at ≤ length (now s) ⌝ }
     ensures { λ r. ⌜ Passed (now (s .entry)) at (originTag (drop at (now (s .entry)))) r ⌝ }
 {
-    match origin_word(s, at) {
-        Step::Got(next) => Step::Got(next),
+    match scan_bytes::tag(s, at, b"ORIGIN") {
+        Step::Got(next) => origin_rest(s, next),
+        Step::No => Step::No,
         Step::Cut => Step::Cut,
-        Step::No => match read_field_entry::field_at(s, at, 0, b"ORIGIN", true) {
-            EntryAt::Got(entry) => Step::Got(entry.next),
-            EntryAt::No => Step::No,
-            EntryAt::Cut => Step::Cut,
-        },
     }
 }
 

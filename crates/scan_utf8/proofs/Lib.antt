@@ -1,1 +1,2 @@
 pub mod Chars
+pub mod Tested

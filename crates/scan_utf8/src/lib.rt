@@ -1,14 +1,17 @@
 // UTF-8, tested byte by byte with a state that can be carried from one piece of a text to the next.
 use base_arith::both;
+use scan_bytes::Line;
 ghost use mathlib.Core.Path.{_≡_};
 ghost use Prim.Native.Nat.{_≤_};
 ghost use mathlib.Core.Bool.{_&&_};
 ghost use mathlib.Core.List.{_∷_, []};
-ghost use lib.ListN.{length};
+ghost use lib.ListN.{length, drop};
 ghost use lib.Dec.{eqb};
 ghost use Rattle.spec_format.specs.Bytes.{all};
+ghost use Rattle.spec_format.specs.Readers.{line, utf8Of};
 ghost use Rattle.spec_format.specs.Utf8.{utf8};
 ghost use Rattle.scan_bytes.specs.Places.{part};
+ghost use Rattle.scan_bytes.specs.Views.{Lined};
 ghost use Rattle.scan_utf8.specs.States.{start, failed, leadOfFour, leadOf, stepOf, ascii, Ran};
 
 // What a text may go on with: `more` bytes of a character, the next of them `low` to `high`. No byte leads out of a state whose range is empty.
@@ -154,4 +157,21 @@ pub fn utf8_ok(s: &[u8], from: usize, to: usize) -> bool
 {
     let u = utf8_on(started(), s, from, to);
     utf8_ends(u)
+}
+
+// A line of UTF-8.
+pub fn utf8_line(s: &[u8], at: usize) -> Line
+    requires { ⌜ at ≤ length (now s) ⌝ }
+    ensures { λ r. ⌜ Lined (now (s .entry)) at (utf8Of (line (drop at (now (s .entry))))) r ⌝ }
+{
+    match scan_bytes::line_at(s, at) {
+        Line::No => Line::No,
+        Line::Cut => Line::Cut,
+        Line::Got { end, next } => {
+            if utf8_ok(s, at, end) {
+                return Line::Got { end, next };
+            }
+            Line::No
+        }
+    }
 }

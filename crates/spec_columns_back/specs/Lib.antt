@@ -5,5 +5,6 @@ pub mod LocusRead
 pub mod FeatureRead
 pub mod QualifierRead
 pub mod OriginRead
+pub mod OriginLine
 pub mod EntryRead
 pub mod Untaken

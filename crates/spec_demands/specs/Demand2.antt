@@ -1,5 +1,5 @@
 -- DEMAND 2, RIGHT. The answer and the rooms afterwards are those of the definitions (crates/spec_format), from each place. That the definitions say what the Rust does, but for the
--- departures of document 01, is evidence and no proof (docs/EVIDENCE.md, docs/DIFFERENCES.md). What the public documents define is proved of the definitions, against definitions made
+-- departures of documents 01 and 02, is evidence and no proof (docs/EVIDENCE.md, docs/DIFFERENCES.md). What the public documents define is proved of the definitions, against definitions made
 -- from those documents alone (crates/spec_public): writing in crates/spec_columns, reading in crates/spec_columns_back.
 use Prim.Native.Nat.{ℕ, _-_}
 use mathlib.Core.Bool.{true}

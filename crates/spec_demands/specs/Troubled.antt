@@ -7,7 +7,7 @@ use native.Mathlib.Omega.{arith}
 use lib.Dec.{eqb}
 use lib.ListN.{length, drop, length-drop}
 use lib.Seq.{drop-drop, drop-length}
-use Rattle.spec_format.specs.Bytes.{pick, May, is, bytes, letter, notBlank}
+use Rattle.spec_format.specs.Bytes.{pick, but, May, is, bytes, letter, notBlank}
 use Rattle.spec_format.specs.Deep.{deepFeature}
 use Rattle.spec_format.specs.Header.{Field, headerField, textIn}
 use Rattle.spec_format.specs.Impossible.{impossible}
@@ -16,13 +16,14 @@ use Rattle.spec_format.specs.Origin.{Letters, AtSlash, AtEnd, Bad, keep, skippe
 use Rattle.spec_format.specs.Readers.{Ans, Got, No, Cut, optional, until, Turn, more, stop, whileFits}
 use Rattle.spec_format.specs.Record.{features, baseCount, leftBy, isThere, middle}
 use Rattle.spec_format.specs.Table.{Feature}
+use Rattle.spec_format.specs.Utf8.{utf8}
 use Rattle.spec_format.specs.declared.Unread.{Unread}
 use Rattle.spec_format.specs.declared.Unread.the-variants as unread
 use Rattle.spec_lines.specs.Stands.{Stands}
 use Rattle.spec_lines.specs.Troubles.{stoppedUpTo, stopped, searched, headerBegins, headerEnds, upTo, toDefinition, definition, secondDefinition, lettersEnd, afterTag}
 use Rattle.spec_lines.specs.Troubles.{originEnds, sectionsEnd, deepWith, deepPlace, troubled}
 use Rattle.spec_loops.specs.Shrinks.{Past, past-here, past-byte, past-loose, past-then, Leaves, leaves-got, leaves-loose, leaves-first}
-use Rattle.spec_loops.specs.Shrinks.{leaves-mapped, leaves-or, leaves-optional, tag-loose, until-past, until1-takes, line-takes, end-takes}
+use Rattle.spec_loops.specs.Shrinks.{leaves-mapped, leaves-passing, leaves-or, leaves-optional, tag-loose, until-past, until1-takes, line-takes, end-takes}
 use Rattle.spec_loops.specs.Shrinks.{Turns, turns-takes, turns-here, tries-leave, field-takes, header-takes, preamble-turns, features-leave, middle-leaves}
 
 -- ---- readers and loops
@@ -102,8 +103,8 @@ until-leaves p s = record { past = λ t r e. past-loose (length t) s r (until-pa
 origin-leaves : (s : List ℕ) → Leaves 0 s (originTag s)
 unfolding originTag
 origin-leaves s =
-    leaves-or (leaves-first (tag-loose (bytes "ORIGIN") s) (λ _ s. leaves-first (until-leaves notBlank s) (λ _ s. leaves-loose (end-takes s))))
-    (leaves-loose (field-takes 0 (bytes "ORIGIN") true s))
+    leaves-first (tag-loose (bytes "ORIGIN") s) (λ _ s. leaves-or (leaves-first (until-leaves notBlank s) (λ _ s. leaves-loose (end-takes s)))
+    (leaves-first (leaves-loose (until1-takes (but 32) s)) (λ _ s. leaves-loose (leaves-passing utf8 (line-takes s)))))
 
 end-past : (s : List ℕ) → Past 0 s []
 end-past s = record { gone = length s; least = omega arith; within = omega arith; is = sym (drop-length s) }

@@ -113,6 +113,14 @@ joinRow n = 5 ∷ 0 ∷ 0 ∷ 0 ∷ 0 ∷ 0 ∷ n ∷ []
 joins : ℕ → List ℕ
 joins n = concat (replicate n (bytes "join(")) ++ bytes "1" ++ replicate n 41
 
+-- number, place and letters of a record that ends so
+lettered : List ℕ → Outcome → List ℕ
+lettered s (Read t rest) = 0 ∷ (length s - length rest) ∷ t .letters
+lettered s (Not why) = told s (Not why)
+
+origin-read : List ℕ → List ℕ
+origin-read s = lettered s (readAt s 0)
+
 -- ---- writing
 
 -- a record with that name, length, feature and letters
@@ -284,6 +292,15 @@ answers =
     bare-line (bytes "mod_base") ∷
     bare-line (bytes "rpt_unit_range") ∷
     bare-line (bytes "tag_peptide") ∷
+    -- 7
+    record { got = origin-read (bytes "LOCUS x 4 bp DNA linear SYN 01-MAR-2024\nORIGIN 1 bp upstream\n        1 acgt\n//\n"); should = 0 ∷ 79 ∷ bytes "acgt" } ∷
+    record { got = origin-read (bytes "LOCUS x\nORIGIN 1 bp upstream\n        1 acgt\n//\n"); should = 0 ∷ 47 ∷ bytes "acgt" } ∷
+    record { got = origin-read (bytes "LOCUS x 0 bp DNA linear SYN 01-MAR-2024\nORIGIN x\n       a\n//\n"); should = 8 ∷ 0 ∷ [] } ∷
+    record { got = origin-read (bytes "LOCUS x\nORIGIN x\n       a-b\n//\n"); should = 9 ∷ 0 ∷ [] } ∷
+    record { got = origin-read (bytes "LOCUS x\nORIGIN x\n       a/b\n//\n"); should = 7 ∷ 0 ∷ [] } ∷
+    record { got = origin-read (bytes "LOCUS x\nORIGIN x\n       //\n//\n"); should = 0 ∷ 27 ∷ [] } ∷
+    record { got = origin-read (bytes "LOCUS x\nORIGIN x\n       " ++ 255 ∷ bytes "\n//\n"); should = 9 ∷ 0 ∷ [] } ∷
+    record { got = origin-read (bytes "LOCUS x 0 bp DNA linear SYN 01-MAR-2024\nORIGIN x\n"); should = 0 ∷ 49 ∷ [] } ∷
     []
 
 -- what the answers compute by: to unfold one of these names is to unfold all that its line names
@@ -305,5 +322,5 @@ the-writer = true
 
 -- THE PAGE'S ANSWERS ARE THOSE OF THE DEFINITIONS
 pub answers-hold : map (λ a. a .got) answers ≡ map (λ a. a .should) answers
-unfolding the-reader the-rules the-writer told answer may-text may-number may-date locus-values locus-read unk location-text first-location location-values location-read may-contig contig-values contig-read seven located contig-located joinRow joins table-of table with-kind with-letters line-or-11 eleven lines-of bare-line answers
+unfolding the-reader the-rules the-writer told answer may-text may-number may-date locus-values locus-read unk location-text first-location location-values location-read may-contig contig-values contig-read seven located contig-located joinRow joins lettered origin-read table-of table with-kind with-letters line-or-11 eleven lines-of bare-line answers
 answers-hold = refl

@@ -4,13 +4,12 @@ use mathlib.Core.Bool.{Bool, true, false, _||_}
 use mathlib.Core.List.{List, [], _∷_}
 use lib.Dec.{eqb}
 use Rattle.spec_format.specs.Bytes.{bytes, letter, digit, notBlank}
-use Rattle.spec_format.specs.Readers.{Ans, bind, orElse, tag, until, lineEnd}
-use Rattle.spec_format.specs.Header.{field}
+use Rattle.spec_format.specs.Readers.{Ans, bind, orElse, tag, until, spaces1, line, lineEnd, utf8Of}
 
--- `origin_tag`: "the word and spaces or tabs; or a header text with its further lines, dropped"
+-- `origin_tag`: "the word and spaces or tabs; or a header text", dropped, which "is that line alone" (ticket 5, departure 7)
 unfoldable pub originTag : List ℕ → Ans (List ℕ)
 originTag s =
-    orElse (bind (tag (bytes "ORIGIN") s) λ _ s. bind (until notBlank s) λ _ s. lineEnd s) (field 0 (bytes "ORIGIN") true s)
+    bind (tag (bytes "ORIGIN") s) λ _ s. orElse (bind (until notBlank s) λ _ s. lineEnd s) (bind (spaces1 s) λ _ s. utf8Of (line s))
 
 -- where the letters end: at a `/`, at the input's end, or at a byte that cannot stand there; and what stands from there on
 pub data Letters : Type 0 where

@@ -123,7 +123,7 @@ module _ {A : Type 0} where
   leaves-pick true h g = h
   leaves-pick false h g = g
 
-  leaves-passing : {m : ℕ} {s : List ℕ} {o : Ans A} (p : A → Bool) → Leaves m s o → Leaves m s (passing p o)
+  pub leaves-passing : {m : ℕ} {s : List ℕ} {o : Ans A} (p : A → Bool) → Leaves m s o → Leaves m s (passing p o)
   leaves-passing {m} {s} {o} p h = go o refl
     where
       go : (x : Ans A) → o ≡ x → Leaves m s (passing p x)

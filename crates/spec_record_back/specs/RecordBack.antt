@@ -186,7 +186,7 @@ unfolding tag
 slashes-back t rest h = rw (tries-more lineEnd lineEnd-small (10 ∷ rest) [] rest (one-end rest), end-taken rest h)
 
 no-origin : (s : List ℕ) → originTag (bytes "//\n" ++ s) ≡ No
-unfolding originTag field fieldBytes tag
+unfolding originTag tag
 no-origin s = refl
 
 no-letters : (s : List ℕ) → originLines [] ++ s ≡ s

@@ -36,6 +36,11 @@ fn replay_ticket2(counts: &mut [usize]) {
     test_stored_lines::say_source(b"vectors of ticket 2", counts);
 }
 
+fn replay_ticket5(counts: &mut [usize]) {
+    replay_file(b"ticket5-read.txt", counts);
+    test_stored_lines::say_source(b"vectors of ticket 5", counts);
+}
+
 fn replay_numbers(counts: &mut [usize]) {
     replay_file(b"numbers.txt", counts);
     test_stored_lines::say_source(b"numbers that neither has", counts);
@@ -53,6 +58,7 @@ fn main() {
     replay_vectors(&mut counts);
     replay_ticket1(&mut counts);
     replay_ticket2(&mut counts);
+    replay_ticket5(&mut counts);
     replay_numbers(&mut counts);
     replay_cases(&mut counts);
     test_stored_lines::say_counts(&counts);

@@ -5,18 +5,18 @@ pub const REFUSED: usize = 16;
 // Plus the departure's number; the place itself is "no departure".
 pub const DEPARTURES: usize = 17;
 
-pub const READINGS: usize = 24;
+pub const READINGS: usize = 25;
 
-pub const WRITINGS: usize = 25;
+pub const WRITINGS: usize = 26;
 
-pub const LOCATIONS: usize = 26;
+pub const LOCATIONS: usize = 27;
 
 // Readings whose line and offset are stored too.
-pub const LINES: usize = 27;
+pub const LINES: usize = 28;
 
-pub const NOT_UNDERSTOOD: usize = 28;
+pub const NOT_UNDERSTOOD: usize = 29;
 
-pub const DIFFER: usize = 29;
+pub const DIFFER: usize = 30;
 
 // One more at that place, if there is such a place.
 pub fn count_one(counts: &mut [usize], i: usize) {
@@ -28,7 +28,7 @@ pub fn count_one(counts: &mut [usize], i: usize) {
 }
 
 fn count_departure(counts: &mut [usize], d: usize) {
-    if d <= 6 {
+    if d <= 7 {
         count_one(counts, DEPARTURES + d);
     }
 }
@@ -107,7 +107,7 @@ fn say_numbers(counts: &[usize]) {
 
 fn say_departures(counts: &[usize]) {
     let mut d = 1;
-    while d < 7 {
+    while d < 8 {
         if counts.len() <= DEPARTURES + d {
             return;
         }

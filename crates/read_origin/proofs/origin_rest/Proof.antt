@@ -4,20 +4,20 @@ use Rattle.read_origin.proofs.Laws.{tagging}
 use Rattle.read_origin.proofs.origin_rest.Statement.{statement}
 use Rattle.read_origin.proofs.origin_rest.Tie as tie
 
-blanks0-requires : tie.Need-blanks0-requires
-blanks0-requires c κs = search needs
+origin-blanks-requires : tie.Need-origin-blanks-requires
+origin-blanks-requires c κs = search needs
 
 enum-known-next : tie.Need-enum-known-next
 enum-known-next c = search needs
-
-line-end-requires : tie.Need-line-end-requires
-line-end-requires c κs = search (tagging, needs)
 
 enum-told : tie.Need-enum-told
 enum-told c = search needs
 
 enum-told-2 : tie.Need-enum-told-2
 enum-told-2 c = search needs
+
+origin-text-requires : tie.Need-origin-text-requires
+origin-text-requires c κs = search needs
 
 returns : tie.Need-returns
 returns c = search (tagging, needs)
@@ -32,11 +32,11 @@ pub origin-rest-spec : {M : Type 1} → statement M
 origin-rest-spec =
     tie.close
     (tie.spec
-    blanks0-requires
+    origin-blanks-requires
     enum-known-next
-    line-end-requires
     enum-told
     enum-told-2
+    origin-text-requires
     returns
     returns-2
     returns-3)

@@ -5,10 +5,10 @@ use Rattle.test_stored_lines.proofs.counts.say_departures.Statement.{st
 use Rattle.test_stored_lines.proofs.counts.say_departures.Tie as tie
 
 abbrev Inv-loop : tie.InvT-loop
-Inv-loop counts d₀ t3 t4 d = d ≤ 7
+Inv-loop counts d₀ t3 t4 d = d ≤ 8
 
 abbrev μ-loop : tie.MeasureT-loop
-μ-loop counts d₀ t3 t4 d = 7 - d
+μ-loop counts d₀ t3 t4 d = 8 - d
 
 loop-holds : tie.Need-loop-holds Inv-loop μ-loop
 loop-holds c = search needs

@@ -1,20 +1,17 @@
--- `read_origin::origin_word` meets its contract. Assumes nothing.
+-- `read_origin::origin_blanks` meets its contract. Assumes nothing.
 use borrow.Author.Needs.{needs}
 use Rattle.read_origin.proofs.Laws.{tagging}
-use Rattle.read_origin.proofs.origin_word.Statement.{statement}
-use Rattle.read_origin.proofs.origin_word.Tie as tie
+use Rattle.read_origin.proofs.origin_blanks.Statement.{statement}
+use Rattle.read_origin.proofs.origin_blanks.Tie as tie
 
-slice-aggregate-tag : tie.Need-slice-aggregate-tag
-slice-aggregate-tag c = search needs
-
-tag-requires : tie.Need-tag-requires
-tag-requires c κs = search needs
+blanks0-requires : tie.Need-blanks0-requires
+blanks0-requires c κs = search needs
 
 enum-known-next : tie.Need-enum-known-next
 enum-known-next c = search needs
 
-origin-rest-requires : tie.Need-origin-rest-requires
-origin-rest-requires c κs = search (tagging, needs)
+line-end-requires : tie.Need-line-end-requires
+line-end-requires c κs = search (tagging, needs)
 
 enum-told : tie.Need-enum-told
 enum-told c = search needs
@@ -31,14 +28,13 @@ returns-2 c = search (tagging, needs)
 returns-3 : tie.Need-returns-3
 returns-3 c = search (tagging, needs)
 
-pub origin-word-spec : {M : Type 1} → statement M
-origin-word-spec =
+pub origin-blanks-spec : {M : Type 1} → statement M
+origin-blanks-spec =
     tie.close
     (tie.spec
-    slice-aggregate-tag
-    tag-requires
+    blanks0-requires
     enum-known-next
-    origin-rest-requires
+    line-end-requires
     enum-told
     enum-told-2
     returns
