@@ -2,7 +2,7 @@
 use Prim.Native.Nat.{ℕ}
 use mathlib.Core.Bool.{Bool, true, false}
 use mathlib.Core.List.{List, []}
-use mathlib.Core.Path.{_≡_, refl}
+use mathlib.Core.Path.{_≡_, refl, ap, _∙_}
 use lib.ListN.{length}
 use Rattle.spec_format.specs.Bytes.{pick, bytes}
 use Rattle.spec_format.specs.Impossible.{impossible}
@@ -85,6 +85,10 @@ preamble-comes Cut = Short refl (λ e. impossible cc)
 pub comes : (s : List ℕ) → Comes s
 unfolding lettersFrom readRecord
 comes s = preamble-comes (preamble s)
+
+pub plain-letters : (o : Outcome) (t : Table) (rest : List ℕ) → Plain o → o ≡ Read t rest → t .letters ≡ []
+plain-letters (Read x r) t rest h e = let f : t ≡ x = cc in ap (λ (y : Table). y .letters) f ∙ h
+plain-letters (Not why) t rest h e = impossible cc
 
 -- ---- what was read without the switch is never 16
 
