@@ -1,1 +1,4 @@
 pub mod Laws
+pub mod Comes
+pub mod Grounds
+pub mod Switch
