@@ -23,8 +23,8 @@ unfoldable pub lettersBy : Bool → List ℕ → Letters
 lettersBy strict [] = AtEnd []
 lettersBy strict (b ∷ s) =
     elim (taken strict b) [
-    | true ↦ keep b (lettersBy strict s)
-    | false ↦ elim (eqb b 47) [ true ↦ AtSlash [] (b ∷ s) | false ↦ elim (skipped b) [ true ↦ lettersBy strict s | false ↦ Bad (b ∷ s) ] ]
+      | true ↦ keep b (lettersBy strict s)
+      | false ↦ elim (eqb b 47) [ true ↦ AtSlash [] (b ∷ s) | false ↦ elim (skipped b) [ true ↦ lettersBy strict s | false ↦ Bad (b ∷ s) ] ]
     ]
 
 -- how many letters there are, and where they end

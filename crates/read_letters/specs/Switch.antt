@@ -43,7 +43,7 @@ not-taken strict b e = go (taken strict b) refl
   where
     go : (x : Bool) → taken strict b ≡ x → taken strict b ≡ false
     go false f = f
-    go true f = impossible (sym (taken-letter strict b f) ∙ e)
+    go true f = let k : true ≡ false = sym (taken-letter strict b f) ∙ e in impossible cc
 
 -- what is skipped is neither a letter nor a slash
 or-cases : (a b : Bool) → (a || b) ≡ true → (a ≡ true) ⊎ (b ≡ true)
@@ -106,7 +106,7 @@ bad-none (b ∷ s) r h = go (bad-none s) (letter b) refl (eqb b 47) refl (skippe
 
     go : ((r : List ℕ) → letters s ≡ Bad r → starts letter r ≡ false) → (x : Bool) → letter b ≡ x → (y : Bool) → eqb b 47 ≡ y → (z : Bool) → skipped b ≡ z → starts letter r ≡ false
     go ih true e y f z g = kept ih (letters s) refl (sym (rw (letters, e)) ∙ h)
-    go ih false e true f z g = impossible (sym (rw (letters, e, f)) ∙ h)
+    go ih false e true f z g = let k : AtSlash [] (b ∷ s) ≡ Bad r = sym (rw (letters, e, f)) ∙ h in impossible cc
     go ih false e false f true g = ih r (sym (rw (letters, e, f, g)) ∙ h)
     go ih false e false f false g = let k : Bad (b ∷ s) ≡ Bad r = sym (rw (letters, e, f, g)) ∙ h in let m : b ∷ s ≡ r = cc in rw (← m) e
 
@@ -149,7 +149,7 @@ says-on (b ∷ s) = go (says-on s) (coded b) refl (letter b) refl (eqb b 47) ref
         let k : letter b ≡ false = rw (eqb-true b 47 f) in
         let m : skipped b ≡ false = rw (eqb-true b 47 f) in
         rw (lettersBy, c, f) (rw (letters, k, f), rw (stray, k, m))
-    go h false c true e false f true g = impossible (sym e ∙ skipped-none b g)
+    go h false c true e false f true g = let k : true ≡ false = sym e ∙ skipped-none b g in impossible cc
     go h false c false e false f true g = rw (lettersBy, c, f, g) (says-skipped b s (rw (stray, e, g)) (rw (letters, e, f, g)) (lettersBy true s) h)
     go h false c true e false f false g = rw (lettersBy, c, f, g, e) (refl, rw (stray, e, c))
     go h false c false e false f false g = rw (lettersBy, c, f, g, e) (rw (letters, e, f, g), rw (stray, e, g))
