@@ -190,15 +190,15 @@ sifts (b ∷ s) = go (sifts s) (letter b) refl (eqb b 47) refl (skipped b) refl
     go h false e false f false g = rw (letters, sifted, e, f, g) tt
 
 -- an answer of the count, with the letters that are put
-pub record Slashed (strict : Bool) (s : List ℕ) (n : ℕ) (r : List ℕ) : Type 0 where
+pub record SlashCounted (strict : Bool) (s : List ℕ) (n : ℕ) (r : List ℕ) : Type 0 where
   pub is : letters s ≡ AtSlash (sifted s) r
   pub counted : length (sifted s) ≡ n
   pub unstrayed : Unstrayed strict s
 
-pub count-slash : (strict : Bool) (s : List ℕ) (n : ℕ) (r : List ℕ) → slash n r ≡ tally (lettersBy strict s) → Slashed strict s n r
+pub count-slash : (strict : Bool) (s : List ℕ) (n : ℕ) (r : List ℕ) → slash n r ≡ tally (lettersBy strict s) → SlashCounted strict s n r
 count-slash strict s n r e = go (lettersBy strict s) (says strict s) e
   where
-    go : (x : Letters) → Says strict s x → slash n r ≡ tally x → Slashed strict s n r
+    go : (x : Letters) → Says strict s x → slash n r ≡ tally x → SlashCounted strict s n r
     go (AtSlash l q) h f =
         let m : n ≡ length l = cc in
         let k : r ≡ q = cc in
@@ -207,15 +207,15 @@ count-slash strict s n r e = go (lettersBy strict s) (says strict s) e
     go (AtEnd l) h f = impossible cc
     go (Bad q) h f = impossible cc
 
-pub record Ended (strict : Bool) (s : List ℕ) (n : ℕ) : Type 0 where
+pub record EndCounted (strict : Bool) (s : List ℕ) (n : ℕ) : Type 0 where
   pub is : letters s ≡ AtEnd (sifted s)
   pub counted : length (sifted s) ≡ n
   pub unstrayed : Unstrayed strict s
 
-pub count-end : (strict : Bool) (s : List ℕ) (n : ℕ) → end n ≡ tally (lettersBy strict s) → Ended strict s n
+pub count-end : (strict : Bool) (s : List ℕ) (n : ℕ) → end n ≡ tally (lettersBy strict s) → EndCounted strict s n
 count-end strict s n e = go (lettersBy strict s) (says strict s) e
   where
-    go : (x : Letters) → Says strict s x → end n ≡ tally x → Ended strict s n
+    go : (x : Letters) → Says strict s x → end n ≡ tally x → EndCounted strict s n
     go (AtSlash l q) h f = impossible cc
     go (AtEnd l) h f =
         let m : n ≡ length l = cc in
