@@ -1,10 +1,10 @@
 -- DEMANDS OF TICKET 7, THE STRICT SWITCH: what it changes of a call of the reader, the boundary and the function behind the programs, and what it leaves. Each statement can be read without
 -- its proof. `StrayThere s at` says that the reading comes to letters and that among them, ahead of the `/` and of any byte that is 9, stands one without a code (crates/spec_strict, Switch.antt).
 use Prim.Native.Nat.{ℕ}
-use mathlib.Core.Bool.{Bool, true, false}
+use mathlib.Core.Bool.{true, false}
 use mathlib.Core.List.{List, [], _∷_}
 use mathlib.Core.Logic.{_↔_}
-use mathlib.Core.Path.{_≡_, refl, sym, ap, _∙_}
+use mathlib.Core.Path.{_≡_, sym, ap, _∙_}
 use lib.ListN.{length, drop}
 use Rattle.spec_format.specs.Bytes.{is}
 use Rattle.spec_format.specs.Impossible.{impossible}
