@@ -66,7 +66,7 @@ skipped-none b h = let w = skipped-low b h in rw (lt-leb 65 b (omega (arith, w .
 
 -- ---- with the switch off all letters are taken
 
-off-alike : (s : List ℕ) → lettersBy false s ≡ letters s
+pub off-alike : (s : List ℕ) → lettersBy false s ≡ letters s
 unfolding lettersBy letters
 off-alike [] = refl
 off-alike (b ∷ s) = go (off-alike s) (letter b) refl (eqb b 47) refl (skipped b) refl
