@@ -109,12 +109,15 @@ pub fn judged(slice: &[u8], at: usize, r: &mut Random) -> Result<Judged, &'stati
         _ => named(between(bytes, &expected).ok_or("no set of departures gives this answer")?),
     };
     let stray = strict::stray(slice, at, &answer);
-    match &expected {
-        Reading::Done(table, _) if table.letters.iter().all(strict::coded) != stray.is_none() => return Err("a stray letter in the slice and not in the table, or the other way round"),
-        Reading::Done(table, used) if stray.is_none() => {
+    match (&expected, stray) {
+        (Reading::Done(table, _), _) if table.letters.iter().all(strict::coded) != stray.is_none() => {
+            return Err("a stray letter in the slice and not in the table, or the other way round");
+        }
+        (_, Some(place)) => refused_alike(slice, at, strict::sixteen(slice, at, place))?,
+        (Reading::Done(table, used), None) => {
             done(slice, at, true, &Rooms::of(table, || 0), at + used, r)?;
         }
-        _ => refused_alike(slice, at, strict::due(slice, at, answer))?,
+        (_, None) => refused_alike(slice, at, answer)?,
     }
     Ok(Judged { number: answer.number, verdict, stray })
 }
@@ -182,7 +185,7 @@ fn refused_alike(slice: &[u8], at: usize, due: Answer) -> Result<(), &'static st
     }
 }
 
-/// The library reads these rooms and this place, and asks for exactly that much room.
+/// The library, strictly or not, reads these rooms and this place, and asks for exactly that much room.
 fn done(slice: &[u8], at: usize, strict: bool, rooms: &Rooms, place: usize, r: &mut Random) -> Result<Answer, &'static str> {
     let exact = lengths(rooms);
     let mut short = exact;

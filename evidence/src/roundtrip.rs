@@ -2,7 +2,7 @@
 use crate::library::{write, How, Lent};
 use crate::random::Random;
 use crate::rules::{kept, laid_out};
-use crate::strict::{coded, due};
+use crate::strict::{coded, sixteen, stray};
 use crate::table::{Rooms, Table, ROWS};
 use crate::tables::{Job, Tables};
 use crate::tally::Tally;
@@ -64,14 +64,14 @@ pub fn round(table: &Table, how: How, r: &mut Random) -> Result<(), &'static str
     if !answer.done(&rooms, end) || !lent.holds(&rooms) {
         return Err("the reader reads another table");
     }
-    let (number, left) = if table.letters.iter().all(coded) { (0, rooms) } else { (16, Rooms::default()) };
+    let (due, left) = match stray(&slice, at, &answer) {
+        None => (answer, rooms),
+        Some(place) => (sixteen(&slice, at, place), Rooms::default()),
+    };
     let mut lent = Lent::new(lengths);
     let strictly = lent.read(&slice, at, true);
-    if strictly.number != number || strictly != due(&slice, at, answer) {
-        return Err("the reader answers otherwise than is due with the switch on");
-    }
-    if !lent.holds(&left) {
-        return Err("the reader leaves the rooms otherwise with the switch on");
+    if (strictly.number == 0) != table.letters.iter().all(coded) || strictly != due || !lent.holds(&left) {
+        return Err("the reader does otherwise with the switch on");
     }
     Ok(())
 }

@@ -8,15 +8,14 @@ pub fn coded(letter: &u8) -> bool {
     b"ACGTURYSWKMBDHVN".contains(&letter.to_ascii_uppercase())
 }
 
-/// The answer that is due with the switch on, where this is the one without it.
-pub fn due(slice: &[u8], at: usize, answer: Answer) -> Answer {
-    stray(slice, at, &answer).map_or(answer, |place| {
-        let (line, offset) = spot(slice, at, place);
-        Answer { line, offset, ..Answer::new(16, at) }
-    })
+/// The answer for a stray letter at a place.
+pub fn sixteen(slice: &[u8], at: usize, place: usize) -> Answer {
+    let (line, offset) = spot(slice, at, place);
+    Answer { line, offset, ..Answer::new(16, at) }
 }
 
-/// Where the letter stands that strict reading refuses, if there is one: the first without a code, with none but letters and what is skipped before it.
+/// Where the letter stands that strict reading refuses, if there is one, beside the answer without the switch: the first without a code, with none but letters and what is skipped
+/// before it.
 pub fn stray(slice: &[u8], at: usize, answer: &Answer) -> Option<usize> {
     // whether the reading without the switch came to the letters; of 2 its line does not say that
     let came = |origin: usize| match answer.number {
