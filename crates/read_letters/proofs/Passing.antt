@@ -1,32 +1,29 @@
 -- Bytes that are letters or skipped, one at a time and in groups: the steps of the loops over them.
 use Prim.Native.Nat.{ℕ, zero, suc, _+_, _-_, _≤_, _<_}
 use mathlib.Core.Path.{_≡_, refl, sym, ap, subst, _∙_}
-use mathlib.Core.Bool.{Bool, true, false, not, _&&_, _||_}
-use mathlib.Core.Logic.{_⊎_, ⊎-elim, inl, inr}
+use mathlib.Core.Bool.{Bool, true, false, not, _&&_}
 use mathlib.Core.List.{List, [], _∷_, _++_, append-nil}
 use native.Mathlib.Numerals.{add-one}
 use native.Mathlib.Nat.{add-zero, add-suc}
 use native.Mathlib.Omega.{arith}
-use borrow.Author.Tests.{eq-eqb, ne-eqb, lt-leb, leb-true, eqb-true, not-true, not-false}
-use lib.Dec.{eqb, leb, lit<}
+use borrow.Author.Tests.{eq-eqb, ne-eqb, eqb-true, not-true, not-false}
+use lib.Dec.{eqb}
 use lib.ListN.{length, take, drop, getD, set, length-append, length-drop, drop-of-length-le}
 use lib.Seq.{drop-cons, take-all, take-suc, take-suc-set, getD-drop, length-take-le}
 use Rattle.spec_bases.specs.Bases.{setOf, coded}
 use Rattle.spec_format.specs.Bytes.{letter, digit}
-use Rattle.scan_bases.specs.Single.{single, single-coded}
+use Rattle.scan_bases.specs.Common.{common, common-coded}
 use Rattle.spec_format.specs.Origin.{skipped}
 use Rattle.base_pen.specs.Pen.{Writes, Left, left-step, left-as, left-end}
 use Rattle.read_letters.specs.Runs.{taken, lettersBy, Tally, slash, end, bad, tally, plus, sifted, Run, Runs, Skips, run-none, run-append, tally-keeps, Counts, PastCounted, one, countIn, spaced, ten, thirtyOf, sixtyOf}
-use Rattle.read_letters.specs.Switch.{and-both, taken-letter, not-taken, skipped-low, skipped-none}
+use Rattle.spec_strict.specs.Skipped.{and-both, skipped-none, not-slash}
+use Rattle.read_letters.specs.Switch.{taken-letter, not-taken}
 use Rattle.read_letters.specs.declared.Counted.{Counted}
 use Rattle.read_letters.specs.declared.Counted.the-variants as counted
 use Rattle.spec_format.specs.Impossible.{impossible}
 
 pub drop-more : (s : List ℕ) (i : ℕ) → i < length s → drop i s ≡ getD s i 0 ∷ drop (i + 1) s
 drop-more s i h = rw (add-one, drop-cons s i 0)
-
-not-slash : (b : ℕ) → skipped b ≡ true → eqb b 47 ≡ false
-not-slash b h = ne-eqb b 47 (skipped-low b h .1)
 
 module _ (strict : Bool) (s : List ℕ) (i : ℕ) (h : i < length s) where
   pub run-letter : taken strict (getD s i 0) ≡ true → Run strict s i (i + 1) (getD s i 0 ∷ [])
@@ -215,7 +212,7 @@ module _ (p : ℕ → Bool) (s : List ℕ) where
               run-append (thirty g x (omega arith) (omega (arith, thirty-most (g + 33) y))) (rw f at (thirty (g + 33) y (omega arith) (omega (arith, thirty-most g x))));
         }
 
--- without the switch by all letters, with it by those that have a code, or by those that stand for one base
+-- without the switch by all letters, with it by the common ones, or by those that have a code
 module _ (strict : Bool) (s : List ℕ) (g n : ℕ) (a b : Bool) (h : g + 66 ≤ length s) (i : a ≡ spaced s g) (j : not a ≡ false) (k : b ≡ spaced s (g + 33)) (l : not b ≡ false) where
   pub sixty-letters : not strict ≡ true → n ≡ countIn letter s (g + 1) 65 → Runs strict s g (g + 66) (thirtyOf s g ++ thirtyOf s (g + 33)) (eqb n 60)
   sixty-letters e m = go strict (not-true strict e)
@@ -229,10 +226,10 @@ module _ (strict : Bool) (s : List ℕ) (g n : ℕ) (a b : Bool) (h : g + 66 ≤
     unfolding setOf
     sixty-codes m = rw (not-false strict e) (sixty-law coded s true (λ _ t. t) refl g n a b h i j k l m)
 
-    pub sixty-singles : n ≡ countIn single s (g + 1) 65 → n ≡ 60 → Runs strict s g (g + 66) (thirtyOf s g ++ thirtyOf s (g + 33)) true
+    pub sixty-common : n ≡ countIn common s (g + 1) 65 → n ≡ 60 → Runs strict s g (g + 66) (thirtyOf s g ++ thirtyOf s (g + 33)) true
     unfolding setOf
-    sixty-singles m o =
-        rw (not-false strict e) (subst (λ (x : Bool). Runs true s g (g + 66) (thirtyOf s g ++ thirtyOf s (g + 33)) x) (eq-eqb n 60 o) (sixty-law single s true single-coded refl g n a b h i j k l m))
+    sixty-common m o =
+        rw (not-false strict e) (subst (λ (x : Bool). Runs true s g (g + 66) (thirtyOf s g ++ thirtyOf s (g + 33)) x) (eq-eqb n 60 o) (sixty-law common s true common-coded refl g n a b h i j k l m))
 
 -- a byte more that is counted
 pub one-small : (t b : Bool) (r : ℕ) → t ≡ b → r ≡ one t → r ≤ 1

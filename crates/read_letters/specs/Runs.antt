@@ -11,7 +11,6 @@ use Rattle.spec_bases.specs.Bases.{coded}
 use Rattle.spec_format.specs.Origin.{Letters, AtSlash, AtEnd, Bad, keep, skipped}
 use Rattle.read_letters.specs.declared.Counted.{Counted}
 use Rattle.read_letters.specs.declared.Counted.the-variants as counted
-use Rattle.spec_format.specs.Impossible.{impossible}
 
 -- the letters that are taken: all, or with the strict switch those that have a code
 abbrev pub taken : Bool → ℕ → Bool

@@ -1,27 +1,21 @@
 -- What the letters that are taken say of all letters, and of the stray letter: the bridge from the code's one pass to the definitions' two.
-use Prim.Native.Nat.{ℕ, _<_}
-use native.Mathlib.Omega.{arith}
-use mathlib.Core.Bool.{Bool, true, false, _&&_, _||_}
-use mathlib.Core.Logic.{_⊎_, ⊎-elim, inl, inr}
+use Prim.Native.Nat.{ℕ}
+use mathlib.Core.Bool.{Bool, true, false}
 use mathlib.Core.List.{List, [], _∷_}
 use mathlib.Core.Path.{_≡_, refl, sym, ap, subst, _∙_}
-use borrow.Author.Tests.{eqb-true, leb-true, lt-leb}
-use lib.Dec.{T, eqb, leb, lit<}
+use borrow.Author.Tests.{eqb-true}
+use lib.Dec.{T, eqb}
 use lib.ListN.{length}
 use Rattle.spec_bases.specs.Bases.{setOf, coded}
 use Rattle.spec_bases.specs.Tests.{of-coded}
-use Rattle.spec_format.specs.Bytes.{absent, is, letter, digit, starts}
+use Rattle.spec_format.specs.Bytes.{absent, is, letter, starts}
 use Rattle.spec_format.specs.Impossible.{impossible}
 use Rattle.spec_format.specs.Origin.{Letters, AtSlash, AtEnd, Bad, keep, skipped, letters}
 use Rattle.spec_format.specs.Record.{Outcome, Not}
 use Rattle.spec_format.specs.Strict.{stray, strictly}
 use Rattle.spec_format.specs.declared.Unread.the-variants as unread
-use Rattle.read_letters.specs.Runs.{taken, lettersBy, Tally, slash, end, bad, tally, sifted}
-
-pub and-both : (a b : Bool) → (a && b) ≡ true → (a ≡ true) × (b ≡ true)
-and-both true true h = (refl, refl)
-and-both true false h = (refl, h)
-and-both false b h = (h, impossible cc)
+use Rattle.spec_strict.specs.Skipped.{skipped-none}
+use Rattle.read_letters.specs.Runs.{taken, lettersBy, slash, end, bad, tally, sifted}
 
 -- ---- what has a code is a letter
 
@@ -44,25 +38,6 @@ not-taken strict b e = go (taken strict b) refl
     go : (x : Bool) → taken strict b ≡ x → taken strict b ≡ false
     go false f = f
     go true f = let k : true ≡ false = sym (taken-letter strict b f) ∙ e in impossible cc
-
--- what is skipped is neither a letter nor a slash
-or-cases : (a b : Bool) → (a || b) ≡ true → (a ≡ true) ⊎ (b ≡ true)
-or-cases true b h = inl refl
-or-cases false b h = inr h
-
-pub skipped-low : (b : ℕ) → skipped b ≡ true → (b < 58) × (b ≡ 47 → ⊥)
-skipped-low b h =
-    ⊎-elim digits (λ k. ⊎-elim (λ m. at 32 m (lit< tt)) (λ l. ⊎-elim (λ m. at 13 m (lit< tt)) (λ m. at 10 m (lit< tt)) (or-cases (eqb b 13) (eqb b 10) l)) (or-cases (eqb b 32) (eqb b 13 || eqb b 10) k))
-    (or-cases (digit b) (eqb b 32 || (eqb b 13 || eqb b 10)) h)
-  where
-    digits : digit b ≡ true → (b < 58) × (b ≡ 47 → ⊥)
-    digits k = let w = and-both (leb 48 b) (leb b 57) k in (omega (arith, leb-true b 57 (w .1)), λ e. omega (arith, leb-true 48 b (w .0)))
-
-    at : (n : ℕ) → eqb b n ≡ true → n < 47 → (b < 58) × (b ≡ 47 → ⊥)
-    at n k l = let e : b ≡ n = eqb-true b n k in (omega arith, λ f. omega arith)
-
-pub skipped-none : (b : ℕ) → skipped b ≡ true → letter b ≡ false
-skipped-none b h = let w = skipped-low b h in rw (lt-leb 65 b (omega (arith, w .0)), lt-leb 97 b (omega (arith, w .0)))
 
 -- ---- with the switch off all letters are taken
 

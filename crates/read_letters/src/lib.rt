@@ -10,7 +10,7 @@ ghost use Rattle.spec_format.specs.Bytes.{letter};
 ghost use Rattle.spec_bases.specs.Bases.{coded};
 ghost use Rattle.spec_format.specs.Origin.{skipped};
 ghost use Rattle.base_pen.specs.Pen.{Writes};
-ghost use Rattle.scan_bases.specs.Single.{single};
+ghost use Rattle.scan_bases.specs.Common.{common};
 ghost use Rattle.read_letters.specs.Runs.{taken, lettersBy, tally, plus, Counts, sifted, Runs, Skips, one, countIn, spaced, ten, thirtyOf, sixtyOf};
 
 // How many letters there are, and the place of the `/` that ends them; or the place of a byte that may not stand there, which with the strict switch may be a letter.
@@ -99,15 +99,15 @@ fn codes_in(s: &[u8], at: usize) -> u8
     n
 }
 
-// How many of them stand for one base alone: half as many comparisons as for all codes, and nearly all lines have no others.
-fn singles_in(s: &[u8], at: usize) -> u8
+// How many of them stand for one base alone or for all: half as many comparisons as for all codes, and nearly all lines have no others.
+fn common_in(s: &[u8], at: usize) -> u8
     requires { ⌜ at + 65 ≤ length (now s) ⌝ }
-    ensures { λ r. ⌜ r ≡ countIn single (now (s .entry)) at 65 ⌝ }
+    ensures { λ r. ⌜ r ≡ countIn common (now (s .entry)) at 65 ⌝ }
 {
     let mut n: u8 = 0;
     let mut j = 0;
     while j < 65 {
-        n += one_if(scan_bases::is_single(s[at + j]));
+        n += one_if(scan_bases::is_common(s[at + j]));
         j += 1;
     }
     n
@@ -135,7 +135,7 @@ fn sixty(s: &[u8], at: usize, strict: bool) -> bool
     if !strict {
         return letters_in(s, at + 1) == 60;
     }
-    if singles_in(s, at + 1) == 60 {
+    if common_in(s, at + 1) == 60 {
         return true;
     }
     codes_in(s, at + 1) == 60

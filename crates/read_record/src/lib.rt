@@ -4,7 +4,8 @@ use spec_contracts::Reported;
 ghost use Rattle.spec_contracts.specs.Lent.{lent, left};
 ghost use Rattle.spec_contracts.specs.Reads.{ReadReported};
 
-// Reads the record at a place of a slice into the rooms; with the strict switch a letter without an IUPAC code is refused. It has no branch: where the answer refuses, no feature is left to be put, and the line of the trouble is found.
+// Reads the record at a place of a slice into the rooms; with the strict switch a letter without an IUPAC code is refused. It has no branch: where the answer refuses, no
+// feature is left to be put, and the line of the trouble is found.
 pub fn read(
     s: &[u8],
     at: usize,

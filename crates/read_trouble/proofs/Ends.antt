@@ -2,21 +2,20 @@
 use Prim.Native.Nat.{ℕ, _+_, _≤_, _<_}
 use native.Mathlib.Nat.{le-refl}
 use native.Mathlib.Omega.{arith}
-use mathlib.Core.Bool.{Bool, true, false, _&&_}
+use mathlib.Core.Bool.{Bool, true, false}
 use mathlib.Core.Path.{_≡_, refl, sym, ap, subst, _∙_}
 use mathlib.Core.List.{List, []}
 use lib.ListN.{length, drop, length-drop, drop-of-length-le}
-use Rattle.spec_format.specs.Bytes.{May, absent, is, pick}
+use Rattle.spec_format.specs.Bytes.{May, is}
 use Rattle.spec_format.specs.Readers.{Ans, Got, No, Cut, optional}
-use Rattle.spec_format.specs.Table.{Feature}
 use Rattle.spec_format.specs.Features.{featuresHeader}
 use Rattle.spec_format.specs.Deep.{deepFeature}
 use Rattle.spec_format.specs.Origin.{Letters, AtSlash, AtEnd, Bad, originTag}
-use Rattle.spec_format.specs.Record.{features, baseCount, leftBy, isThere, Middle, middle, deepIn}
+use Rattle.spec_format.specs.Record.{features, baseCount, leftBy, middle, deepIn}
 use Rattle.spec_lines.specs.Stands.{Stands}
-use Rattle.spec_lines.specs.Troubles.{lettersEnd, deepWith, deepPlace}
+use Rattle.spec_lines.specs.Troubles.{lettersEnd, deepPlace}
 use Rattle.spec_loops.specs.Shrinks.{leaves-length, middle-leaves}
-use Rattle.scan_bytes.specs.Views.{stepOf, Past, Emptied}
+use Rattle.scan_bytes.specs.Views.{Past, Emptied}
 use Rattle.scan_bytes.specs.Sequence.{empty-places}
 use Rattle.scan_bytes.specs.declared.Step.{Step}
 use Rattle.scan_bytes.specs.declared.Step.the-variants as step

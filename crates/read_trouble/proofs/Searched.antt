@@ -1,11 +1,10 @@
 -- Where the search for LOCUS succeeds, it stops there; so where a record is not read for what stands after its sections, no location before that is too deep.
 use Prim.Native.Nat.{ℕ, zero, suc}
 use mathlib.Core.Bool.{Bool, true, false}
-use mathlib.Core.Path.{_≡_, refl, sym, ap, _∙_}
+use mathlib.Core.Path.{_≡_, refl, sym, _∙_}
 use mathlib.Core.List.{List}
 use lib.ListN.{length}
 use Rattle.spec_format.specs.Bytes.{bytes, pick}
-use Rattle.spec_format.specs.Utf8.{utf8}
 use Rattle.spec_format.specs.Readers.{Ans, Got, No, Cut, mapped, utf8Of, line, tag, Turn, more, stop, endUpTo, end, whileFits}
 use Rattle.spec_format.specs.Table.{Locus}
 use Rattle.spec_format.specs.Locus.{skipping, preambleTurn, preamble, locus}

@@ -3,7 +3,7 @@ use Prim.Native.Nat.{ℕ}
 use mathlib.Core.Bool.{Bool, true, false}
 use mathlib.Core.Path.{_≡_, refl, sym, ap, _∙_}
 use mathlib.Core.List.{List}
-use Rattle.spec_format.specs.Bytes.{May, absent, is, letter, starts}
+use Rattle.spec_format.specs.Bytes.{absent, is, letter, starts}
 use Rattle.spec_format.specs.Readers.{Ans, Got, No, Cut, bind, whileFits}
 use Rattle.spec_format.specs.Table.{Locus}
 use Rattle.spec_format.specs.Locus.{preamble, locus}

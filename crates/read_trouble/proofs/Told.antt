@@ -3,16 +3,15 @@ use Prim.Native.Nat.{ℕ, _-_, _≤_, _<_}
 use native.Mathlib.Nat.{le-refl}
 use native.Mathlib.Omega.{arith}
 use mathlib.Core.Bool.{Bool, true, false, not, _&&_}
-use mathlib.Core.Path.{_≡_, refl, sym, ap, subst, _∙_}
+use mathlib.Core.Path.{_≡_, refl, sym, ap, _∙_}
 use mathlib.Core.List.{List, []}
 use lib.ListN.{length, drop, drop-of-length-le}
 use lib.Dec.{eqb, leb}
-use borrow.Author.Tests.{le-leb, lt-leb}
+use borrow.Author.Tests.{lt-leb}
 use Rattle.spec_format.specs.Bytes.{May, absent, is, pick}
 use Rattle.spec_format.specs.Record.{Outcome, Read, Not, most, deepIn, listOf, readRecord}
-use Rattle.spec_format.specs.Strict.{strayIn, recordBy, readBy}
+use Rattle.spec_format.specs.Strict.{recordBy, readBy}
 use Rattle.spec_format.specs.Rooms.{Rooms, sizes, fits, headOf, answerOf, readAnswer}
-use Rattle.spec_format.specs.Table.{Table}
 use Rattle.spec_format.specs.declared.Head.{Head}
 use Rattle.spec_format.specs.declared.Sizes.{Sizes}
 use Rattle.spec_format.specs.declared.Unread.{Unread}
@@ -23,7 +22,7 @@ use Rattle.spec_format.specs.Impossible.{impossible}
 use Rattle.spec_lines.specs.declared.Spot.{Spot}
 use Rattle.spec_lines.specs.Lines.{nowhere, spotOf}
 use Rattle.spec_lines.specs.Stands.{Stands}
-use Rattle.spec_lines.specs.Troubles.{searched, headerBegins, headerEnds, secondDefinition, sectionsEnd, deepPlace, troubled, spotAt, readSpot}
+use Rattle.spec_lines.specs.Troubles.{searched, headerBegins, headerEnds, secondDefinition, sectionsEnd, deepPlace, troubled, spotAt}
 use Rattle.read_trouble.specs.Found.{sectionsEndBy, Shallow, standing, lined, StandsAt, Found, SpotTold}
 use Rattle.spec_strict.specs.Switch.{other-refusal, stray-stands}
 use Rattle.read_trouble.proofs.Searched.{late, not-deep}

@@ -5,9 +5,9 @@ use mathlib.Core.Path.{_≡_, refl}
 use lib.Bits.{bitOr}
 use lib.Dec.{T, eqb}
 use Rattle.spec_bases.specs.Bases.{setOf, coded}
-use Rattle.spec_bases.specs.Tests.{below, at-each}
+use Rattle.spec_bases.specs.Tests.{at-each}
 use Rattle.spec_format.specs.Bytes.{between}
-use Rattle.scan_bases.specs.Single.{single}
+use Rattle.scan_bases.specs.Common.{common}
 
 abbrev same : Bool → Bool → Bool
 same true b = b
@@ -26,9 +26,9 @@ pub coded-tested : (b : ℕ) → b < 256 → smallCoded (bitOr b 32) ≡ coded b
 unfolding setOf
 coded-tested b h = same-is _ _ (at-each 256 (λ x. same (smallCoded (bitOr x 32)) (coded x)) tt b h)
 
-abbrev pub smallSingle : ℕ → Bool
-smallSingle c = (eqb c 97 || (eqb c 99 || eqb c 103)) || (eqb c 116 || eqb c 117)
+abbrev pub smallCommon : ℕ → Bool
+smallCommon c = (eqb c 97 || (eqb c 99 || eqb c 103)) || (eqb c 116 || (eqb c 117 || eqb c 110))
 
-pub single-tested : (b : ℕ) → b < 256 → smallSingle (bitOr b 32) ≡ single b
+pub common-tested : (b : ℕ) → b < 256 → smallCommon (bitOr b 32) ≡ common b
 unfolding setOf
-single-tested b h = same-is _ _ (at-each 256 (λ x. same (smallSingle (bitOr x 32)) (single x)) tt b h)
+common-tested b h = same-is _ _ (at-each 256 (λ x. same (smallCommon (bitOr x 32)) (common x)) tt b h)

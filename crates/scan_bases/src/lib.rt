@@ -2,7 +2,7 @@
 use base_arith::either;
 ghost use mathlib.Core.Path.{_≡_};
 ghost use Rattle.spec_bases.specs.Bases.{coded};
-ghost use Rattle.scan_bases.specs.Single.{single};
+ghost use Rattle.scan_bases.specs.Common.{common};
 
 // Whether a letter has a code. Bit 32 makes a capital small, and of no other byte a letter.
 pub fn is_coded(b: u8) -> bool
@@ -19,13 +19,13 @@ pub fn is_coded(b: u8) -> bool
     )
 }
 
-// Whether a letter stands for one base alone, as nearly all do: A, C, G, T or U.
-pub fn is_single(b: u8) -> bool
-    ensures { λ r. ⌜ r ≡ single b ⌝ }
+// Whether a letter stands for one base alone or for all, as nearly all letters do: A, C, G, T, U or N. That takes half as many comparisons.
+pub fn is_common(b: u8) -> bool
+    ensures { λ r. ⌜ r ≡ common b ⌝ }
 {
     let c = b | 32;
     either(
         either(c == b'a', either(c == b'c', c == b'g')),
-        either(c == b't', c == b'u'),
+        either(c == b't', either(c == b'u', c == b'n')),
     )
 }

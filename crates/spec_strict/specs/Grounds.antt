@@ -2,14 +2,13 @@
 use Prim.Native.Nat.{ℕ, _≤_, _<_}
 use mathlib.Core.Bool.{Bool, true, false, _&&_, _||_}
 use mathlib.Core.List.{List, [], _∷_, _++_}
-use mathlib.Core.Logic.{_⊎_, ⊎-elim, inl, inr}
 use mathlib.Core.Path.{_≡_, refl, sym, ap, _∙_}
 use native.Mathlib.Omega.{arith}
-use borrow.Author.Tests.{eqb-true, eqb-false, ne-eqb, le-leb, lt-leb, leb-true}
+use borrow.Author.Tests.{eqb-true, eqb-false, ne-eqb, le-leb, leb-true}
 use lib.Dec.{eqb, leb}
 use lib.ListN.{length, drop}
 use Rattle.spec_bases.specs.Bases.{coded}
-use Rattle.spec_format.specs.Bytes.{pick, bytes, absent, is, all, digit, letter}
+use Rattle.spec_format.specs.Bytes.{pick, bytes, absent, is, all, letter}
 use Rattle.spec_format.specs.Impossible.{impossible}
 use Rattle.spec_format.specs.Readers.{Ans, Got, No, Cut, tag}
 use Rattle.spec_format.specs.Table.{Table}
@@ -18,6 +17,7 @@ use Rattle.spec_format.specs.Record.{Outcome, Read, Not, slashesLater, slashes,
 use Rattle.spec_format.specs.Strict.{stray, lettersFrom, strayAfter, strayIn, recordBy, lettersFit}
 use Rattle.spec_format.specs.declared.Unread.{Unread}
 use Rattle.spec_format.specs.declared.Unread.the-variants as unread
+use Rattle.spec_strict.specs.Skipped.{and-both, skipped-none}
 use Rattle.spec_strict.specs.Laws.{strictly-read, strictly-clean, strictly-stray}
 use Rattle.spec_strict.specs.Comes.{missing, Reached, Short, Comes, comes, plain-letters, never-stray}
 
@@ -184,25 +184,6 @@ placed-stray f s at e = go (placing s at)
     go (Outside why n k) = absurd (n (cc (k f)))
 
 -- ---- the stray letter, and what stands before it
-
-or-cases : (a b : Bool) → (a || b) ≡ true → (a ≡ true) ⊎ (b ≡ true)
-or-cases true b h = inl refl
-or-cases false b h = inr h
-
-and-both : (a b : Bool) → (a && b) ≡ true → (a ≡ true) × (b ≡ true)
-and-both true true h = (refl, refl)
-and-both true false h = (refl, h)
-and-both false b h = (h, impossible cc)
-
--- what is skipped is no letter
-skipped-low : (b : ℕ) → skipped b ≡ true → b < 58
-skipped-low b h =
-    ⊎-elim (λ k. omega (arith, leb-true b 57 (and-both (leb 48 b) (leb b 57) k .1)))
-    (λ k. ⊎-elim (λ m. omega (arith, eqb-true b 32 m)) (λ l. ⊎-elim (λ m. omega (arith, eqb-true b 13 m)) (λ m. omega (arith, eqb-true b 10 m)) (or-cases (eqb b 13) (eqb b 10) l))
-    (or-cases (eqb b 32) (eqb b 13 || eqb b 10) k)) (or-cases (digit b) (eqb b 32 || (eqb b 13 || eqb b 10)) h)
-
-skipped-none : (b : ℕ) → skipped b ≡ true → letter b ≡ false
-skipped-none b h = let l = skipped-low b h in rw (lt-leb 65 b (omega arith), lt-leb 97 b (omega arith))
 
 abbrev goesOn : ℕ → Bool
 goesOn b = (letter b && coded b) || skipped b

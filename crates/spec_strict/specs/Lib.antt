@@ -1,3 +1,4 @@
+pub mod Skipped
 pub mod Laws
 pub mod Comes
 pub mod Grounds

@@ -1,6 +1,6 @@
 -- `read_letters::sixty` meets its contract. Assumes nothing.
 use borrow.Author.Needs.{needs}
-use Rattle.read_letters.proofs.Passing.{runs-false, sixty-letters, sixty-codes, sixty-singles}
+use Rattle.read_letters.proofs.Passing.{runs-false, sixty-letters, sixty-codes, sixty-common}
 use Rattle.read_letters.proofs.sixty.Statement.{statement}
 use Rattle.read_letters.proofs.sixty.Tie as tie
 
@@ -33,19 +33,19 @@ returns-3 c =
     sixty-letters _ _ _ _ _ _ (first .before .before .before .pre) (first .before .three-spaces .ensures) (first .if1 .left) (second .before .three-spaces2 .ensures)
     (second .if2 .left) (then .if3 .taken) (c .letters-in .ensures)
 
-add-singles-in : tie.Need-add-singles-in
-add-singles-in c = search needs
+add-common-in : tie.Need-add-common-in
+add-common-in c = search needs
 
-singles-in-requires : tie.Need-singles-in-requires
-singles-in-requires c κs = search needs
+common-in-requires : tie.Need-common-in-requires
+common-in-requires c κs = search needs
 
 returns-4 : tie.Need-returns-4
 returns-4 c =
     let else = c .before .before in
     let second = else .before in
     let first = second .before .before in
-    sixty-singles _ _ _ _ _ _ (first .before .before .before .pre) (first .before .three-spaces .ensures) (first .if1 .left) (second .before .three-spaces2 .ensures)
-    (second .if2 .left) (else .if3 .left) (c .before .singles-in .ensures) (c .if4 .taken)
+    sixty-common _ _ _ _ _ _ (first .before .before .before .pre) (first .before .three-spaces .ensures) (first .if1 .left) (second .before .three-spaces2 .ensures)
+    (second .if2 .left) (else .if3 .left) (c .before .common-in .ensures) (c .if4 .taken)
 
 add-codes-in : tie.Need-add-codes-in
 add-codes-in c = search needs
@@ -73,8 +73,8 @@ sixty-spec =
     add-letters-in
     letters-in-requires
     returns-3
-    add-singles-in
-    singles-in-requires
+    add-common-in
+    common-in-requires
     returns-4
     add-codes-in
     codes-in-requires

@@ -1,6 +1,5 @@
 -- `scan_bases::is_coded` meets its contract. Assumes nothing.
 use native.Mathlib.Omega.{arith}
-use mathlib.Core.Path.{_∙_}
 use borrow.Author.Needs.{needs}
 use Rattle.scan_bases.proofs.Tested.{coded-tested}
 use Rattle.scan_bases.proofs.is_coded.Statement.{statement}
