@@ -1,4 +1,5 @@
--- The IUPAC codes (document 02, ticket 6): "Each letter stands for a set of the four bases". A set is a number below 16, with 1 for A, 2 for C, 4 for G and 8 for T in it (document 01: "Four-bit masks").
+-- The IUPAC codes (document 02, ticket 6): "Each letter stands for a set of the four bases". A set is a number below 16: the sum of 1 for A, 2 for C, 4 for G and 8
+-- for T, as far as they are in it (document 01: "Four-bit masks").
 use Prim.Native.Nat.{ℕ, _+_, _-_}
 use Prim.Native.Char.{code}
 use Prim.Native.String as S

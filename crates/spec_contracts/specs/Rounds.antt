@@ -65,7 +65,9 @@ howAfter (read.Refused why) how = notAtAll how
 howAfter (read.Room sizes) how = notAtAll how
 
 -- THE ANSWERS AND THE ROOMS AFTERWARDS, of a record at a place of s, read into the rooms `old` and written to the slice `before`
-pub record Rounds (strict : Bool) (s : List ℕ) (at : ℕ) (old : Rooms) (how : How) (texts references comments qualifiers locations letters before after : List ℕ) (r : Reported) (w : WriteAnswer) : Type 0 where
+pub record Rounds
+    (strict : Bool) (s : List ℕ) (at : ℕ) (old : Rooms) (how : How) (texts references comments qualifiers locations letters before after : List ℕ)
+    (r : Reported) (w : WriteAnswer) : Type 0 where
   pub is : r .answer ≡ readAnswer strict s at old
   pub told : r .spot ≡ readSpot s at (r .answer)
   pub texts-are : texts ≡ roomsAfter strict s at old .texts
