@@ -1,6 +1,8 @@
 -- `scan_bases::is_coded` meets its contract. Assumes nothing.
+use Prim.Native.Nat.{_<_}
 use native.Mathlib.Omega.{arith}
 use borrow.Author.Needs.{needs}
+use Rattle.spec_bases.specs.Bases.{setOf}
 use Rattle.scan_bases.proofs.Tested.{coded-tested}
 use Rattle.scan_bases.proofs.is_coded.Statement.{statement}
 use Rattle.scan_bases.proofs.is_coded.Tie as tie
@@ -33,6 +35,7 @@ either-requires-5 : tie.Need-either-requires-5
 either-requires-5 c κs = search needs
 
 returns : tie.Need-returns
+unfolding setOf
 returns c =
     let c1 = c .before in
     let c2 = c1 .before in
@@ -43,6 +46,7 @@ returns c =
     let c7 = c6 .before in
     let c8 = c7 .before in
     let c9 = c8 .before in
+    let h : c9 .args .b < 256 = omega (arith, c9 .fits .b) in
     rw (
       c .either5 .ensures,
       c1 .either4 .ensures,
@@ -53,7 +57,7 @@ returns c =
       c6 .is-between3 .ensures,
       c7 .is-between2 .ensures,
       c8 .is-between .ensures,
-    ) (coded-tested (c9 .args .b) (omega (arith, c9 .fits .b)))
+    ) (search (coded-tested, h))
 
 pub is-coded-spec : {M : Type 1} → statement M
 is-coded-spec =
