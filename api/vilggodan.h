@@ -20,6 +20,7 @@
  *   12  the width is not 60 to 132
  *   13  a keeping rule is broken: it may not read back the same
  *   14  a location opens more than 16 words of complement, join and order
+ *   16  a letter that is no IUPAC code for bases
  * With any number but 0 no lent byte is changed: nothing is lent for the answer itself.
  *
  * LINES. With every number but 0, 1 and 3 reading tells a line: its number, counted from 1 at the place given, and the offset in `s` of its first byte. It is
@@ -30,6 +31,7 @@
  *    with 7        the line where the sections end
  *    with 8, 9     the line of the `/` after the letters, that of the byte
  *    with 14       the first line of the feature, or of CONTIG
+ *    with 16       the line of the letter
  * Only LF ends a line. Line 1 begins at the place given, in the middle of a line too. The line of the file is 1 plus the LFs before the offset.
  *
  * ROOMS. A table lies in seven rooms: bytes of texts, five of rows, bytes of letters. A text in `texts` is a start and a length; one that may be absent is a start
@@ -99,7 +101,7 @@ struct vilggodan_sizes {
 
 /* What reading answers. */
 struct vilggodan_reading {
-    size_t number;                /* 0 to 9, or 14 */
+    size_t number;                /* 0 to 9, 14 or, with `strict`, 16 */
     size_t place;                 /* with 0 the place after the record, with 3 it is 0, else the place given */
     size_t line, offset;          /* the line that a refusal tells and where it begins; with 0, 1 and 3 both are 0 */
     size_t head[VILGGODAN_HEAD];  /* with 0 the head, else zeros */
@@ -112,10 +114,12 @@ struct vilggodan_writing {
     size_t count;  /* with 0 the bytes written, with 6 the bytes that it takes, exactly, else 0 */
 };
 
-/* Reads the record that starts at the place `at` of `s` into the rooms. With 0 these hold the table; what it does not take of them is unchanged. */
+/* Reads the record that starts at the place `at` of `s` into the rooms. With 0 these hold the table; what it does not take of them is unchanged.
+ * `strict` asks for letters that are IUPAC codes for bases: A C G T U R Y S W K M B D H V N, in either case. Any other letter of the sequence, as a pasted protein has, is then 16;
+ * of it and a byte that is 9 the first in the file decides, and both go ahead of 8, 2 and 7. Without it any ASCII letter is taken. What is read with it is what is read without. */
 struct vilggodan_reading vilggodan_read(
     const uint8_t *s, size_t s_length,
-    size_t at,
+    size_t at, bool strict,
     uint8_t *texts, size_t texts_length,
     size_t *references, size_t references_length,
     size_t *comments, size_t comments_length,

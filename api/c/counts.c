@@ -1,7 +1,8 @@
-/* Reads the first record on standard input and prints the answer's number, the place after it and how much it has of what; or the number, the line that it is about
- * and where that begins. Status 0: it was read. */
+/* Reads the first record on standard input, with the word `strict` strictly, and prints the answer's number, the place after it and how much it has of what; or the number,
+ * the line that it is about and where that begins. Status 0: it was read. */
 #include <stdio.h>
 #include <stdlib.h>
+#include <string.h>
 
 #include "../vilggodan.h"
 
@@ -18,16 +19,17 @@ static void *room(size_t count, size_t size) {
     return cells;
 }
 
-int main(void) {
+int main(int count, char **words) {
+    bool strict = count > 1 && strcmp(words[1], "strict") == 0;
     uint8_t *input = room(MOST, 1), no_byte[1];
     size_t length = fread(input, 1, MOST, stdin), no_number[1];
     struct vilggodan_feature no_feature[1];
     struct vilggodan_reading answer =
-        vilggodan_read(input, length, 0, no_byte, 0, no_number, 0, no_number, 0, no_feature, 0, no_number, 0, no_number, 0, no_byte, 0);
+        vilggodan_read(input, length, 0, strict, no_byte, 0, no_number, 0, no_number, 0, no_feature, 0, no_number, 0, no_number, 0, no_byte, 0);
     if (answer.number == 6) {
         struct vilggodan_sizes n = answer.sizes;
         answer = vilggodan_read(
-            input, length, 0,
+            input, length, 0, strict,
             room(n.texts, 1), n.texts,
             room(n.references, 14 * sizeof(size_t)), 14 * n.references,
             room(n.comments, 2 * sizeof(size_t)), 2 * n.comments,

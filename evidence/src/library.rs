@@ -37,10 +37,21 @@ struct Written {
     count: usize,
 }
 
-/// An entry point that reads: the slice and the place, then each room and its length.
+/// An entry point that reads: the slice, the place and the strict switch, then each room and its length.
 type Reader = unsafe extern "C" fn(
+    *const u8, usize, usize, bool, *mut u8, usize, *mut usize, usize, *mut usize, usize, *mut Feature, usize, *mut usize, usize, *mut usize, usize, *mut u8, usize,
+) -> Answer;
+
+/// The same of a landing from before there was a switch.
+type SwitchlessReader = unsafe extern "C" fn(
     *const u8, usize, usize, *mut u8, usize, *mut usize, usize, *mut usize, usize, *mut Feature, usize, *mut usize, usize, *mut usize, usize, *mut u8, usize,
 ) -> Answer;
+
+#[derive(Clone, Copy)]
+enum Reads {
+    Switched(Reader),
+    Switchless(SwitchlessReader),
+}
 
 /// An entry point that writes: the slice, each room and the head with their lengths, the width, and the three switches.
 type Writer = unsafe extern "C" fn(
@@ -51,7 +62,7 @@ type Writer = unsafe extern "C" fn(
 #[link(name = "api_boundary", kind = "static")]
 extern "C" {
     fn vilggodan_read(
-        s: *const u8, s_length: usize, at: usize, texts: *mut u8, texts_length: usize, references: *mut usize, references_length: usize, comments: *mut usize,
+        s: *const u8, s_length: usize, at: usize, strict: bool, texts: *mut u8, texts_length: usize, references: *mut usize, references_length: usize, comments: *mut usize,
         comments_length: usize, features: *mut Feature, features_length: usize, qualifiers: *mut usize, qualifiers_length: usize, locations: *mut usize,
         locations_length: usize, letters: *mut u8, letters_length: usize,
     ) -> Answer;
@@ -70,25 +81,34 @@ extern "C" {
 /// The entry points of a landing.
 #[derive(Clone, Copy)]
 pub struct Library {
-    reader: Reader,
+    reader: Reads,
     writer: Writer,
 }
 
-pub const THIS: Library = Library { reader: vilggodan_read, writer: vilggodan_write };
+pub const THIS: Library = Library { reader: Reads::Switched(vilggodan_read), writer: vilggodan_write };
 
-/// Those of a shared object: the library of another landing whose rooms and answers have the same layout.
+/// Those of a shared object: the library of another landing whose rooms and answers have the same layout, with the switch or from before it.
 pub fn opened(path: &str) -> Option<Library> {
     const NOW: c_int = 2;
     let path = CString::new(path).ok()?;
     let found = |object, name: &CStr| Some(unsafe { dlsym(object, name.as_ptr()) }).filter(|f| !f.is_null());
     let object = Some(unsafe { dlopen(path.as_ptr(), NOW) }).filter(|o| !o.is_null())?;
     let (reader, writer) = (found(object, c"vilggodan_read")?, found(object, c"vilggodan_write")?);
-    Some(unsafe { Library { reader: std::mem::transmute::<*mut c_void, Reader>(reader), writer: std::mem::transmute::<*mut c_void, Writer>(writer) } })
+    let (switched, switchless, writer) = unsafe {
+        (
+            std::mem::transmute::<*mut c_void, Reader>(reader), std::mem::transmute::<*mut c_void, SwitchlessReader>(reader),
+            std::mem::transmute::<*mut c_void, Writer>(writer),
+        )
+    };
+    // a stray letter and then a byte that is 9: without a switch this is 9, whatever the arguments are taken for, and a refusal touches no room
+    let this = Library { reader: Reads::Switched(switched), writer };
+    let strays = this.read(b"LOCUS x\nORIGIN\nx-\n//\n", 0, true, &mut [], [&mut [], &mut [], &mut [], &mut [], &mut []], &mut []);
+    Some(if strays.number == 16 { this } else { Library { reader: Reads::Switchless(switchless), writer } })
 }
 
 /// Reads into these rooms.
-pub fn read(s: &[u8], at: usize, texts: &mut [u8], rows: [&mut [usize]; 5], letters: &mut [u8]) -> Answer {
-    THIS.read(s, at, texts, rows, letters)
+pub fn read(s: &[u8], at: usize, strict: bool, texts: &mut [u8], rows: [&mut [usize]; 5], letters: &mut [u8]) -> Answer {
+    THIS.read(s, at, strict, texts, rows, letters)
 }
 
 /// Writes the table of the rooms; the number answered and the bytes written or needed.
@@ -97,14 +117,22 @@ pub fn write(out: &mut [u8], rooms: &Rooms, how: How) -> (usize, usize) {
 }
 
 impl Library {
-    pub fn read(self, s: &[u8], at: usize, texts: &mut [u8], rows: [&mut [usize]; 5], letters: &mut [u8]) -> Answer {
+    /// A library without the switch reads as with it off.
+    pub fn read(self, s: &[u8], at: usize, strict: bool, texts: &mut [u8], rows: [&mut [usize]; 5], letters: &mut [u8]) -> Answer {
         let [references, comments, features, qualifiers, locations] = rows;
         unsafe {
-            (self.reader)(
-                s.as_ptr(), s.len(), at, texts.as_mut_ptr(), texts.len(), references.as_mut_ptr(), references.len(), comments.as_mut_ptr(), comments.len(),
-                features.as_mut_ptr().cast(), features.len() / ROWS[2], qualifiers.as_mut_ptr(), qualifiers.len(), locations.as_mut_ptr(), locations.len(),
-                letters.as_mut_ptr(), letters.len(),
-            )
+            match self.reader {
+                Reads::Switched(read) => read(
+                    s.as_ptr(), s.len(), at, strict, texts.as_mut_ptr(), texts.len(), references.as_mut_ptr(), references.len(), comments.as_mut_ptr(), comments.len(),
+                    features.as_mut_ptr().cast(), features.len() / ROWS[2], qualifiers.as_mut_ptr(), qualifiers.len(), locations.as_mut_ptr(), locations.len(),
+                    letters.as_mut_ptr(), letters.len(),
+                ),
+                Reads::Switchless(read) => read(
+                    s.as_ptr(), s.len(), at, texts.as_mut_ptr(), texts.len(), references.as_mut_ptr(), references.len(), comments.as_mut_ptr(), comments.len(),
+                    features.as_mut_ptr().cast(), features.len() / ROWS[2], qualifiers.as_mut_ptr(), qualifiers.len(), locations.as_mut_ptr(), locations.len(),
+                    letters.as_mut_ptr(), letters.len(),
+                ),
+            }
         }
     }
 
@@ -176,8 +204,8 @@ impl Lent {
         }
     }
 
-    pub fn read(&mut self, s: &[u8], at: usize) -> Answer {
-        read(s, at, self.texts.room(), self.rows.each_mut().map(Guarded::room), self.letters.room())
+    pub fn read(&mut self, s: &[u8], at: usize, strict: bool) -> Answer {
+        read(s, at, strict, self.texts.room(), self.rows.each_mut().map(Guarded::room), self.letters.room())
     }
 
     /// The rooms hold these and nothing else was touched.

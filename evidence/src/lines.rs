@@ -24,11 +24,10 @@ pub fn right(slice: &[u8], at: usize, number: usize, line: usize, offset: usize)
         return held(offset == locus, "6: not the LOCUS line");
     }
     held(locus < offset, "a line ahead of the header")?;
-    let origin = begin(&slice[locus..offset], b"ORIGIN").last().map(|start| locus + start);
+    let origin = origin(slice, at).filter(|&origin| origin < offset);
     let text = first_line(&slice[offset..]);
-    // the record, if `//` stood there: gb-io reads it. Not where that line is no UTF-8: it may have spoilt a DEFINITION before it, which is one without it
-    let well_up_to = |end: usize| matches!(departed_reading(&[&slice[at..end], b"//\n"].concat()), Reading::Done(..));
-    held(origin.is_some() || from_utf8(text).is_err() || well_up_to(offset), "a trouble before that line")?;
+    // not where that line is no UTF-8: it may have spoilt a DEFINITION before it, which is one without it
+    held(origin.is_some() || from_utf8(text).is_err() || well_up_to(slice, at, offset), "a trouble before that line")?;
     match number {
         5 => {
             held(text.starts_with(b"DEFINITION "), "5: not a DEFINITION")?;
@@ -42,7 +41,7 @@ pub fn right(slice: &[u8], at: usize, number: usize, line: usize, offset: usize)
             let quote = slice[next + there..].starts_with(b"\"");
             let goes_on = quote || there > here && !text.starts_with(b"FEATURES") || there == here && text[here..].starts_with(b"/");
             match origin {
-                None => held(!text.starts_with(b"//") && (goes_on || !well_up_to(next)), "7: nothing is wrong with that line"),
+                None => held(!text.starts_with(b"//") && (goes_on || !well_up_to(slice, at, next)), "7: nothing is wrong with that line"),
                 Some(origin) => ends_letters(slice, origin, offset, |b, next| b == b'/' && next != Some(b'/'), "7: no single / after the letters"),
             }
         }
@@ -68,7 +67,7 @@ fn feeds(bytes: &[u8]) -> usize {
 }
 
 /// The bytes before the first LF.
-fn first_line(bytes: &[u8]) -> &[u8] {
+pub fn first_line(bytes: &[u8]) -> &[u8] {
     bytes.split(|&b| b == b'\n').next().unwrap_or(b"")
 }
 
@@ -95,9 +94,40 @@ fn stopped(slice: &[u8], at: usize) -> usize {
     }
 }
 
+/// The line and the offset told of a trouble at a place.
+pub fn spot(slice: &[u8], at: usize, place: usize) -> (usize, usize) {
+    let before = &slice[at..place];
+    (1 + feeds(before), before.iter().rposition(|&b| b == b'\n').map_or(at, |i| at + i + 1))
+}
+
+/// The record, if `//` stood at a line: gb-io reads it.
+pub fn well_up_to(slice: &[u8], at: usize, line: usize) -> bool {
+    matches!(departed_reading(&[&slice[at..line], b"//\n"].concat()), Reading::Done(..))
+}
+
+/// ORIGIN's line, if the reading comes so far: the first after LOCUS that begins so. In the sections before it each further line of a text is indented.
+pub fn origin(slice: &[u8], at: usize) -> Option<usize> {
+    let locus = stopped(slice, at);
+    begin(&slice[locus..], b"ORIGIN").next().map(|start| locus + start)
+}
+
+/// Where the letters begin, if ORIGIN's line is one: blanks alone stand on it, or a text in UTF-8 after a space, and it has an end.
+pub fn letters_begin(slice: &[u8], origin: usize) -> Option<usize> {
+    let line = first_line(&slice[origin..]);
+    let end = Some(origin + line.len()).filter(|&end| end < slice.len())?;
+    let rest = &line.strip_suffix(b"\r").unwrap_or(line)[b"ORIGIN".len()..];
+    let blank = rest.iter().all(|&b| matches!(b, b' ' | b'\t'));
+    let text = rest.starts_with(b" ") && !rest.contains(&b'\r') && from_utf8(rest).is_ok();
+    (blank || text).then_some(end + 1)
+}
+
+/// A byte that does not end the letters.
+pub fn passed(b: u8) -> bool {
+    b.is_ascii_alphanumeric() || matches!(b, b' ' | b'\r' | b'\n')
+}
+
 /// The line at the offset has the first byte after ORIGIN's line that ends the letters, and with what follows it is as `due` says.
 fn ends_letters(slice: &[u8], origin: usize, offset: usize, due: impl Fn(u8, Option<u8>) -> bool, otherwise: &'static str) -> Result<(), &'static str> {
-    let passed = |b: u8| b.is_ascii_alphanumeric() || matches!(b, b' ' | b'\r' | b'\n');
     let before = &slice[origin + first_line(&slice[origin..]).len()..offset];
     let end = offset + first_line(&slice[offset..]).len();
     let first = (offset..end).find(|&i| !passed(slice[i]));

@@ -9,6 +9,7 @@ mod roundtrip;
 mod rules;
 mod slices;
 mod speed;
+mod strict;
 mod table;
 mod tables;
 mod tally;

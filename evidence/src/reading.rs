@@ -3,6 +3,7 @@ use crate::library::{Answer, Lent};
 use crate::lines;
 use crate::random::Random;
 use crate::slices::Slices;
+use crate::strict;
 use crate::table::{Rooms, ROWS};
 use crate::tally::Tally;
 use crate::{asis, departed, Reading};
@@ -59,16 +60,22 @@ fn shrunk(mut slice: Vec<u8>, mut at: usize, r: &mut Random) -> (Vec<u8>, usize)
     (slice, at)
 }
 
-/// The number that the library answers, and the departures that lie between it and the Rust.
+/// The number that the library answers, the departures that lie between it and the Rust, and where the letter stands that strict reading refuses.
 pub struct Judged {
     number: usize,
     verdict: String,
+    pub stray: Option<usize>,
 }
 
 impl Judged {
     pub fn count(&self, tally: &mut Tally) {
         tally.count(&self.verdict);
         tally.count(&format!("number {}", self.number));
+        tally.count(&match (self.stray, self.number) {
+            (Some(_), number) => format!("strict: 16, {number} without the switch"),
+            (None, 0) => "strict: 0".into(),
+            (None, _) => "strict: the same refusal".into(),
+        });
     }
 }
 
@@ -81,13 +88,15 @@ pub fn departed_reading(bytes: &[u8]) -> Reading {
 /// The verdict, or what is wrong.
 pub fn judged(slice: &[u8], at: usize, r: &mut Random) -> Result<Judged, &'static str> {
     if at > slice.len() || slice.len() > MOST {
-        return Ok(Judged { number: refused(slice, at, &[3], 0)?, verdict: "departure 5, a place beyond the slice or a slice too long".into() });
+        let answer = refused(slice, at, &[3], 0)?;
+        refused_alike(slice, at, answer)?;
+        return Ok(Judged { number: 3, verdict: "departure 5, a place beyond the slice or a slice too long".into(), stray: None });
     }
     let bytes = &slice[at..];
     let unchanged = asis::read(bytes);
     let expected = departed_reading(bytes);
-    let number = match &expected {
-        Reading::Done(table, used) => done(slice, at, &Rooms::of(table, || 0), at + used, r)?,
+    let answer = match &expected {
+        Reading::Done(table, used) => done(slice, at, false, &Rooms::of(table, || 0), at + used, r)?,
         _ if bytes.is_empty() => refused(slice, at, &[1], at)?,
         Reading::Panicked => refused(slice, at, &[2], at)?,
         Reading::Refused => refused(slice, at, &[2, 4, 5, 7, 8, 9, 14], at)?,
@@ -99,7 +108,18 @@ pub fn judged(slice: &[u8], at: usize, r: &mut Random) -> Result<Judged, &'stati
         _ if same(&unchanged, &expected) => "agrees with the Rust".into(),
         _ => named(between(bytes, &expected).ok_or("no set of departures gives this answer")?),
     };
-    Ok(Judged { number, verdict })
+    let stray = strict::stray(slice, at, &answer);
+    match (&expected, stray) {
+        (Reading::Done(table, _), _) if table.letters.iter().all(strict::coded) != stray.is_none() => {
+            return Err("a stray letter in the slice and not in the table, or the other way round");
+        }
+        (_, Some(place)) => refused_alike(slice, at, strict::sixteen(slice, at, place))?,
+        (Reading::Done(table, used), None) => {
+            done(slice, at, true, &Rooms::of(table, || 0), at + used, r)?;
+        }
+        (_, None) => refused_alike(slice, at, answer)?,
+    }
+    Ok(Judged { number: answer.number, verdict, stray })
 }
 
 /// The smallest set of departures, as a mask, with which gb-io reads this.
@@ -128,34 +148,45 @@ fn lengths(rooms: &Rooms) -> [usize; 7] {
     [sizes[0], sizes[1] * ROWS[0], sizes[2] * ROWS[1], sizes[3] * ROWS[2], sizes[4] * ROWS[3], sizes[5] * ROWS[4], sizes[6]]
 }
 
-/// The library refuses with one of the numbers and touches nothing, whatever the rooms.
-fn refused(slice: &[u8], at: usize, numbers: &[usize], place: usize) -> Result<usize, &'static str> {
-    let mut first = 0;
-    for lengths in [[0; 7], [slice.len().min(1000); 7]] {
-        let mut rooms = Lent::new(lengths);
-        let answer = rooms.read(slice, at);
-        let number = answer.number;
-        if !numbers.contains(&number) {
-            return Err("another number than a refusal that is due");
-        }
-        if first != 0 && number != first {
-            return Err("another refusal with other rooms");
-        }
-        first = number;
-        if !rooms.holds(&Rooms::default()) {
-            return Err("a refusal touched a room");
-        }
-        let Answer { line, offset, .. } = answer;
-        if answer != (Answer { line, offset, ..Answer::new(number, place) }) {
-            return Err("another place with a refusal, or a head or sizes");
-        }
-        lines::right(slice, at, number, line, offset)?;
+/// What the library answers, the same with rooms empty and large; it is a refusal, and touches nothing.
+fn refusal(slice: &[u8], at: usize, strict: bool) -> Result<Answer, &'static str> {
+    let answers = [0, slice.len().min(1000)].map(|length| {
+        let mut rooms = Lent::new([length; 7]);
+        let answer = rooms.read(slice, at, strict);
+        rooms.holds(&Rooms::default()).then_some(answer)
+    });
+    match answers {
+        [Some(one), Some(other)] if one == other => Ok(one),
+        [Some(_), Some(_)] => Err("another refusal with other rooms"),
+        _ => Err("a refusal touched a room"),
     }
-    Ok(first)
 }
 
-/// The library reads these rooms and this place, and asks for exactly that much room.
-fn done(slice: &[u8], at: usize, rooms: &Rooms, place: usize, r: &mut Random) -> Result<usize, &'static str> {
+/// The library refuses with one of the numbers.
+fn refused(slice: &[u8], at: usize, numbers: &[usize], place: usize) -> Result<Answer, &'static str> {
+    let answer = refusal(slice, at, false)?;
+    let Answer { number, line, offset, .. } = answer;
+    if !numbers.contains(&number) {
+        return Err("another number than a refusal that is due");
+    }
+    if answer != (Answer { line, offset, ..Answer::new(number, place) }) {
+        return Err("another place with a refusal, or a head or sizes");
+    }
+    lines::right(slice, at, number, line, offset)?;
+    Ok(answer)
+}
+
+/// With the switch on the library gives this refusal.
+fn refused_alike(slice: &[u8], at: usize, due: Answer) -> Result<(), &'static str> {
+    if refusal(slice, at, true)? == due {
+        Ok(())
+    } else {
+        Err("with the switch on another answer than is due")
+    }
+}
+
+/// The library, strictly or not, reads these rooms and this place, and asks for exactly that much room.
+fn done(slice: &[u8], at: usize, strict: bool, rooms: &Rooms, place: usize, r: &mut Random) -> Result<Answer, &'static str> {
     let exact = lengths(rooms);
     let mut short = exact;
     let needed: Vec<usize> = (0..7).filter(|&i| exact[i] > 0).collect();
@@ -163,7 +194,7 @@ fn done(slice: &[u8], at: usize, rooms: &Rooms, place: usize, r: &mut Random) ->
     short[i] -= 1;
     for small in [[0; 7], short] {
         let mut room = Lent::new(small);
-        let answer = room.read(slice, at);
+        let answer = room.read(slice, at, strict);
         if answer.number != 6 {
             return Err("not 6, though the rooms are too small");
         }
@@ -179,7 +210,7 @@ fn done(slice: &[u8], at: usize, rooms: &Rooms, place: usize, r: &mut Random) ->
     let more = exact.map(|n| n + r.below(20));
     for large in [exact, more] {
         let mut room = Lent::new(large);
-        let answer = room.read(slice, at);
+        let answer = room.read(slice, at, strict);
         if answer.number != 0 {
             return Err("not 0, though the rooms are large enough");
         }
@@ -190,5 +221,5 @@ fn done(slice: &[u8], at: usize, rooms: &Rooms, place: usize, r: &mut Random) ->
             return Err("other texts, rows or letters, or a canary is dead");
         }
     }
-    Ok(0)
+    Ok(Answer::new(0, place))
 }

@@ -1,7 +1,8 @@
-//! Round trip: a kept table is written by the keeping writer after another text, read back from its place, and must be the same.
+//! Round trip: a kept table is written by the keeping writer after another text, read back from its place, and must be the same; strictly too, if its letters have codes.
 use crate::library::{write, How, Lent};
 use crate::random::Random;
 use crate::rules::{kept, laid_out};
+use crate::strict::{coded, sixteen, stray};
 use crate::table::{Rooms, Table, ROWS};
 use crate::tables::{Job, Tables};
 use crate::tally::Tally;
@@ -21,7 +22,8 @@ pub fn run(count: u64, seed: u64, worker: u64) -> Tally {
         }
         done += 1;
         match round(&table, how, &mut r) {
-            Ok(()) => tally.count("kept, written, read back, equal"),
+            Ok(()) if table.letters.iter().all(coded) => tally.count("kept, written, read back, equal; strictly too"),
+            Ok(()) => tally.count("kept, written, read back, equal; strictly 16"),
             Err(_) => {
                 tally.count_left();
                 first.get_or_insert((table, how));
@@ -53,13 +55,23 @@ pub fn round(table: &Table, how: How, r: &mut Random) -> Result<(), &'static str
     slice.extend(after.as_bytes());
     let [texts, references, comments, features, qualifiers, locations, letters] = rooms.sizes();
     let rows = [references * ROWS[0], comments * ROWS[1], features * ROWS[2], qualifiers * ROWS[3], locations * ROWS[4]];
-    let mut lent = Lent::new([texts, rows[0], rows[1], rows[2], rows[3], rows[4], letters]);
-    let answer = lent.read(&slice, at);
+    let lengths = [texts, rows[0], rows[1], rows[2], rows[3], rows[4], letters];
+    let mut lent = Lent::new(lengths);
+    let answer = lent.read(&slice, at, false);
     if answer.number != 0 {
         return Err("the reader does not read it");
     }
     if !answer.done(&rooms, end) || !lent.holds(&rooms) {
         return Err("the reader reads another table");
+    }
+    let (due, left) = match stray(&slice, at, &answer) {
+        None => (answer, rooms),
+        Some(place) => (sixteen(&slice, at, place), Rooms::default()),
+    };
+    let mut lent = Lent::new(lengths);
+    let strictly = lent.read(&slice, at, true);
+    if (strictly.number == 0) != table.letters.iter().all(coded) || strictly != due || !lent.holds(&left) {
+        return Err("the reader does otherwise with the switch on");
     }
     Ok(())
 }

@@ -1,6 +1,6 @@
 //! Slices to read from: good records, damaged ones, small heaps of lines, and records one after the other.
 use crate::random::Random;
-use crate::words::{escaped, put_words, words, KEYS, KINDS, LETTERS, MONTHS};
+use crate::words::{escaped, letters, put_words, words, KEYS, KINDS, MONTHS};
 
 const HEADER: [&str; 8] = ["DEFINITION", "ACCESSION", "VERSION", "DBLINK", "KEYWORDS", "SOURCE", "REFERENCE", "COMMENT"];
 
@@ -266,7 +266,7 @@ impl Slices {
         }
     }
 
-    fn sequence(&mut self, letters: usize) {
+    fn sequence(&mut self, count: usize) {
         if self.r.chance(95) {
             let after = self.r.pick(&["", "      ", "      ", " \t", " chr 1", "  x"]);
             self.put(b"ORIGIN");
@@ -274,7 +274,7 @@ impl Slices {
         } else {
             self.field(0, "ORIGIN");
         }
-        for i in 0..letters {
+        for (i, letter) in letters(&mut self.r, count).into_iter().enumerate() {
             if i % 60 == 0 {
                 if i > 0 {
                     self.finish_line();
@@ -284,9 +284,9 @@ impl Slices {
             if i % 10 == 0 {
                 self.out.push(b' ');
             }
-            self.out.push(self.r.pick(LETTERS));
+            self.out.push(letter);
         }
-        if letters > 0 {
+        if count > 0 {
             self.finish_line();
         }
     }
@@ -337,7 +337,7 @@ impl Slices {
     fn small(&mut self) -> Vec<u8> {
         const BAG: &[&[u8]] = &[b"LOCUS ", b"LOCUS       x 4 bp DNA linear SYN 01-JAN-2001", b"DEFINITION  a", b"            b", b"  ORGANISM  o", b"SOURCE s",
             b"       t", b"//", b"FEATURES  Location/Qualifiers", b" g  1..2", b"    /k", b"    /k=\"v\"", b"    /k=v", b"    /k=\"a\"\"", b"    \"b\"", b"    more",
-            b"    /translation=\"MK", b"    LV\"", b"ORIGIN", b"ORIGIN x", b"acgt", b"1 acg t", b"CONTIG 1..5", b"       6", b"BASE COUNT 1", b"REFERENCE 1", b"  TITLE t",
+            b"    /translation=\"MK", b"    LV\"", b"ORIGIN", b"ORIGIN x", b"acgt", b"1 acg t", b"acgx", b"1 e-", b"-q", b"z/", b"CONTIG 1..5", b"       6", b"BASE COUNT 1", b"REFERENCE 1", b"  TITLE t",
             b"   PUBMED 5", b"          6", b"COMMENT c", b"", b" ", "é".as_bytes(), b"\xff", b"\r", b"KEYWORDS", b"x\ry", b"/", b"    \xc3", b"    \xa9x", b"\t",
             b"    /k=\"\xc3", b"    /=", b"    /k=="];
         let r = &mut self.r;
@@ -379,7 +379,7 @@ impl Slices {
         for _ in 0..self.r.from_to(1, 3) {
             let r = &mut self.r;
             let at = r.from_to(0, text.len());
-            match r.below(14) {
+            match r.below(17) {
                 0 => text.truncate(at),
                 1 | 2 => {
                     let new: &[u8] = r.pick(&[b"\r" as &[u8], b"\n", b"\r\n", b"\t", b" ", b"\"", b"\"\"", b"/", b"//", b"=", b"\0", b"\xff", b"\xc3\xa9", b"\xc3", b"\x80", b":", b"7"]);
@@ -390,10 +390,25 @@ impl Slices {
                     let end = text.len().min(at + r.from_to(1, 6));
                     text.drain(at..end);
                 }
+                14.. => self.damage_letters(&mut text),
                 kind => text = self.damaged_line(kind, &text),
             }
         }
         text
+    }
+
+    /// Behind the last ORIGIN a letter, most often one without a code, a byte that ends the letters or cannot stand there, or the end.
+    fn damage_letters(&mut self, text: &mut Vec<u8>) {
+        let Some(origin) = text.windows(6).rposition(|w| w == b"ORIGIN") else {
+            return;
+        };
+        let r = &mut self.r;
+        let at = r.from_to(origin + 6, text.len());
+        if r.chance(20) {
+            text.truncate(at);
+        }
+        let new = r.pick(&[b"e" as &[u8], b"X", b"j", b"N", b"-", b"*", b"\t", b"e-", b"-e", b"L/", b"/l", b"e//", b"\nq", b"x\r\n", b"z\xff", b"\r", b""]);
+        text.splice(at..at, new.iter().copied());
     }
 
     fn damaged_line(&mut self, kind: usize, text: &[u8]) -> Vec<u8> {

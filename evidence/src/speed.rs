@@ -34,7 +34,47 @@ pub fn run(rounds: u64) -> bool {
     println!("how many times the speed of the faster gb-io (best against best; worst round), and how many times memcpy's time;");
     println!("the other is {}", if std::env::var("EVIDENCE_BEFORE").is_ok() { "the library of another landing" } else { "the same library" });
     inputs.into_iter().all(|(name, table)| measured(name, &table, rounds).is_some())
+        && strict_letters(&mut r).into_iter().all(|(name, table)| measured_strict(name, &table, rounds).is_some())
         && headers().into_iter().chain(locations()).all(|(name, text)| measured_reading(name, &text, rounds).is_some())
+}
+
+/// Records of letters, which are read strictly and not: of bases alone, and with another code three times in each line of sixty.
+fn strict_letters(r: &mut Random) -> [(&'static str, Table); 5] {
+    let mut salted = |letters: usize, codes: &[u8]| {
+        let mut t = table(r, letters, 0);
+        for line in t.letters.chunks_mut(60).filter(|_| !codes.is_empty()) {
+            (0..3).for_each(|_| line[r.below(line.len())] = r.pick(codes));
+        }
+        t
+    };
+    [("letters strictly, 64 KiB", salted(51_700, b"")), ("letters strictly, 10 MB", salted(8_280_000, b"")), ("letters strictly, 16 MiB", salted(13_244_000, b"")),
+        ("letters strictly, 10 MB, n in each line", salted(8_280_000, b"n")), ("letters strictly, 10 MB, other codes in each line", salted(8_280_000, b"ryswkmbdhv"))]
+}
+
+/// With the switch on and off turn by turn, room at hand.
+fn measured_strict(name: &str, table: &Table, rounds: u64) -> Option<()> {
+    let Writing::Done(text) = asis::write(table, false, false) else {
+        return None;
+    };
+    let (this, _) = libraries();
+    let mut room = read_asked(&text)?;
+    let repeats = ROUND / text.len() + 1;
+    let mut times = [Vec::new(), Vec::new()];
+    for _ in 0..rounds {
+        for (own, strict) in times.iter_mut().zip([false, true]) {
+            own.push(timed(repeats, || read_at_hand(this, black_box(&text), strict, &mut room).unwrap()));
+        }
+    }
+    let [off, on] = &times;
+    let mut ratios: Vec<f64> = off.iter().zip(on).map(|(off, on)| on / off).collect();
+    ratios.sort_by(f64::total_cmp);
+    let each = 1e9 / text.len() as f64;
+    println!("\n{name}: {} bytes", text.len());
+    for (what, own) in [("off", off), ("on", on)] {
+        println!("  reading library, room at hand, the switch {what:<4} {:>8.3} to {:>8.3} ns", least(own) * each, most(own) * each);
+    }
+    println!("  on / off, best against best {:.2}, by the rounds' median {:.2}", least(on) / least(off), ratios[ratios.len() / 2]);
+    Some(())
 }
 
 /// Records of very many header lines, which are only read.
@@ -78,8 +118,8 @@ fn time_reading((this, other): (Library, Library), reading: &mut [Vec<f64>], tex
     reading[0].push(timed(repeats, || parse_slice(black_box(text)).unwrap()));
     reading[1].push(timed(repeats, || SeqReader::new(black_box(text)).next().unwrap().unwrap()));
     reading[2].push(timed(repeats, || read_asked(black_box(text)).unwrap()));
-    reading[3].push(timed(repeats, || read_at_hand(this, black_box(text), room)));
-    reading[4].push(timed(repeats, || read_at_hand(other, black_box(text), room)));
+    reading[3].push(timed(repeats, || read_at_hand(this, black_box(text), false, room)));
+    reading[4].push(timed(repeats, || read_at_hand(other, black_box(text), false, room)));
     reading[5].push(timed(repeats, || out[..text.len()].copy_from_slice(black_box(text))));
 }
 
@@ -112,9 +152,15 @@ fn measured(name: &str, table: &Table, rounds: u64) -> Option<()> {
     Some(())
 }
 
+fn least(times: &[f64]) -> f64 {
+    times.iter().copied().fold(f64::INFINITY, f64::min)
+}
+
+fn most(times: &[f64]) -> f64 {
+    times.iter().copied().fold(0.0, f64::max)
+}
+
 fn show(what: &str, bytes: usize, gb_io: &[&str], times: &[Vec<f64>]) {
-    let least = |times: &[f64]| times.iter().copied().fold(f64::INFINITY, f64::min);
-    let most = |times: &[f64]| times.iter().copied().fold(0.0, f64::max);
     let rounds = times[0].len();
     let gb_io_rounds: Vec<f64> = (0..rounds).map(|i| least(&times[..gb_io.len()].iter().map(|own| own[i]).collect::<Vec<_>>())).collect();
     let memcpy = least(&times[times.len() - 1]);
@@ -139,7 +185,7 @@ const HOW: How = How { keeping: false, width: WIDTH, truncate: false, escape: fa
 
 /// Sizes first, then rooms of these sizes, then the record.
 fn read_asked(text: &[u8]) -> Option<Rooms> {
-    let answer = library::read(text, 0, &mut [], [&mut [], &mut [], &mut [], &mut [], &mut []], &mut []);
+    let answer = library::read(text, 0, false, &mut [], [&mut [], &mut [], &mut [], &mut [], &mut []], &mut []);
     if answer.number != 6 {
         return None;
     }
@@ -147,14 +193,14 @@ fn read_asked(text: &[u8]) -> Option<Rooms> {
     let row = |i: usize| vec![0; sizes[1 + i] * ROWS[i]];
     let mut rooms = Rooms { texts: vec![0; sizes[0]], references: row(0), comments: row(1), features: row(2), qualifiers: row(3), locations: row(4),
         letters: vec![0; sizes[6]], head: Vec::new() };
-    rooms.head = read_at_hand(THIS, text, &mut rooms)?;
+    rooms.head = read_at_hand(THIS, text, false, &mut rooms)?;
     Some(rooms)
 }
 
 /// The head of the record that is read into these rooms.
-fn read_at_hand(by: Library, text: &[u8], rooms: &mut Rooms) -> Option<Vec<usize>> {
+fn read_at_hand(by: Library, text: &[u8], strict: bool, rooms: &mut Rooms) -> Option<Vec<usize>> {
     let Rooms { texts, references, comments, features, qualifiers, locations, letters, .. } = rooms;
-    let answer = by.read(text, 0, texts, [references, comments, features, qualifiers, locations], letters);
+    let answer = by.read(text, 0, strict, texts, [references, comments, features, qualifiers, locations], letters);
     (answer.number == 0).then(|| answer.head.to_vec())
 }
 

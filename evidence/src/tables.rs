@@ -2,7 +2,7 @@
 use crate::random::Random;
 use crate::rules::{BARE, COMMA};
 use crate::table::{Feature, Reference, Table, Text};
-use crate::words::{words, KINDS, LETTERS};
+use crate::words::{letters, words, KINDS};
 
 pub struct Tables {
     pub r: Random,
@@ -300,7 +300,7 @@ impl Tables {
     fn locus(&mut self, t: &mut Table) {
         let present = if self.gentle { 100 } else { 90 };
         let count = self.r.pick(&[0, 0, 0, 0, 1, 12, 59, 60, 61, 119, 120, 121]);
-        t.letters = (0..count).map(|_| self.r.pick(LETTERS)).collect();
+        t.letters = letters(&mut self.r, count);
         if count > 0 && self.odd(10) {
             t.letters[count - 1] = self.r.pick(b"1 \xff");
         }

@@ -2,6 +2,7 @@
 import rules
 import rust
 import statements
+import strays
 import tables
 
 AGREES = "agrees with the Rust"
@@ -35,8 +36,8 @@ class Case:
 class Reading(Case):
     departures = rust.READING
 
-    def __init__(self, data, at):
-        self.data, self.at = data, at
+    def __init__(self, data, at, strict=False):
+        self.data, self.at, self.strict = data, at, strict
         self.size = len(data)
 
     def request(self, mask):
@@ -49,38 +50,46 @@ class Reading(Case):
 
     def requests(self):
         masks = rust.mask(self.departures), rust.mask(self.departures + (rust.SEVENTEEN,))
-        return super().requests() + [rust.read_request(m, 0, s) for s in self.seventeens() for m in masks]
+        closed = [rust.read_request(m, 0, s) for s in self.seventeens() for m in masks]
+        return super().requests() + closed + (strays.requests(self.data, self.at) if self.strict else [])
 
     def take(self, replies):
-        """Number 14 is due if one of `seventeens` is read with seventeen words allowed and not with sixteen: up to that bracket there is no other trouble."""
-        closed = len(self.seventeens()) * 2
-        first, asked = replies[:len(replies) - closed], replies[len(replies) - closed:]
-        super().take(first)
-        self.deep = any(b.startswith("0 ") and not a.startswith("0 ") for a, b in zip(asked[::2], asked[1::2]))
+        """Number 14 is due if one of `seventeens` is read with seventeen words allowed and not with sixteen: up to that bracket there is no other trouble. Number 16 is due, with the
+        switch on, if there is a stray letter."""
+        closed = len(rust.subsets(self.departures)) + 1
+        letters = closed + len(self.seventeens()) * 2
+        super().take(replies[:closed])
+        self.deep = any(b.startswith("0 ") and not a.startswith("0 ") for a, b in zip(replies[closed:letters:2], replies[closed + 1:letters:2]))
+        self.stray = strays.first(self.data, self.at, replies[letters:])
 
     def show(self):
-        return "read at %d of %r" % (self.at, self.data)
+        return "read%s at %d of %r" % (" strictly" if self.strict else "", self.at, self.data)
 
     def statements(self):
+        how = self.strict, self.data, self.at
         if self.at > len(self.data):
-            return [statements.refuses(self.data, self.at, 3, 0)]
+            return [statements.refuses(*how, 3, 0)]
         if self.at == len(self.data):
-            return [statements.refuses(self.data, self.at, 1, self.at)]
+            return [statements.refuses(*how, 1, self.at)]
         if self.deep:
-            return [statements.refuses(self.data, self.at, 14, self.at)]
+            return [statements.refuses(*how, 14, self.at)]
+        if self.stray is not None:
+            return [statements.refuses_in(*how, 16, self.at, *strays.spot(self.data, self.at, self.stray))]
         kind, _, rest = self.departed.partition(" ")
         if kind == "0":
             place, _, table = rest.partition(" ")
-            return [statements.reads(self.data, self.at, tables.from_line(table), int(place))]
+            return [statements.reads(*how, tables.from_line(table), int(place))]
         if kind == "panic":
-            return [statements.refuses(self.data, self.at, 2, self.at)]
+            return [statements.refuses(*how, 2, self.at)]
         if "none" in (kind, self.unchanged):
-            return [statements.refuses_by(self.data, self.at, (2, 4))]
-        return [statements.refuses_by(self.data, self.at, (2, 4, 5, 7, 8, 9))]
+            return [statements.refuses_by(*how, (2, 4))]
+        return [statements.refuses_by(*how, (2, 4, 5, 7, 8, 9))]
 
     def verdict(self):
         if self.at > len(self.data):
             return _named((5,)) + ", number 3"
+        if self.stray is not None:
+            return _named((5,)) + ", number 16"
         if self.departed == "panic":
             return _named((5,)) + ", the Rust panics"
         refused = ("err", "none")
@@ -96,7 +105,7 @@ class Reading(Case):
             step = max(1, piece // 2, n // 100)
             for i in range(0, n - piece + 1, step):
                 at = self.at if self.at <= i else max(i, self.at - piece)
-                yield Reading(self.data[:i] + self.data[i + piece:], at)
+                yield Reading(self.data[:i] + self.data[i + piece:], at, self.strict)
             piece //= 2
 
 
@@ -130,7 +139,7 @@ class Writing(Case):
         kept = rules.kept(self.table, *self.how)
         out = [statements.writes(*self.how, self.table, 0 if kept else 13, data)]
         if kept:  # what the keeping writer writes is read back
-            out.append(statements.reads(data, 0, self.table, len(data)))
+            out.append(statements.reads(False, data, 0, self.table, len(data)))
         return out
 
     def verdict(self):

@@ -1,5 +1,6 @@
 """Makes inputs from a seed: slices with a place to read from, and tables with a width and the two switches to write with."""
 import random
+import string
 
 import rules
 import tables
@@ -296,6 +297,19 @@ class Slices:
         return b"".join(parts), at
 
 
+class Lettered(Slices):
+    """More good records, for reading strictly: any letter, now and then another byte, put behind ORIGIN or in a byte's place there."""
+
+    def one(self):
+        text = self.record() if self.chance(0.7) else super().one()
+        start = text.rfind(b"ORIGIN") + len(b"ORIGIN")
+        for _ in range(self.r.choice([0, 1, 1, 2, 3]) if b"ORIGIN" in text else 0):
+            at = self.r.randint(start, max(start, len(text) - len(b"//\n")))
+            byte = self.r.choice(string.ascii_letters).encode() if self.chance(0.9) else self.r.choice([b"-", b"*", b"@", b"[", b"`", b"{", b"\t", b"\xff", b"/"])
+            text = text[:at] + byte + text[at + self.r.choice([0, 1, 1, 1]):]
+        return text
+
+
 # ---- tables
 
 class Writings:
@@ -517,6 +531,10 @@ def distinct(source, count, key):
 
 def slices(seed, count):
     return list(distinct(Slices(seed), count, lambda x: x))
+
+
+def lettered(seed, count):
+    return list(distinct(Lettered("letters %s" % seed), count, lambda x: x))
 
 
 def writings(seed, count):

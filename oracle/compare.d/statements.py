@@ -83,23 +83,27 @@ def location(contig, text, found):
     return "Location.reading %s %s ≡ %s" % (tables.antt_bool(contig), tables.antt_bytes(text), answer)
 
 
-def reads(data, at, table, place):
-    return "Record.readAt %s %d ≡ Read %s %s" % (tables.antt_bytes(data), at, tables.antt_table(table), tables.antt_bytes(data[place:]))
+def _reading(strict, data, at):
+    return "(Strict.readBy %s %s %d)" % (tables.antt_bool(strict), tables.antt_bytes(data), at)
 
 
-def refuses(data, at, number, place):
-    return "refusal %d (Record.readAt %s %d) ≡ %d ∷ %d ∷ []" % (at, tables.antt_bytes(data), at, number, place)
+def reads(strict, data, at, table, place):
+    return "%s ≡ Read %s %s" % (_reading(strict, data, at), tables.antt_table(table), tables.antt_bytes(data[place:]))
 
 
-def refuses_in(data, at, number, place, line, offset, sizes):
+def refuses(strict, data, at, number, place):
+    return "refusal %d %s ≡ %d ∷ %d ∷ []" % (at, _reading(strict, data, at), number, place)
+
+
+def refuses_in(strict, data, at, number, place, line, offset, sizes=()):
     """A refusal with its line and offset, and with 6 the sizes."""
-    listed = "".join("%d ∷ " % n for n in [number, place, line, offset] + sizes)
-    return "lined %s %d (Record.readAt %s %d) ≡ %s[]" % (tables.antt_bytes(data), at, tables.antt_bytes(data), at, listed)
+    listed = "".join("%d ∷ " % n for n in [number, place, line, offset, *sizes])
+    return "lined %s %d %s ≡ %s[]" % (tables.antt_bytes(data), at, _reading(strict, data, at), listed)
 
 
-def refuses_by(data, at, numbers):
+def refuses_by(strict, data, at, numbers):
     listed = "".join("(%d ∷ []) ∷ " % n for n in numbers)
-    return "refusedBy (%s[]) %d (Record.readAt %s %d) ≡ true" % (listed, at, tables.antt_bytes(data), at)
+    return "refusedBy (%s[]) %d %s ≡ true" % (listed, at, _reading(strict, data, at))
 
 
 def _writing(width, truncate, escape, table):
@@ -175,7 +179,8 @@ class Prover:
         (crate / "specs" / "Held.antt").write_text("\n".join(text))
 
     def _check(self, crates):
-        listed = ["%s:%s" % item for item in self.needed.items()] + ["%s: spec_format spec_lines" % name for name in crates]
+        below = " ".join(sorted({c for c, _ in self.names}))
+        listed = ["%s:%s" % item for item in self.needed.items()] + ["%s: %s" % (name, below) for name in crates]
         (self.folder / "crates.txt").write_text("\n".join(listed) + "\n")
         return subprocess.run(["rt", "check"] + list(crates), cwd=self.folder, env=dict(os.environ, RT_CUT="0"),
                               stdout=subprocess.PIPE, stderr=subprocess.STDOUT, text=True)

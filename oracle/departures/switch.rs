@@ -16,7 +16,7 @@ use crate::seq::{Date, Location, Topology};
 static MASK: AtomicU32 = AtomicU32::new(0);
 static WIDTH: AtomicUsize = AtomicUsize::new(79);
 
-/// Bit d of `mask` switches departure d on; bits 16 and 17 are no departures.
+/// Bit d of `mask` switches departure d on; bits 16, 17 and 18 are no departures.
 pub fn set(mask: u32, width: usize) {
     MASK.store(mask, Relaxed);
     WIDTH.store(width, Relaxed);

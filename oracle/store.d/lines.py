@@ -5,6 +5,7 @@ import cases
 import rooms
 import rules
 import rust
+import strays
 import tables
 
 TEXT, NUMBERS = 4096, 264  # the rooms of `replay`
@@ -34,16 +35,17 @@ NOTHING = in_rooms(rooms.Rooms(None))
 
 
 class Reading:
-    """A place in a slice, rooms (whole ones, or of these lengths), the numbers that may be answered, what is told with them, the table, and line and offset where they are known."""
+    """A place in a slice, rooms (whole ones, or of these lengths), the numbers that may be answered, what is told with them, the table, line and offset where they are known, and
+    whether it is read strictly."""
     title = None
 
-    def __init__(self, data, at, permitted, told, table=None, departures=(), lent=(), spot=None):
+    def __init__(self, data, at, permitted, told, table=None, departures=(), lent=(), spot=None, strict=False):
         self.data, self.at, self.permitted, self.told, self.table = data, at, list(permitted), list(told), table
-        self.departures, self.lent, self.spot = list(departures), list(lent), spot
+        self.departures, self.lent, self.spot, self.strict = list(departures), list(lent), spot, strict
 
     def line(self):
         found = rooms.Rooms(self.table) if self.permitted == [0] else None
-        return "R " + numbers(self.departures) + text(self.data) + numbers([self.at] + self.lent) + numbers(self.permitted) + \
+        return ("S " if self.strict else "R ") + numbers(self.departures) + text(self.data) + numbers([self.at] + self.lent) + numbers(self.permitted) + \
             numbers(self.told + (found.head if found else [])) + (in_rooms(found) if found else NOTHING) + (numbers(self.spot) if self.spot else "")
 
 
@@ -83,21 +85,26 @@ def departures(case):
 
 
 def rust_reading(case):
-    """What the Rust, with the departures on, makes of a slice. Its refusals have no number; 14 is found by closing the slice (compare.d/cases.py)."""
-    at, by = case.at, departures(case)
+    """What the Rust, with the departures on, makes of a slice. Its refusals have no number; 14 is found by closing the slice (compare.d/cases.py), 16 by ending it (compare.d/strays.py)."""
+    def found(permitted, place, table=None, spot=None):
+        return Reading(case.data, case.at, permitted, [place], table, departures(case), spot=spot, strict=case.strict)
+
+    at = case.at
     if at > len(case.data):
-        return Reading(case.data, at, [3], [0], departures=by)
+        return found([3], 0)
     if at == len(case.data):
-        return Reading(case.data, at, [1], [at], departures=by)
+        return found([1], at)
     if case.deep:
-        return Reading(case.data, at, [14], [at], departures=by)
+        return found([14], at)
+    if case.stray is not None:
+        return found([16], at, spot=strays.spot(case.data, at, case.stray))
     kind, _, rest = case.departed.partition(" ")
     if kind == "0":
         place, _, table = rest.partition(" ")
-        return Reading(case.data, at, [0], [int(place)], tables.from_line(table), by)
+        return found([0], int(place), tables.from_line(table))
     if kind == "panic":
-        return Reading(case.data, at, [2], [at], departures=by)
-    return Reading(case.data, at, NONE if "none" in (kind, case.unchanged) else REFUSED, [at], departures=by)
+        return found([2], at)
+    return found(NONE if "none" in (kind, case.unchanged) else REFUSED, at)
 
 
 def rust_writing(case):
@@ -116,6 +123,6 @@ def short_rooms(readings):
         found = rooms.Rooms(r.table)
         exact = found.lengths()
         shorts = [exact[:i] + [n - 1] + exact[i + 1:] for i, n in enumerate(exact) if n]
-        yield Reading(r.data, r.at, [0], r.told, r.table, r.departures, exact)
+        yield Reading(r.data, r.at, [0], r.told, r.table, r.departures, exact, strict=r.strict)
         for lent in [[0] * len(exact)] + shorts:
-            yield Reading(r.data, r.at, [6], [r.at] + found.sizes(), departures=[5], lent=lent)
+            yield Reading(r.data, r.at, [6], [r.at] + found.sizes(), departures=[5], lent=lent, strict=r.strict)

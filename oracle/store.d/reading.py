@@ -2,8 +2,10 @@
 
 A case: what it shows, a slice, and the number of its last reading after document 01 (the Rust refuses without a number; the script holds the number against what its
 refusal may be). Record after record is read from the slice's start up to a refusal, or, with `at`, only the record at that place. All but that number comes from the Rust.
+A case of STRICT is read with the switch on and, where that tells more, with it off; each has the line of its refusal too, which the Rust tells with 16 alone (compare.d/strays.py).
 To add a case, add a line and run oracle/store --cases.
 """
+import re
 import sys
 
 import cases
@@ -188,25 +190,133 @@ CASES = [
 ]
 
 
-def read_on(title, data, last, at):
+# ---- with the switch on
+
+X = b"LOCUS x\n"
+ORIGIN = b"ORIGIN\n"
+CODED = b"ACGTURYSWKMBDHVN"
+STRAY = b"EFIJLOPQXZ"
+
+
+def usual(place, letter, end=b"\n", count=180):
+    """A record as it is usually laid out, with that letter at a place of its letters."""
+    letters = (b"acgtacgtac" * (count // 10 + 1))[:count]
+    letters = letters[:place] + letter + letters[place + 1:]
+    lines = [b"LOCUS       x                        %d bp    DNA     linear   SYN 01-MAR-2024" % count, b"ORIGIN      "]
+    for i in range(0, count, 60):
+        lines.append(b"%9d " % (i + 1) + b" ".join(letters[j:j + 10] for j in range(i, min(i + 60, count), 10)))
+    return b"".join(line + end for line in lines + [b"//"])
+
+
+def strictly(title, data, on, off=None, at=0):
+    """Number and line with the switch on, and with it off where that tells more; line 0 where none is told."""
+    return [(title, data, on[0], at, on[1], True)] + ([(title + ", the switch off", data, off[0], at, off[1], False)] if off else [])
+
+
+STRICT = [
+    # Which letters.
+    *(strictly("a stray letter, %c" % b, X + ORIGIN + b"%c\n" % b + END, (16, 3)) for b in STRAY + STRAY.lower()),
+    *(strictly("a letter with a code, %c" % b, X + ORIGIN + b"%c\n" % b + END, (0, 0)) for b in CODED + CODED.lower()),
+    strictly("U and u stay", A + ORIGIN + b"uUt\n" + END, (0, 0), (0, 0)),
+    strictly("all letters", X + ORIGIN + CODED + CODED.lower() + STRAY + b"\n" + STRAY.lower() + END, (16, 3), (0, 0)),
+    # Ahead of 9, or behind it.
+    strictly("a stray letter, and then a byte that is 9", X + ORIGIN + b" ax\n -\n" + END, (16, 3), (9, 4)),
+    strictly("a byte that is 9, and then a stray letter", X + ORIGIN + b" a-\n x\n" + END, (9, 3), (9, 3)),
+    strictly("a stray letter and such a byte in one line", X + ORIGIN + b" x-\n" + END, (16, 3), (9, 3)),
+    strictly("such a byte and a stray letter in one line", X + ORIGIN + b" -x\n" + END, (9, 3), (9, 3)),
+    *(strictly("byte %d is no letter" % b, X + ORIGIN + b" %c\n" % b + END, (9, 3)) for b in b"@[`{*\t\xd8\xf8"),
+    # Ahead of 8, 2 and 7.
+    strictly("a stray letter, and too few", A + ORIGIN + b" ax\n" + END, (16, 3), (8, 4)),
+    strictly("a stray letter, and too many", A + ORIGIN + b" acgx\n" + END, (16, 3), (8, 4)),
+    strictly("a stray letter, and as many as LOCUS says", A + ORIGIN + b" acx\n" + END, (16, 3), (0, 0)),
+    strictly("too few, none stray", A + ORIGIN + b" ac\n" + END, (8, 4)),
+    strictly("the input ends with a stray letter", A + ORIGIN + b" ax", (16, 3), (2, 3)),
+    strictly("the input ends with its line", A + ORIGIN + b" ax\n", (16, 3), (2, 4)),
+    strictly("the input ends with it, no length in LOCUS", X + ORIGIN + b"x", (16, 3), (2, 3)),
+    strictly("the input ends with it, as many as LOCUS says", A + ORIGIN + b"acx", (16, 3), (0, 0)),
+    strictly("the input ends, none stray, as many as LOCUS says", A + ORIGIN + b"acg", (0, 0)),
+    strictly("the input ends, none stray", A + ORIGIN + b" ac", (2, 3)),
+    strictly("a letter behind the slash is none of the sequence", X + ORIGIN + b" a\n/x\n" + END, (7, 4), (7, 4)),
+    strictly("the same in one line", X + ORIGIN + b" a/x\n" + END, (7, 3)),
+    strictly("the same, no slashes later", X + ORIGIN + b" a/x\n", (2, 4)),
+    strictly("the same and another length", A + ORIGIN + b" a/x\n" + END, (8, 3)),
+    strictly("a letter behind the two slashes", X + ORIGIN + b" a//x\n", (4, 2), at=None),
+    strictly("a stray letter ahead of a slash", X + ORIGIN + b" x\n/x\n" + END, (16, 3), (7, 4)),
+    strictly("the same, no slashes later", X + ORIGIN + b" x/x\n", (16, 3), (2, 4)),
+    # Where letters are none of the sequence.
+    strictly("letters in ORIGIN's text", A + b"ORIGIN      exon of file Z\n        1 acg\n" + END, (0, 0)),
+    strictly("a letter at the column of ORIGIN's text", X + b"ORIGIN x\n       x\n" + END, (16, 3), (0, 0)),
+    strictly("the input ends in ORIGIN's text", X + b"ORIGIN exon", (2, 2)),
+    strictly("ORIGIN without letters", X + ORIGIN + END, (0, 0)),
+    strictly("no ORIGIN", X + END, (0, 0)),
+    strictly("no ORIGIN, but a line like it", X + b"ORIGINx\nx\n" + END, (7, 2)),
+    strictly("letters everywhere else", A + b"DEFINITION  exile\nSOURCE      fox\n" + TABLE + FEATURE + QUALIFIER + b'/note="EFIJLOPQXZ"\n'
+             b"BASE COUNT  1 x\nCONTIG      join(FIZ.1:1..2,gap(efijlopqxz))\nORIGIN\n        1 acg\n" + END, (0, 0)),
+    # Ahead of it in the file.
+    strictly("two DEFINITIONs, and then a stray letter", A + TWO + ORIGIN + b" x\n" + END, (5, 3), (5, 3)),
+    strictly("seventeen words, and then a stray letter", A + LOCATED + b" a " + b"join(" * 17 + b"1\n" + ORIGIN + b" x\n" + END, (14, 3)),
+    strictly("seventeen words in CONTIG, and then a stray letter", A + b"CONTIG " + b"join(" * 17 + b"1\n" + ORIGIN + b" x\n" + END, (14, 2)),
+    strictly("a feature that is not taken, and then a stray letter", A + LOCATED + b" a x\n" + ORIGIN + b" x\n" + END, (7, 3)),
+    strictly("no LOCUS", b"x\nORIGIN\nx\n", (4, 4)),
+    strictly("the LOCUS line has no end", b"LOCUS x", (2, 1)),
+    strictly("at the end", X + ORIGIN + b"x", (1, 0), at=16),
+    strictly("beyond the end", X + ORIGIN + b"x", (3, 0), at=17),
+    # Places and lines.
+    *(strictly("place %d of 180, %c" % (i, b), usual(i, b"%c" % b), (16, 3 + i // 60)) for i in (0, 9, 10, 29, 59, 120, 129, 130, 149, 179) for b in b"xZ"),
+    strictly("a letter in the middle of line 3", usual(149, b"p"), (16, 5), (0, 0)),
+    *(strictly("place %d of 180, with CR LF" % i, usual(i, b"l", b"\r\n"), (16, 3 + i // 60)) for i in (0, 59, 60, 150, 179)),
+    strictly("180 letters, none stray", usual(0, b"N"), (0, 0)),
+    strictly("180 letters, none stray, with CR LF", usual(179, b"w", b"\r\n"), (0, 0)),
+    strictly("the last letter of a short line", usual(124, b"E", count=125), (16, 5)),
+    strictly("the last letter of fifty lines", usual(2999, b"e", count=3000), (16, 52), (0, 0)),
+    strictly("a stray CR ends no line", X + ORIGIN + b" a\rx\n" + END, (16, 3), (0, 0)),
+    strictly("lines before LOCUS count", b"first\n\r\n" + X + ORIGIN + b"\n\n 1 x\n" + END, (16, 7)),
+    strictly("a place in a line", b"first\n" + X + ORIGIN + b" x\n" + END, (16, 4), at=2),
+    strictly("the second of two records", X + ORIGIN + b" a\n" + END + X + ORIGIN + b" x\n" + END, (16, 3), (1, 0), at=None),
+    strictly("the second of two from its place", X + ORIGIN + b" x\n" + END + X + ORIGIN + b" ax\n" + END, (16, 3), (0, 0), at=21),
+    strictly("only the first of two is stray", X + ORIGIN + b" x\n" + END + X + ORIGIN + b" a\n" + END, (0, 0), at=21),
+]
+
+
+def spot(data, place, line):
+    """A line, from 1 at the place, and where it begins; 0 and 0 for none."""
+    return [line, [place, *(m.end() for m in re.finditer(b"\n", data) if m.end() > place)][line - 1]] if line else [0, 0]
+
+
+def read_on(title, data, last, at=None, line=None, strict=False):
     """The readings of a case."""
     place, found = at or 0, []
     while True:
-        reading = lines.rust_reading(lines.ask([cases.Reading(data, place)])[0])
+        reading = lines.rust_reading(lines.ask([cases.Reading(data, place, strict)])[0])
         reading.title, reading.lent = title, ROOMS
         found.append(reading)
         if at is not None or reading.permitted != [0]:
             break
+        reading.spot = None if line is None else spot(data, place, 0)
         place = reading.told[0]
     if last not in reading.permitted:
         sys.exit("store: %s: the Rust does not allow %d" % (title, last))
     reading.permitted = [last]
+    if line is not None:
+        due = spot(data, place, line)
+        if reading.spot not in (None, due):
+            sys.exit("store: %s: the line is not %d" % (title, line))
+        reading.spot = due
     return found
+
+
+def short(title, reading):
+    """A reading into rooms that just hold its table, or are too short."""
+    for r in lines.short_rooms([reading]):
+        r.title = title
+        yield r
 
 
 def readings():
     found = [r for c in CASES for r in read_on(*c)]
-    for reading in lines.short_rooms(found[:1]):
-        reading.title = "P318 into rooms of the exact size, into none, and with each room that it needs one short"
-        found.append(reading)
-    return found
+    found += short("P318 into rooms of the exact size, into none, and with each room that it needs one short", found[0])
+    found += [r for cs in STRICT for c in cs for r in read_on(*c)]
+    found += short("P318 read strictly into such rooms", read_on("P318", P318, 0, 0, 0, True)[0])
+    none = read_on("a stray letter, and no room", X + ORIGIN + b" x\n" + END, 16, 0, 3, True)[0]
+    none.lent = [0] * len(ROOMS)
+    return found + [none]

@@ -8,14 +8,14 @@ use vilggodan::Record;
 
 fn main() -> std::io::Result<()> {
     let Some(asked) = arguments::asked() else {
-        eprintln!("usage: rewrite [FILE] [WIDTH] [keep] [truncate] [escape]   (WIDTH: 60 to 132, else 80)");
+        eprintln!("usage: rewrite [FILE] [WIDTH] [keep] [truncate] [escape] [strict]   (WIDTH: 60 to 132, else 80)");
         exit(2)
     };
     let input = arguments::input()?;
     let mut record = Record::new();
     let mut at = 0;
     for ordinal in 1.. {
-        let next = match record.read(&input, at) {
+        let next = match asked.read(&mut record, &input, at) {
             Ok(next) => next,
             Err(error) if error.number == 1 => break,
             Err(error) => {

@@ -2,26 +2,27 @@
 //! is written and read again. The top script of that name starts it where the proved program's rooms are too small.
 mod arguments;
 
+use arguments::Asked;
 use std::io::{stdout, Write};
 use std::process::exit;
-use vilggodan::{Layout, Record};
+use vilggodan::Record;
 
 /// What is said of a record that was written as this text.
-fn judged(text: &[u8], layout: Layout) -> String {
+fn judged(text: &[u8], asked: &Asked) -> String {
     if text.len() > 16_777_216 {
         return "longer than 16,777,216 bytes when written".to_string();
     }
     let mut again = Record::new();
-    match again.read(text, 0) {
+    match asked.read(&mut again, text, 0) {
         Err(error) => format!("written, and then {error}"),
-        Ok(place) if place != text.len() || again.keep(layout).as_deref() != Ok(text) => "written, and read again as another".to_string(),
+        Ok(place) if place != text.len() || again.keep(asked.layout).as_deref() != Ok(text) => "written, and read again as another".to_string(),
         Ok(_) => "kept".to_string(),
     }
 }
 
 fn main() -> std::io::Result<()> {
     let Some(asked) = arguments::asked().filter(|asked| !asked.keep && !asked.layout.truncate && !asked.layout.escape) else {
-        eprintln!("usage: still [FILE] [WIDTH]   (WIDTH: 60 to 132, else 80)");
+        eprintln!("usage: still [FILE] [WIDTH] [strict]   (WIDTH: 60 to 132, else 80)");
         exit(2)
     };
     let input = arguments::input()?;
@@ -29,7 +30,7 @@ fn main() -> std::io::Result<()> {
     let mut at = 0;
     let mut status = 0;
     for ordinal in 1.. {
-        let next = match record.read(&input, at) {
+        let next = match asked.read(&mut record, &input, at) {
             Ok(next) => next,
             Err(error) if error.number == 1 => break,
             Err(error) => {
@@ -37,7 +38,7 @@ fn main() -> std::io::Result<()> {
                 exit(1)
             }
         };
-        let told = record.keep(asked.layout).map(|text| judged(&text, asked.layout));
+        let told = record.keep(asked.layout).map(|text| judged(&text, &asked));
         match &told {
             Ok(told) => {
                 let name = record.name().map(|name| [b", ", name].concat());

@@ -2,7 +2,7 @@
 //!
 //! [`records`] goes through a file, [`Record::write`] and [`Record::keep`] give the bytes of a record. What the keeping writer gives
 //! reads back as the same record, if it is at most 16,777,216 bytes long, which is all that reading takes; where a keeping rule is broken, it
-//! refuses with number 13.
+//! refuses with number 13. [`Record::read_strict`] and [`Records::strict`] refuse with number 16 letters that are no IUPAC codes for bases, as a pasted protein has.
 //!
 //! ```no_run
 //! let file = std::fs::read("plasmids.gb").unwrap();
@@ -24,7 +24,7 @@ use std::fmt;
 /// Why a record was not read or not written. It is printed as `line 12: 7, this line is no feature, qualifier, section or //`, or without the line where it has none.
 #[derive(Clone, Copy, Debug, PartialEq, Eq)]
 pub struct Error {
-    /// The number of the answer, 1 to 14.
+    /// The number of the answer, 1 to 14 or 16.
     pub number: usize,
     /// The same in words.
     pub reason: &'static str,
@@ -74,7 +74,8 @@ impl Error {
             11 => "a text, date or sequence that cannot be laid out",
             12 => "the width is not 60 to 132",
             13 => "a keeping rule is broken: it may not read back the same",
-            _ => "a location opens more than 16 words of complement, join and order",
+            14 => "a location opens more than 16 words of complement, join and order",
+            _ => "a letter that is no IUPAC code for bases",
         };
         Error { number, reason, line }
     }
@@ -198,8 +199,26 @@ impl Record {
     }
 
     /// Reads the record at a place of `s` in place of this one, and gives the place after it. The rooms are used again, and grow where they are too
-    /// small. Where no record is read this one stays as it is.
+    /// small. Where no record is read this one stays as it is. Any ASCII letter is taken into the sequence.
     pub fn read(&mut self, s: &[u8], at: usize) -> Result<usize, Error> {
+        self.filled(s, at, false)
+    }
+
+    /// Reads it strictly: the same, if the letters of the sequence are A C G T U R Y S W K M B D H V N, in either case. Any other letter is number 16, with its line;
+    /// of it and a byte that is 9 the first in the file decides, and both go ahead of 8, 2 and 7.
+    ///
+    /// ```
+    /// let pasted = b"LOCUS       P318 9 bp DNA linear SYN 01-MAR-2024\nORIGIN\n        1 mskgeelft\n//\n";
+    /// let mut record = vilggodan::Record::new();
+    /// assert_eq!(record.read(pasted, 0), Ok(pasted.len()));
+    /// let error = record.read_strict(pasted, 0).unwrap_err();
+    /// assert_eq!(error.to_string(), "line 3: 16, a letter that is no IUPAC code for bases");
+    /// ```
+    pub fn read_strict(&mut self, s: &[u8], at: usize) -> Result<usize, Error> {
+        self.filled(s, at, true)
+    }
+
+    fn filled(&mut self, s: &[u8], at: usize, strict: bool) -> Result<usize, Error> {
         loop {
             // Safety: each pointer is that of a slice with the length beside it, and those of one that is written to are borrowed here alone.
             let answer = unsafe {
@@ -207,6 +226,7 @@ impl Record {
                     s.as_ptr(),
                     s.len(),
                     at,
+                    strict,
                     self.texts.as_mut_ptr(),
                     self.texts.len(),
                     self.references.as_mut_ptr(),
@@ -439,7 +459,7 @@ fn grow<T: Copy + Default>(room: &mut Vec<T>, size: usize) {
 
 /// The records of a file, one after the other. A refusal is the last item, and its line is the file's: the lines of the records before it are counted in.
 pub fn records(s: &[u8]) -> Records<'_> {
-    Records { s, next: Some(0) }
+    Records { s, next: Some(0), strict: false }
 }
 
 /// See [`records`].
@@ -447,6 +467,14 @@ pub fn records(s: &[u8]) -> Records<'_> {
 pub struct Records<'a> {
     s: &'a [u8],
     next: Option<usize>,
+    strict: bool,
+}
+
+impl Records<'_> {
+    /// The same, each read by [`Record::read_strict`].
+    pub fn strict(self) -> Self {
+        Records { strict: true, ..self }
+    }
 }
 
 impl Iterator for Records<'_> {
@@ -454,7 +482,7 @@ impl Iterator for Records<'_> {
 
     fn next(&mut self) -> Option<Self::Item> {
         let mut record = Record::new();
-        match record.read(self.s, self.next?) {
+        match record.filled(self.s, self.next?, self.strict) {
             Ok(place) => {
                 self.next = Some(place);
                 Some(Ok(record))

@@ -67,6 +67,7 @@ extern "C" {
         s: *const u8,
         s_length: usize,
         at: usize,
+        strict: bool,
         texts: *mut u8,
         texts_length: usize,
         references: *mut usize,

@@ -145,6 +145,66 @@ fn kept_and_too_long_to_read() {
     assert_eq!(Record::new().read(&text, 0).unwrap_err().number, 3);
 }
 
+/// P318 with other lines of letters, which begin at byte 259, in line 8.
+fn lettered(lines: &str) -> Vec<u8> {
+    String::from_utf8(P318.to_vec()).unwrap().replace("        1 acgtacgtac gt\n", lines).into_bytes()
+}
+
+/// What reading strictly answers: the place, or the number, the line and the offset.
+fn strictly(s: &[u8]) -> Result<usize, (usize, usize, usize)> {
+    let told = |error: Error| error.line.map_or((error.number, 0, 0), |line| (error.number, line.number, line.offset));
+    Record::new().read_strict(s, 0).map_err(told)
+}
+
+#[test]
+fn a_pasted_protein_is_refused_strictly() {
+    let pasted = lettered("        1 mskgeelftg vv\n");
+    assert_eq!(first(&pasted).letters(), b"mskgeelftgvv");
+    assert_eq!(strictly(&pasted), Err((16, 8, 259)));
+    // the line is the letter's, and in a file the file's
+    assert_eq!(strictly(&lettered("        1 acgtacgtac\n       11 gX\n")), Err((16, 9, 280)));
+    let two = [P318, &pasted].concat();
+    let error = records(&two).strict().nth(1).unwrap().unwrap_err();
+    assert_eq!(error.to_string(), "line 17: 16, a letter that is no IUPAC code for bases");
+    assert_eq!(error.line.unwrap().bytes(&two), b"        1 mskgeelftg vv");
+    // a refusal leaves the record
+    let mut record = first(P318);
+    assert_eq!(record.read_strict(&pasted, 0).unwrap_err().number, 16);
+    assert_eq!(record.write(Layout::default()).unwrap(), P318);
+}
+
+#[test]
+fn codes_are_read_strictly() {
+    for letters in ["ACGTURYSWKMBDHVN", "acgturyswkmbdhvn"] {
+        let text = lettered(&format!("        1 {letters}\n"));
+        let coded = String::from_utf8(text).unwrap().replace("  12 bp", "  16 bp");
+        assert_eq!(strictly(coded.as_bytes()), Ok(coded.len()));
+        let record = records(coded.as_bytes()).strict().next().unwrap().unwrap();
+        assert_eq!(record.letters(), letters.as_bytes());
+        assert_eq!(record.keep(Layout::default()), first(coded.as_bytes()).keep(Layout::default()));
+    }
+    for stray in "EFIJLOPQXZefijlopqxz".chars() {
+        assert_eq!(strictly(&lettered(&format!("        1 acgtacgtac g{stray}\n"))), Err((16, 8, 259)), "{stray}");
+    }
+}
+
+#[test]
+fn sixteen_in_file_order() {
+    // ahead of 8, 2 and 7
+    assert_eq!(strictly(&lettered("        1 acgtx\n")), Err((16, 8, 259)));
+    assert_eq!(strictly(&lettered("        1 acgtx\n")[..274]), Err((16, 8, 259)));
+    assert_eq!(strictly(&lettered("        1 acgtx/\n")), Err((16, 8, 259)));
+    // of it and a byte that is 9 the first
+    assert_eq!(strictly(&lettered("x\n-\n")), Err((16, 8, 259)));
+    assert_eq!(strictly(&lettered("-\nx\n")), Err((9, 8, 259)));
+    // behind the `/` there are no letters, nor on ORIGIN's line, and what comes before them comes first
+    assert_eq!(strictly(&lettered("        1 acgtac/x\n")), Err((8, 8, 259)));
+    let old = String::from_utf8(P318.to_vec()).unwrap().replace("ORIGIN      ", "ORIGIN 1 bp from the XbaI site");
+    assert_eq!(strictly(old.as_bytes()), Ok(old.len()));
+    let twice = String::from_utf8(lettered("x\n")).unwrap().replace("FEATURES", "DEFINITION  Again.\nFEATURES");
+    assert_eq!(strictly(twice.as_bytes()), Err((5, 3, 106)));
+}
+
 /// P318 with another location.
 fn located(location: &str) -> Vec<u8> {
     String::from_utf8(P318.to_vec()).unwrap().replace("1..12", location).into_bytes()

@@ -10,11 +10,12 @@ use spec_format::How;
 ghost use Rattle.spec_contracts.specs.Lent.{lent, left};
 ghost use Rattle.spec_contracts.specs.Told.{ReadTold, WriteTold, howOf};
 
-// Reads the record at a place of `s` into the rooms.
+// Reads the record at a place of `s` into the rooms, strictly or not.
 #[no_mangle]
 pub extern "C" fn vilggodan_read(
     s: &[u8],
     at: usize,
+    strict: bool,
     texts: &mut [u8],
     references: &mut [usize],
     comments: &mut [usize],
@@ -23,11 +24,12 @@ pub extern "C" fn vilggodan_read(
     locations: &mut [usize],
     letters: &mut [u8],
 ) -> Reading
-    ensures { λ r. ⌜ ReadTold (now (s .entry)) at (lent texts references comments features qualifiers locations letters) (left texts references comments features qualifiers locations letters) r ⌝ }
+    ensures { λ r. ⌜ ReadTold strict (now (s .entry)) at (lent texts references comments features qualifiers locations letters) (left texts references comments features qualifiers locations letters) r ⌝ }
 {
     let answer = read_record::read(
         s,
         at,
+        strict,
         texts,
         references,
         comments,

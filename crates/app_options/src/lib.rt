@@ -1,4 +1,4 @@
-// The arguments of the programs: a width, `keep`, `truncate`, `escape`, in any order; and two that the scripts pass on, `columns=` and `name=`, which say how a message is printed.
+// The arguments of the programs: a width, `keep`, `truncate`, `escape`, `strict`, in any order; and two that the scripts pass on, `columns=` and `name=`, which say how a message is printed.
 ghost use Prim.Native.Nat.{_≤_};
 
 pub struct Options {
@@ -6,6 +6,7 @@ pub struct Options {
     pub keep: bool,
     pub truncate: bool,
     pub escape: bool,
+    pub strict: bool,
     // How many columns a message's line may take.
     pub columns: usize,
     // Which argument is `name=` and the input's name; 0, which is the program's own name, where none is.
@@ -96,6 +97,10 @@ fn with_word(so_far: Options, word: &[u8]) -> Asked {
         options.escape = true;
         return Asked::Options(options);
     }
+    if base_keys::same_text(word, b"strict") {
+        options.strict = true;
+        return Asked::Options(options);
+    }
     let columns = columns_of(word);
     if 0 < columns {
         return with_columns(so_far, columns);
@@ -134,6 +139,7 @@ pub fn options_asked() -> Asked {
         keep: false,
         truncate: false,
         escape: false,
+        strict: false,
         columns: 80,
         name: 0,
     };

@@ -8,7 +8,7 @@ use app_options::Options;
 fn help() {
     io::write_all(
         2,
-        b"usage: rewrite [FILE] [WIDTH] [keep] [truncate] [escape]   (WIDTH: 60 to 132, else 80)\n",
+        b"usage: rewrite [FILE] [WIDTH] [keep] [truncate] [escape] [strict]   (WIDTH: 60 to 132, else 80)\n",
     );
 }
 

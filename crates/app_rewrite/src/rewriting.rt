@@ -114,6 +114,7 @@ fn rewrite_at(
     let round = app_round::read_and_write(
         input,
         at,
+        options.strict,
         texts,
         references,
         comments,

@@ -1,6 +1,6 @@
 -- A record read into rows of structs and written again from them: laws of what `spec_contracts` says of it.
 use Prim.Native.Nat.{ℕ}
-use mathlib.Core.Bool.{true, false}
+use mathlib.Core.Bool.{Bool}
 use mathlib.Core.List.{List}
 use mathlib.Core.Path.{_≡_, subst}
 use Rattle.spec_format.specs.Rooms.{Rooms, roomsIn}
@@ -34,12 +34,12 @@ how-refused a why how e = rw e
 pub how-room : (a : ReadAnswer) (sizes : Sizes) (how : How) → a ≡ read.Room sizes → notAtAll how ≡ howAfter a how
 how-room a sizes how e = rw e
 
-module _ (s : List ℕ) (at : ℕ) (old : Rooms) (how : How) (t rf cm : List ℕ) (rows : List Feature) (q n l before after : List ℕ) (r : Reported) (w : WriteAnswer) where
+module _ (strict : Bool) (s : List ℕ) (at : ℕ) (old : Rooms) (how : How) (t rf cm : List ℕ) (rows : List Feature) (q n l before after : List ℕ) (r : Reported) (w : WriteAnswer) where
   -- the reader's contract and then the writer's
-  pub rounds : ReadReported s at old (roomsIn t rf cm (flat rows) q n l) r → WriteAnswered (howAfter (r .answer) how) (roomsIn t rf cm (flat rows) q n l) (headOf (r .answer)) before after w
-      → Rounds s at old how t rf cm q n l before after r w
+  pub rounds : ReadReported strict s at old (roomsIn t rf cm (flat rows) q n l) r → WriteAnswered (howAfter (r .answer) how) (roomsIn t rf cm (flat rows) q n l) (headOf (r .answer)) before after w
+      → Rounds strict s at old how t rf cm q n l before after r w
   rounds x b =
-      let a : Answered s at old (roomsIn t rf cm (flat rows) q n l) (r .answer) = x .answered in
+      let a : Answered strict s at old (roomsIn t rf cm (flat rows) q n l) (r .answer) = x .answered in
       record {
         is = a .is;
         told = x .told;
@@ -51,5 +51,5 @@ module _ (s : List ℕ) (at : ℕ) (old : Rooms) (how : How) (t rf cm : List ℕ
         letters-are = a .letters;
         wrote =
             subst (λ (rooms : Rooms). WriteAnswered (howAfter (r .answer) how) rooms (headOf (r .answer)) before after w)
-            (rooms-after s at old (roomsIn t rf cm (flat rows) q n l) (r .answer) a) b;
+            (rooms-after strict s at old (roomsIn t rf cm (flat rows) q n l) (r .answer) a) b;
       }

@@ -94,11 +94,12 @@ fn how_after(answer: ReadAnswer, how: How) -> How
     }
 }
 
-// Reads the record at a place of a slice into the rooms, and writes it again from them, as `how` says. It has no branch: where nothing was read, the writer refuses by 12 and
+// Reads the record at a place of a slice into the rooms, strictly or not, and writes it again from them, as `how` says. It has no branch: where nothing was read, the writer refuses by 12 and
 // leaves its slice as it was.
 pub fn read_and_write(
     s: &[u8],
     at: usize,
+    strict: bool,
     texts: &mut [u8],
     references: &mut [usize],
     comments: &mut [usize],
@@ -108,12 +109,13 @@ pub fn read_and_write(
     out: &mut [u8],
     how: How,
 ) -> Round
-    ensures { λ r. ⌜ Rounds (now (s .entry)) at (roomsIn (now (texts .entry)) (now (references .entry)) (now (comments .entry)) (flat emptyRows) (now (qualifiers .entry)) (now (locations .entry)) (now (letters .entry))) how (now (texts .exit)) (now (references .exit)) (now (comments .exit)) (now (qualifiers .exit)) (now (locations .exit)) (now (letters .exit)) (now (out .entry)) (now (out .exit)) (r .read) (r .wrote) ⌝ }
+    ensures { λ r. ⌜ Rounds strict (now (s .entry)) at (roomsIn (now (texts .entry)) (now (references .entry)) (now (comments .entry)) (flat emptyRows) (now (qualifiers .entry)) (now (locations .entry)) (now (letters .entry))) how (now (texts .exit)) (now (references .exit)) (now (comments .exit)) (now (qualifiers .exit)) (now (locations .exit)) (now (letters .exit)) (now (out .entry)) (now (out .exit)) (r .read) (r .wrote) ⌝ }
 {
     let mut rows = no_rows();
     let read = read_record::read(
         s,
         at,
+        strict,
         texts,
         references,
         comments,

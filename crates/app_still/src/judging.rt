@@ -141,6 +141,7 @@ fn judge_at(
     let round = app_round::read_and_write(
         input,
         at,
+        options.strict,
         texts,
         references,
         comments,

@@ -8,7 +8,7 @@ use app_options::Options;
 fn help() {
     io::write_all(
         2,
-        b"usage: still [FILE] [WIDTH]   (WIDTH: 60 to 132, else 80)\n",
+        b"usage: still [FILE] [WIDTH] [strict]   (WIDTH: 60 to 132, else 80)\n",
     );
 }
 
@@ -37,7 +37,7 @@ fn judge_input(options: Options) {
     );
 }
 
-// Of the arguments only a width has a meaning here, and what says how a message is printed.
+// Of the arguments only a width and `strict` have a meaning here, and what says how a message is printed.
 fn with_options(options: Options) {
     if options.keep {
         help();

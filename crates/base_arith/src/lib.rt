@@ -1,5 +1,5 @@
-// Two small things that many crates need: a test of two without a branch, and what is left of a number.
-ghost use mathlib.Core.Bool.{_&&_};
+// Small things that many crates need: tests of two without a branch, and what is left of a number.
+ghost use mathlib.Core.Bool.{_&&_, _||_};
 ghost use mathlib.Core.Path.{_≡_};
 ghost use Prim.Native.Nat.{_-_};
 
@@ -8,6 +8,13 @@ pub fn both(a: bool, b: bool) -> bool
     ensures { λ r. ⌜ r ≡ a && b ⌝ }
 {
     if a { b } else { false }
+}
+
+// Whether one of two holds, without a branch too.
+pub fn either(a: bool, b: bool) -> bool
+    ensures { λ r. ⌜ r ≡ a || b ⌝ }
+{
+    if a { true } else { b }
 }
 
 // How much of n is left of `used`.

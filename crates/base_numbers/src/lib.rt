@@ -19,6 +19,7 @@ pub fn unread_number(why: Unread) -> usize
         Unread::OtherLength => 8,
         Unread::BadLetter => 9,
         Unread::TooDeep => 14,
+        Unread::StrayLetter => 16,
     }
 }
 
@@ -36,6 +37,7 @@ pub fn unread_place(why: Unread, at: usize) -> usize
         Unread::OtherLength => at,
         Unread::BadLetter => at,
         Unread::TooDeep => at,
+        Unread::StrayLetter => at,
     }
 }
 
@@ -89,7 +91,7 @@ fn tell_input(fd: i32, number: usize) {
     }
 }
 
-// The words for the numbers that are about a record.
+// The words for the numbers that are about a record's lines.
 fn tell_record(fd: i32, number: usize) {
     if number == 4 {
         io::write_all(fd, b"no LOCUS line");
@@ -100,17 +102,24 @@ fn tell_record(fd: i32, number: usize) {
     if number == 7 {
         io::write_all(fd, b"this line is no feature, qualifier, section or //");
     }
+    if number == 14 {
+        io::write_all(
+            fd,
+            b"a location opens more than 16 words of complement, join and order",
+        );
+    }
+}
+
+// The words for the numbers that are about its letters.
+fn tell_letters(fd: i32, number: usize) {
     if number == 8 {
         io::write_all(fd, b"the letters are not as many as LOCUS says");
     }
     if number == 9 {
         io::write_all(fd, b"a byte that cannot stand among the letters");
     }
-    if number == 14 {
-        io::write_all(
-            fd,
-            b"a location opens more than 16 words of complement, join and order",
-        );
+    if number == 16 {
+        io::write_all(fd, b"a letter that is no IUPAC code for bases");
     }
 }
 
@@ -143,5 +152,6 @@ fn tell_table(fd: i32, number: usize) {
 pub fn tell(fd: i32, number: usize) {
     tell_input(fd, number);
     tell_record(fd, number);
+    tell_letters(fd, number);
     tell_table(fd, number);
 }

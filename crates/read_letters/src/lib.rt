@@ -1,27 +1,23 @@
 // The letters of ORIGIN: `parse_seq_data` of stream_parser.rs, counted first and then put into the lent room. A line of the usual layout
 // (nine columns of number, six times a space and ten letters, a line end) is tested at once and taken whole.
 use base_arith::both;
+use base_arith::either;
 ghost use mathlib.Core.Path.{_≡_};
-ghost use mathlib.Core.Bool.{_&&_, _||_};
 ghost use mathlib.Core.List.{[], _++_};
 ghost use Prim.Native.Nat.{_+_, _-_, _≤_};
 ghost use lib.ListN.{length, drop};
 ghost use Rattle.spec_format.specs.Bytes.{letter};
-ghost use Rattle.spec_format.specs.Origin.{letters, skipped};
+ghost use Rattle.spec_bases.specs.Bases.{coded};
+ghost use Rattle.spec_format.specs.Origin.{skipped};
 ghost use Rattle.base_pen.specs.Pen.{Writes};
-ghost use Rattle.read_letters.specs.Runs.{tally, plus, Counts, sifted, Runs, one, lettersIn, spaced, ten, thirtyOf, sixtyOf};
+ghost use Rattle.scan_bases.specs.Common.{common};
+ghost use Rattle.read_letters.specs.Runs.{taken, lettersBy, tally, plus, Counts, sifted, Runs, Skips, one, countIn, spaced, ten, thirtyOf, sixtyOf};
 
-// How many letters there are, and the place of the `/` that ends them; or the place of a byte that may not stand there.
+// How many letters there are, and the place of the `/` that ends them; or the place of a byte that may not stand there, which with the strict switch may be a letter.
 pub enum Counted {
     AtSlash { count: usize, next: usize },
     AtEnd { count: usize },
     Bad { next: usize },
-}
-
-fn either(a: bool, b: bool) -> bool
-    ensures { λ r. ⌜ r ≡ a || b ⌝ }
-{
-    if a { true } else { b }
 }
 
 fn is_skipped(b: u8) -> bool
@@ -36,7 +32,7 @@ fn is_skipped(b: u8) -> bool
 // Whether the n bytes at a place are skipped.
 fn skips(s: &[u8], at: usize, n: usize) -> bool
     requires { ⌜ at + n ≤ length (now s) ⌝ }
-    ensures { λ r. ⌜ Runs (now (s .entry)) at (at + n) [] r ⌝ }
+    ensures { λ r. ⌜ Skips (now (s .entry)) at (at + n) r ⌝ }
 {
     let mut ok = true;
     let mut j = 0;
@@ -50,7 +46,7 @@ fn skips(s: &[u8], at: usize, n: usize) -> bool
 // Whether nine columns end in a digit and the eight before it are skipped.
 fn numbered(s: &[u8], at: usize) -> bool
     requires { ⌜ at + 9 ≤ length (now s) ⌝ }
-    ensures { λ r. ⌜ Runs (now (s .entry)) at (at + 9) [] r ⌝ }
+    ensures { λ r. ⌜ Skips (now (s .entry)) at (at + 9) r ⌝ }
 {
     if !scan_bytes::is_digit(s[at + 8]) {
         return false;
@@ -61,15 +57,15 @@ fn numbered(s: &[u8], at: usize) -> bool
 // Whether a line ends at a place.
 fn ends(s: &[u8], at: usize) -> bool
     requires { ⌜ at + 1 ≤ length (now s) ⌝ }
-    ensures { λ r. ⌜ Runs (now (s .entry)) at (at + 1) [] r ⌝ }
+    ensures { λ r. ⌜ Skips (now (s .entry)) at (at + 1) r ⌝ }
 {
     s[at] == b'\n' || s[at] == b'\r'
 }
 
-fn letter_one(b: u8) -> u8
-    ensures { λ r. ⌜ r ≡ one (letter b) ⌝ }
+fn one_if(t: bool) -> u8
+    ensures { λ r. ⌜ r ≡ one t ⌝ }
 {
-    if scan_bytes::is_letter(b) {
+    if t {
         return 1;
     }
     0
@@ -78,12 +74,40 @@ fn letter_one(b: u8) -> u8
 // How many of the 65 bytes at a place are letters: a sum of bytes in a loop without a branch, which the compiler makes of many bytes at once.
 fn letters_in(s: &[u8], at: usize) -> u8
     requires { ⌜ at + 65 ≤ length (now s) ⌝ }
-    ensures { λ r. ⌜ r ≡ lettersIn (now (s .entry)) at 65 ⌝ }
+    ensures { λ r. ⌜ r ≡ countIn letter (now (s .entry)) at 65 ⌝ }
 {
     let mut n: u8 = 0;
     let mut j = 0;
     while j < 65 {
-        n += letter_one(s[at + j]);
+        n += one_if(scan_bytes::is_letter(s[at + j]));
+        j += 1;
+    }
+    n
+}
+
+// How many of them have a code.
+fn codes_in(s: &[u8], at: usize) -> u8
+    requires { ⌜ at + 65 ≤ length (now s) ⌝ }
+    ensures { λ r. ⌜ r ≡ countIn coded (now (s .entry)) at 65 ⌝ }
+{
+    let mut n: u8 = 0;
+    let mut j = 0;
+    while j < 65 {
+        n += one_if(scan_bases::is_coded(s[at + j]));
+        j += 1;
+    }
+    n
+}
+
+// How many of them stand for one base alone or for all: half as many comparisons as for all codes, and nearly all lines have no others.
+fn common_in(s: &[u8], at: usize) -> u8
+    requires { ⌜ at + 65 ≤ length (now s) ⌝ }
+    ensures { λ r. ⌜ r ≡ countIn common (now (s .entry)) at 65 ⌝ }
+{
+    let mut n: u8 = 0;
+    let mut j = 0;
+    while j < 65 {
+        n += one_if(scan_bases::is_common(s[at + j]));
         j += 1;
     }
     n
@@ -97,10 +121,10 @@ fn three_spaces(s: &[u8], at: usize) -> bool
     s[at] == b' ' && (s[at + 11] == b' ' && s[at + 22] == b' ')
 }
 
-// Whether six times a space and ten letters stand at a place. Of 66 bytes that begin so, 60 are letters only if all others are.
-fn sixty(s: &[u8], at: usize) -> bool
+// Whether six times a space and ten letters stand at a place, with the switch letters that have a code. Of 66 bytes that begin so, 60 are letters only if all others are.
+fn sixty(s: &[u8], at: usize, strict: bool) -> bool
     requires { ⌜ at + 66 ≤ length (now s) ⌝ }
-    ensures { λ r. ⌜ Runs (now (s .entry)) at (at + 66) (thirtyOf (now (s .entry)) at ++ thirtyOf (now (s .entry)) (at + 33)) r ⌝ }
+    ensures { λ r. ⌜ Runs strict (now (s .entry)) at (at + 66) (thirtyOf (now (s .entry)) at ++ thirtyOf (now (s .entry)) (at + 33)) r ⌝ }
 {
     if !three_spaces(s, at) {
         return false;
@@ -108,33 +132,49 @@ fn sixty(s: &[u8], at: usize) -> bool
     if !three_spaces(s, at + 33) {
         return false;
     }
-    letters_in(s, at + 1) == 60
+    if !strict {
+        return letters_in(s, at + 1) == 60;
+    }
+    if common_in(s, at + 1) == 60 {
+        return true;
+    }
+    codes_in(s, at + 1) == 60
 }
 
 // Whether a line of the usual layout does.
-fn usual(s: &[u8], at: usize) -> bool
+fn usual(s: &[u8], at: usize, strict: bool) -> bool
     requires { ⌜ at + 76 ≤ length (now s) ⌝ }
-    ensures { λ r. ⌜ Runs (now (s .entry)) at (at + 76) (sixtyOf (now (s .entry)) at) r ⌝ }
+    ensures { λ r. ⌜ Runs strict (now (s .entry)) at (at + 76) (sixtyOf (now (s .entry)) at) r ⌝ }
 {
     if !ends(s, at + 75) {
         return false;
     }
-    if !sixty(s, at + 9) {
+    if !sixty(s, at + 9, strict) {
         return false;
     }
     numbered(s, at)
 }
 
+// Whether a byte is a letter, with the switch one that has a code.
+fn is_taken(b: u8, strict: bool) -> bool
+    ensures { λ r. ⌜ r ≡ taken strict b ⌝ }
+{
+    if strict {
+        return scan_bases::is_coded(b);
+    }
+    scan_bytes::is_letter(b)
+}
+
 // The letters at a place, byte by byte, after n others.
-fn count_from(s: &[u8], at: usize, n: usize) -> Counted
+fn count_from(s: &[u8], at: usize, n: usize, strict: bool) -> Counted
     requires { ⌜ (at ≤ length (now s)) × (n ≤ at) ⌝ }
-    ensures { λ r. ⌜ Counts (now (s .entry)) (at - n) (plus n (tally (letters (drop at (now (s .entry)))))) r ⌝ }
+    ensures { λ r. ⌜ Counts (now (s .entry)) (at - n) (plus n (tally (lettersBy strict (drop at (now (s .entry)))))) r ⌝ }
 {
     let mut k = n;
     let mut i = at;
     while i < s.len() {
         let b = s[i];
-        if scan_bytes::is_letter(b) {
+        if is_taken(b, strict) {
             k += 1;
             i += 1;
             continue;
@@ -151,24 +191,24 @@ fn count_from(s: &[u8], at: usize, n: usize) -> Counted
 }
 
 // The letters at a place: lines of the usual layout, which may end in CR and LF and have empty lines between them, and then byte by byte.
-pub fn count_letters(s: &[u8], at: usize) -> Counted
+pub fn count_letters(s: &[u8], at: usize, strict: bool) -> Counted
     requires { ⌜ at ≤ length (now s) ⌝ }
-    ensures { λ r. ⌜ Counts (now (s .entry)) at (tally (letters (drop at (now (s .entry))))) r ⌝ }
+    ensures { λ r. ⌜ Counts (now (s .entry)) at (tally (lettersBy strict (drop at (now (s .entry))))) r ⌝ }
 {
     let mut k = 0;
     let mut i = at;
     while 76 <= s.len() - i {
-        if usual(s, i) {
+        if usual(s, i, strict) {
             k += 60;
             i += 76;
             continue;
         }
         if s[i] != b'\n' {
-            return count_from(s, i, k);
+            return count_from(s, i, k, strict);
         }
         i += 1;
     }
-    count_from(s, i, k)
+    count_from(s, i, k, strict)
 }
 
 // ---- into the room
@@ -270,7 +310,7 @@ pub fn put_letters(s: &[u8], at: usize, room: &mut [u8], place: usize) -> usize
     let mut p = place;
     let mut i = at;
     while 76 <= s.len() - i {
-        if usual(s, i) {
+        if usual(s, i, false) {
             p = put_sixty(s, i, room, p);
             i += 76;
             continue;

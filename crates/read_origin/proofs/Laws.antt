@@ -1,17 +1,21 @@
 -- The laws of ORIGIN and of the record's end: each answer by the answer of the part before.
-use Prim.Native.Nat.{ℕ, _≤_}
+use Prim.Native.Nat.{ℕ, _≤_, _<_}
 use native.Mathlib.Nat.{le-refl}
 use native.Mathlib.Omega.{arith}
 use mathlib.Core.Bool.{Bool, true, false}
 use mathlib.Core.Path.{_≡_, refl, sym, ap, subst, _∙_}
 use mathlib.Core.List.{List, []}
-use lib.ListN.{length, drop, drop-of-length-le}
+use lib.ListN.{length, drop, getD, drop-of-length-le}
+use lib.Seq.{drop-cons}
 use Rattle.spec_format.specs.Readers.{Ans, Got, No, Cut, bind, orElse}
 use Rattle.spec_format.specs.Table.{Table}
+use Rattle.spec_format.specs.Bytes.{pick, letter, starts}
 use Rattle.spec_format.specs.Origin.{originTag, AtSlash, AtEnd, Bad, letters}
 use Rattle.spec_format.specs.Record.{Outcome, Not, withLetters, slashesAt, promised, counted, sequence, afterOrigin}
+use Rattle.spec_format.specs.Strict.{stray, strayAfter, strictly}
 use Rattle.spec_format.specs.Rooms.{mayLength}
 use Rattle.spec_format.specs.declared.Length.{Length}
+use Rattle.spec_format.specs.declared.Unread.{Unread}
 use Rattle.spec_format.specs.declared.Unread.the-variants as unread
 use Rattle.scan_bytes.specs.Views.{stepOf, Past, Stepped, Texted, Emptied, emptyOf, PastOne, Lined}
 use Rattle.scan_bytes.specs.Sequence.{step-places, text-places, line-places, step-is, text-is, line-is, step-within, text-within, text-got}
@@ -22,13 +26,15 @@ use Rattle.scan_bytes.specs.declared.Line.{Line}
 use Rattle.scan_bytes.specs.declared.Line.the-variants as line
 use Rattle.read_letters.specs.declared.Counted.{Counted}
 use Rattle.read_letters.specs.declared.Counted.the-variants as count
-use Rattle.read_letters.specs.Runs.{tally, PastCounted, Counts, sifted, count-slash, count-end, count-bad}
+use Rattle.read_letters.specs.Runs.{lettersBy, tally, PastCounted, Counts, sifted}
+use Rattle.read_letters.specs.Switch.{SlashCounted, EndCounted, BadBy, unstrayed, strayed, count-slash, count-end, count-bad}
+use Rattle.spec_strict.specs.Laws.{strictly-none}
 use Rattle.read_slashes.specs.declared.RecordEnd.{RecordEnd}
 use Rattle.read_slashes.specs.declared.RecordEnd.the-variants as record-end
 use Rattle.read_slashes.specs.Ends.{PastEnd, Ended}
 use Rattle.read_origin.specs.declared.EndAt.{EndAt}
 use Rattle.read_origin.specs.declared.EndAt.the-variants as ended
-use Rattle.read_origin.specs.Ends.{passed, Passed, lettersThen, sequenceThen, originThen, Before, Ends}
+use Rattle.read_origin.specs.Ends.{passed, Passed, lettersThen, sequenceThen, originThen, badBy, Before, Ends}
 use Rattle.spec_format.specs.Impossible.{impossible}
 
 -- ---- ORIGIN
@@ -169,7 +175,7 @@ ends-as s given o q (ended.Got a n p) e h =
     record { is = record { is = λ t b. e t b ∙ h .is .is t b; counted = h .is .counted; lettered = h .is .lettered; within = h .is .within } }
 ends-as s given o q (ended.Refused why) e h = record { is = λ t b. e t b ∙ h .is t b }
 
-module _ (s : List ℕ) (at : ℕ) (given : Length) (r : Counted) (h : Counts s at (tally (letters (drop at s))) r) where
+module _ (s : List ℕ) (at : ℕ) (given : Length) (strict : Bool) (r : Counted) (h : Counts s at (tally (lettersBy strict (drop at s))) r) where
   module _ (n next : ℕ) (e : r ≡ count.AtSlash n next) where
     slash-places : (n ≤ next) × (next ≤ length s)
     slash-places = let p : PastCounted s at (count.AtSlash n next) = subst (λ (x : Counted). PastCounted s at x) e (h .place) in (omega arith, p .1)
@@ -177,66 +183,92 @@ module _ (s : List ℕ) (at : ℕ) (given : Length) (r : Counted) (h : Counts s 
     pub slash-within : next ≤ length s
     slash-within = slash-places .1
 
-    slash-is : (letters (drop at s) ≡ AtSlash (sifted (drop at s)) (drop next s)) × (length (sifted (drop at s)) ≡ n)
-    slash-is = count-slash (drop at s) n (drop next s) (rw e at (h .is))
+    slash-is : SlashCounted strict (drop at s) n (drop next s)
+    slash-is = count-slash strict (drop at s) n (drop next s) (rw e at (h .is))
 
     pub slash-counted : n ≡ length (sifted (drop at s))
-    slash-counted = sym (slash-is .1)
+    slash-counted = sym (slash-is .counted)
 
     module _ (b : Bool) (f : b ≡ promised (mayLength given) n) where
-      pub letters-slash : (q : EndAt) → b ≡ true → ((g : Length) → Ends s g (lettersThen (sifted (drop at s)) (drop next s)) q) → Ends s given (sequenceThen (drop at s)) q
+      pub letters-slash : (q : EndAt) → b ≡ true → ((g : Length) → Ends s g (lettersThen (sifted (drop at s)) (drop next s)) q) →
+          Ends s given (sequenceThen strict (drop at s)) q
       unfolding lettersThen sequenceThen
       letters-slash q k w =
-          ends-as s given (lettersThen (sifted (drop at s)) (drop next s)) (sequenceThen (drop at s)) q
-          (λ t d. rw (slash-is .0, d .length, slash-is .1, ← f, k)) (w given)
+          ends-as s given (lettersThen (sifted (drop at s)) (drop next s)) (sequenceThen strict (drop at s)) q
+          (λ t d. unstrayed strict (drop at s) (sequence t (letters (drop at s))) (slash-is .unstrayed) ∙ rw (slash-is .is, d .length, slash-is .counted, ← f, k)) (w given)
 
-      pub letters-other : b ≡ false → Ends s given (sequenceThen (drop at s)) (ended.Refused unread.OtherLength)
+      pub letters-other : b ≡ false → Ends s given (sequenceThen strict (drop at s)) (ended.Refused unread.OtherLength)
       unfolding sequenceThen
-      letters-other k = record { is = λ t d. rw (slash-is .0, d .length, slash-is .1, ← f, k) }
+      letters-other k =
+          record { is = λ t d. unstrayed strict (drop at s) (sequence t (letters (drop at s))) (slash-is .unstrayed) ∙ rw (slash-is .is, d .length, slash-is .counted, ← f, k) }
 
   module _ (n : ℕ) (e : r ≡ count.AtEnd n) where
-    end-is : (letters (drop at s) ≡ AtEnd (sifted (drop at s))) × (length (sifted (drop at s)) ≡ n)
-    end-is = count-end (drop at s) n (rw e at (h .is))
+    end-is : EndCounted strict (drop at s) n
+    end-is = count-end strict (drop at s) n (rw e at (h .is))
 
     module _ (b : Bool) (f : b ≡ counted (mayLength given) n) where
-      pub letters-end : b ≡ true → at ≤ length s → Ends s given (sequenceThen (drop at s)) (ended.Got at n (length s))
+      pub letters-end : b ≡ true → at ≤ length s → Ends s given (sequenceThen strict (drop at s)) (ended.Got at n (length s))
       unfolding sequenceThen
       letters-end k l =
           record {
             is = record {
-              is = λ t d. rw (end-is .0, d .length, end-is .1, ← f, k, at-end s);
-              counted = sym (end-is .1);
+              is = λ t d. unstrayed strict (drop at s) (sequence t (letters (drop at s))) (end-is .unstrayed) ∙ rw (end-is .is, d .length, end-is .counted, ← f, k, at-end s);
+              counted = sym (end-is .counted);
               lettered = l;
               within = omega arith;
             };
           }
 
-      pub letters-unended : b ≡ false → Ends s given (sequenceThen (drop at s)) (ended.Refused unread.Unended)
+      pub letters-unended : b ≡ false → Ends s given (sequenceThen strict (drop at s)) (ended.Refused unread.Unended)
       unfolding sequenceThen
-      letters-unended k = record { is = λ t d. rw (end-is .0, d .length, end-is .1, ← f, k) }
+      letters-unended k =
+          record { is = λ t d. unstrayed strict (drop at s) (sequence t (letters (drop at s))) (end-is .unstrayed) ∙ rw (end-is .is, d .length, end-is .counted, ← f, k) }
 
-  pub letters-bad : (next : ℕ) → r ≡ count.Bad next → Ends s given (sequenceThen (drop at s)) (ended.Refused unread.BadLetter)
-  unfolding sequenceThen
-  letters-bad next e = let k : letters (drop at s) ≡ Bad (drop next s) = count-bad (drop at s) (drop next s) (rw e at (h .is)) in record { is = λ t d. rw k }
+  module _ (next : ℕ) (e : r ≡ count.Bad next) where
+    pub bad-within : next < length s
+    bad-within = let p : PastCounted s at (count.Bad next) = subst (λ (x : Counted). PastCounted s at x) e (h .place) in p .1
 
-pub ruleset sequencing = (slash-within, slash-counted, letters-slash, letters-other, letters-end, letters-unended, letters-bad)
+    -- a byte that is no letter is 9, a letter 16
+    refused-by : (x : Bool) → BadBy x strict (drop at s) (drop next s) → (t : Table) →
+        strictly strict (stray (drop at s)) (sequence t (letters (drop at s))) ≡ Not (pick x unread.StrayLetter unread.BadLetter)
+    refused-by true k t = strayed strict (drop at s) (drop next s) (sequence t (letters (drop at s))) k
+    refused-by false k t = unstrayed strict (drop at s) (sequence t (letters (drop at s))) (k .1) ∙ rw (k .0)
+
+    pub letters-bad : (why : Unread) → why ≡ badBy (drop next s) → Ends s given (sequenceThen strict (drop at s)) (ended.Refused why)
+    unfolding sequenceThen
+    letters-bad why f =
+        let k : BadBy (starts letter (drop next s)) strict (drop at s) (drop next s) = count-bad strict (drop at s) (drop next s) (rw e at (h .is)) in
+        record { is = λ t d. refused-by (starts letter (drop next s)) k t ∙ ap Not (sym f) }
+
+pub ruleset sequencing = (slash-within, slash-counted, letters-slash, letters-other, letters-end, letters-unended, bad-within, letters-bad)
+
+-- the byte at a place, and the bytes from it on
+pub byte-there : (s : List ℕ) (at : ℕ) → at < length s → starts letter (drop at s) ≡ letter (getD s at 0)
+byte-there s at h = rw (drop-cons s at 0 h)
+
+pub stray-there : (s : List ℕ) (at : ℕ) (b : Bool) → at < length s → b ≡ letter (getD s at 0) → b ≡ true → unread.StrayLetter ≡ badBy (drop at s)
+stray-there s at b h e f = rw (byte-there s at h, ← e, f)
+
+pub bad-there : (s : List ℕ) (at : ℕ) (b : Bool) → at < length s → b ≡ letter (getD s at 0) → b ≡ false → unread.BadLetter ≡ badBy (drop at s)
+bad-there s at b h e f = rw (byte-there s at h, ← e, f)
 
 -- ---- ORIGIN or none
 
-then-sequence : (t : Table) (s r : List ℕ) (o : Ans (List ℕ)) → Got tt r ≡ passed o → afterOrigin t s o ≡ sequence t (letters r)
-then-sequence t s r (Got u z) e = let k : r ≡ z = cc in rw k
-then-sequence t s r No e = impossible cc
-then-sequence t s r Cut e = impossible cc
+module _ (strict : Bool) (t : Table) (s : List ℕ) where
+  then-sequence : (r : List ℕ) (o : Ans (List ℕ)) → Got tt r ≡ passed o → strictly strict (strayAfter o) (afterOrigin t s o) ≡ strictly strict (stray r) (sequence t (letters r))
+  then-sequence r (Got u z) e = let k : r ≡ z = cc in rw k
+  then-sequence r No e = impossible cc
+  then-sequence r Cut e = impossible cc
 
-then-slashes : (t : Table) (s : List ℕ) (o : Ans (List ℕ)) → No ≡ passed o → afterOrigin t s o ≡ slashesAt t s
-then-slashes t s (Got u z) e = impossible cc
-then-slashes t s No e = refl
-then-slashes t s Cut e = impossible cc
+  then-slashes : (o : Ans (List ℕ)) → No ≡ passed o → strictly strict (strayAfter o) (afterOrigin t s o) ≡ slashesAt t s
+  then-slashes (Got u z) e = impossible cc
+  then-slashes No e = strictly-none strict (slashesAt t s)
+  then-slashes Cut e = impossible cc
 
-then-cut : (t : Table) (s : List ℕ) (o : Ans (List ℕ)) → Cut ≡ passed o → afterOrigin t s o ≡ Not unread.Unended
-then-cut t s (Got u z) e = impossible cc
-then-cut t s No e = impossible cc
-then-cut t s Cut e = refl
+  then-cut : (o : Ans (List ℕ)) → Cut ≡ passed o → strictly strict (strayAfter o) (afterOrigin t s o) ≡ Not unread.Unended
+  then-cut (Got u z) e = impossible cc
+  then-cut No e = impossible cc
+  then-cut Cut e = strictly-none strict (Not unread.Unended)
 
 pub none-there : (s : List ℕ) → sifted (drop (length s) s) ≡ []
 unfolding sifted
@@ -245,24 +277,24 @@ none-there s = rw (at-end s)
 pub none-counted : (s : List ℕ) → 0 ≡ length (sifted (drop (length s) s))
 none-counted s = rw (none-there s)
 
-module _ (s : List ℕ) (at : ℕ) (given : Length) (r : Step) (h : Passed s at (originTag (drop at s)) r) where
+module _ (s : List ℕ) (at : ℕ) (given : Length) (strict : Bool) (r : Step) (h : Passed s at (originTag (drop at s)) r) where
   pub passed-within : (n : ℕ) → r ≡ step.Got n → n ≤ length s
   passed-within n e = passed-places h e .1
 
-  pub origin-then : (n : ℕ) (q : EndAt) → r ≡ step.Got n → Ends s given (sequenceThen (drop n s)) q → Ends s given (originThen (drop at s)) q
+  pub origin-then : (n : ℕ) (q : EndAt) → r ≡ step.Got n → Ends s given (sequenceThen strict (drop n s)) q → Ends s given (originThen strict (drop at s)) q
   unfolding sequenceThen originThen
   origin-then n q e w =
-      ends-as s given (sequenceThen (drop n s)) (originThen (drop at s)) q
-      (λ t d. then-sequence t (drop at s) (drop n s) (originTag (drop at s)) (rw e at (h .is))) w
+      ends-as s given (sequenceThen strict (drop n s)) (originThen strict (drop at s)) q
+      (λ t d. then-sequence strict t (drop at s) (drop n s) (originTag (drop at s)) (rw e at (h .is))) w
 
-  pub origin-none : (q : EndAt) → r ≡ step.No → ((g : Length) → Ends s g (lettersThen (sifted (drop (length s) s)) (drop at s)) q) → Ends s given (originThen (drop at s)) q
+  pub origin-none : (q : EndAt) → r ≡ step.No → ((g : Length) → Ends s g (lettersThen (sifted (drop (length s) s)) (drop at s)) q) → Ends s given (originThen strict (drop at s)) q
   unfolding lettersThen originThen
   origin-none q e w =
-      ends-as s given (lettersThen (sifted (drop (length s) s)) (drop at s)) (originThen (drop at s)) q
-      (λ t d. then-slashes t (drop at s) (originTag (drop at s)) (rw e at (h .is)) ∙ rw (none-there s, ← d .none)) (w given)
+      ends-as s given (lettersThen (sifted (drop (length s) s)) (drop at s)) (originThen strict (drop at s)) q
+      (λ t d. then-slashes strict t (drop at s) (originTag (drop at s)) (rw e at (h .is)) ∙ rw (none-there s, ← d .none)) (w given)
 
-  pub origin-unended : r ≡ step.Cut → Ends s given (originThen (drop at s)) (ended.Refused unread.Unended)
+  pub origin-unended : r ≡ step.Cut → Ends s given (originThen strict (drop at s)) (ended.Refused unread.Unended)
   unfolding originThen
-  origin-unended e = record { is = λ t d. then-cut t (drop at s) (originTag (drop at s)) (rw e at (h .is)) }
+  origin-unended e = record { is = λ t d. then-cut strict t (drop at s) (originTag (drop at s)) (rw e at (h .is)) }
 
 pub ruleset ending = (passed-within, origin-then, origin-none, origin-unended, none-counted)

@@ -1,15 +1,19 @@
 -- What reading ORIGIN, the letters and the record's end answers, whatever table was read before.
 use Prim.Native.Nat.{ℕ, _≤_}
+use mathlib.Core.Bool.{Bool}
 use mathlib.Core.Path.{_≡_}
 use mathlib.Core.List.{List, []}
 use lib.ListN.{length, drop}
-use Rattle.spec_format.specs.Bytes.{notBlank}
+use Rattle.spec_format.specs.Bytes.{pick, letter, starts, notBlank}
 use Rattle.spec_format.specs.Readers.{Ans, Got, No, Cut, bind, orElse, until, spaces1, line, lineEnd, utf8Of}
 use Rattle.spec_format.specs.Table.{Table}
 use Rattle.spec_format.specs.Origin.{originTag, letters}
 use Rattle.spec_format.specs.Record.{Outcome, Read, Not, withLetters, slashesAt, sequence, afterOrigin}
+use Rattle.spec_format.specs.Strict.{stray, strayAfter, strictly}
 use Rattle.spec_format.specs.Rooms.{mayLength}
 use Rattle.spec_format.specs.declared.Length.{Length}
+use Rattle.spec_format.specs.declared.Unread.{Unread}
+use Rattle.spec_format.specs.declared.Unread.the-variants as unread
 use Rattle.scan_bytes.specs.Views.{stepOf, Past}
 use Rattle.scan_bytes.specs.declared.Step.{Step}
 use Rattle.read_letters.specs.Runs.{sifted}
@@ -37,17 +41,21 @@ pub record Passed (s : List ℕ) (at : ℕ) (o : Ans (List ℕ)) (r : Step) : Ty
   pub is : stepOf s r ≡ passed o
   pub place : Past s at r
 
--- ---- what follows, as a function of the table that was read before
+-- number 9, or 16 of a letter
+abbrev pub badBy : List ℕ → Unread
+badBy s = pick (starts letter s) unread.StrayLetter unread.BadLetter
+
+-- ---- what follows, as a function of the table that was read before, with the strict switch or without
 
 -- `//` after these letters
 unfoldable pub lettersThen : List ℕ → List ℕ → Table → Outcome
 lettersThen l s t = slashesAt (withLetters t l) s
 
-unfoldable pub sequenceThen : List ℕ → Table → Outcome
-sequenceThen s t = sequence t (letters s)
+unfoldable pub sequenceThen : Bool → List ℕ → Table → Outcome
+sequenceThen strict s t = strictly strict (stray s) (sequence t (letters s))
 
-unfoldable pub originThen : List ℕ → Table → Outcome
-originThen s t = afterOrigin t s (originTag s)
+unfoldable pub originThen : Bool → List ℕ → Table → Outcome
+originThen strict s t = strictly strict (strayAfter (originTag s)) (afterOrigin t s (originTag s))
 
 -- a table that has no letters yet, and LOCUS gave that length
 pub record Before (given : Length) (t : Table) : Type 0 where

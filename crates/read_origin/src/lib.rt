@@ -6,7 +6,7 @@ use scan_bytes::Step;
 use spec_format::Length;
 use spec_format::Unread;
 ghost use mathlib.Core.Path.{_≡_};
-ghost use Prim.Native.Nat.{_≤_};
+ghost use Prim.Native.Nat.{_≤_, _<_};
 ghost use lib.ListN.{length, drop};
 ghost use Rattle.spec_format.specs.Readers.{line, utf8Of};
 ghost use Rattle.spec_format.specs.Origin.{originTag};
@@ -14,7 +14,7 @@ ghost use Rattle.spec_format.specs.Record.{promised, counted};
 ghost use Rattle.spec_format.specs.Rooms.{mayLength};
 ghost use Rattle.spec_format.specs.declared.Length.{Length};
 ghost use Rattle.read_letters.specs.Runs.{sifted};
-ghost use Rattle.read_origin.specs.Ends.{originBlanks, originText, originRest, Passed, lettersThen, sequenceThen, originThen, Ends};
+ghost use Rattle.read_origin.specs.Ends.{originBlanks, originText, originRest, Passed, lettersThen, sequenceThen, originThen, badBy, Ends};
 
 // The letters stand at `letters_at` and are `letters` many, and the record ends at `place`; or why there is none. A record without ORIGIN has
 // its letters at the slice's end, where none are.
@@ -127,12 +127,23 @@ fn slashes_after(s: &[u8], at: usize, first: usize, letters: usize) -> EndAt
     }
 }
 
-// The letters at `at`, which must be as many as LOCUS says. The input may end with them only if LOCUS says how many there are.
-fn sequence_at(s: &[u8], at: usize, given: Length) -> EndAt
-    requires { ⌜ at ≤ length (now s) ⌝ }
-    ensures { λ r. ⌜ Ends (now (s .entry)) given (sequenceThen (drop at (now (s .entry)))) r ⌝ }
+// Why the letters may not go on with the byte at a place: a letter stands there only with the strict switch, as one without a code.
+fn bad_letter(s: &[u8], at: usize) -> Unread
+    requires { ⌜ at < length (now s) ⌝ }
+    ensures { λ r. ⌜ r ≡ badBy (drop at (now (s .entry))) ⌝ }
 {
-    match read_letters::count_letters(s, at) {
+    if scan_bytes::is_letter(s[at]) {
+        return Unread::StrayLetter;
+    }
+    Unread::BadLetter
+}
+
+// The letters at `at`, which must be as many as LOCUS says. The input may end with them only if LOCUS says how many there are.
+fn sequence_at(s: &[u8], at: usize, given: Length, strict: bool) -> EndAt
+    requires { ⌜ at ≤ length (now s) ⌝ }
+    ensures { λ r. ⌜ Ends (now (s .entry)) given (sequenceThen strict (drop at (now (s .entry)))) r ⌝ }
+{
+    match read_letters::count_letters(s, at, strict) {
         Counted::AtSlash { count, next } => {
             if may_number(given, count) {
                 return slashes_after(s, next, at, count);
@@ -149,17 +160,17 @@ fn sequence_at(s: &[u8], at: usize, given: Length) -> EndAt
             }
             EndAt::Refused(Unread::Unended)
         }
-        Counted::Bad { next: _ } => EndAt::Refused(Unread::BadLetter),
+        Counted::Bad { next } => EndAt::Refused(bad_letter(s, next)),
     }
 }
 
 // ORIGIN and the letters, or none; and the record's end.
-pub fn end_at(s: &[u8], at: usize, given: Length) -> EndAt
+pub fn end_at(s: &[u8], at: usize, given: Length, strict: bool) -> EndAt
     requires { ⌜ at ≤ length (now s) ⌝ }
-    ensures { λ r. ⌜ Ends (now (s .entry)) given (originThen (drop at (now (s .entry)))) r ⌝ }
+    ensures { λ r. ⌜ Ends (now (s .entry)) given (originThen strict (drop at (now (s .entry)))) r ⌝ }
 {
     match origin_at(s, at) {
-        Step::Got(next) => sequence_at(s, next, given),
+        Step::Got(next) => sequence_at(s, next, given, strict),
         Step::No => slashes_after(s, at, s.len(), 0),
         Step::Cut => EndAt::Refused(Unread::Unended),
     }

@@ -4,10 +4,12 @@ use spec_contracts::Reported;
 ghost use Rattle.spec_contracts.specs.Lent.{lent, left};
 ghost use Rattle.spec_contracts.specs.Reads.{ReadReported};
 
-// Reads the record at a place of a slice into the rooms. It has no branch: where the answer refuses, no feature is left to be put, and the line of the trouble is found.
+// Reads the record at a place of a slice into the rooms; with the strict switch a letter without an IUPAC code is refused. It has no branch: where the answer refuses, no
+// feature is left to be put, and the line of the trouble is found.
 pub fn read(
     s: &[u8],
     at: usize,
+    strict: bool,
     texts: &mut [u8],
     references: &mut [usize],
     comments: &mut [usize],
@@ -16,11 +18,12 @@ pub fn read(
     locations: &mut [usize],
     letters: &mut [u8],
 ) -> Reported
-    ensures { λ r. ⌜ ReadReported (now (s .entry)) at (lent texts references comments rows qualifiers locations letters) (left texts references comments rows qualifiers locations letters) r ⌝ }
+    ensures { λ r. ⌜ ReadReported strict (now (s .entry)) at (lent texts references comments rows qualifiers locations letters) (left texts references comments rows qualifiers locations letters) r ⌝ }
 {
     let p = read_record_prepared::prepare(
         s,
         at,
+        strict,
         texts,
         references,
         comments,

@@ -11,11 +11,13 @@ use Rattle.spec_format.specs.Readers.{Got}
 use Rattle.spec_format.specs.Table.{Locus}
 use Rattle.spec_format.specs.Locus.{preamble, locus}
 use Rattle.spec_format.specs.Header.{Field, every, textIn}
-use Rattle.spec_format.specs.Record.{Middle, middle, deepIn, tableFrom, afterHeader, afterLocus, readRecord}
+use Rattle.spec_format.specs.Record.{Middle, Not, middle, deepIn, tableFrom, readRecord}
+use Rattle.spec_format.specs.Strict.{lettersFrom, recordBy}
 use Rattle.spec_format.specs.Rooms.{mayLength}
 use Rattle.spec_format.specs.declared.Length.{Length}
 use Rattle.spec_format.specs.declared.Unread.{Unread}
 use Rattle.spec_format.specs.declared.Unread.the-variants as unread
+use Rattle.spec_strict.specs.Laws.{strictly-none}
 use Rattle.scan_bytes.specs.Views.{Stepped}
 use Rattle.scan_bytes.specs.Sequence.{step-within}
 use Rattle.scan_bytes.specs.declared.Step.{Step}
@@ -41,7 +43,7 @@ use Rattle.read_record_plan.specs.declared.RestAt.{RestAt}
 use Rattle.read_record_plan.specs.declared.RestAt.the-variants as rest
 use Rattle.read_record_plan.specs.declared.PlanAt.{PlanAt}
 use Rattle.read_record_plan.specs.declared.PlanAt.the-variants as plan
-use Rattle.read_record_plan.specs.Plans.{lengthIn, restThen, tableWith, RestKnown, RestAs, Rests, headerThen, Plans}
+use Rattle.read_record_plan.specs.Plans.{lengthIn, restThen, tableWith, RestKnown, RestAs, Rests, headerThen, locusThen, Plans}
 
 -- ---- after the header
 
@@ -50,17 +52,17 @@ table-before : (given : Length) (l : Locus) (fs : List Field) (m : Middle) → l
 unfolding tableFrom
 table-before given l fs m e = record { none = refl; length = e }
 
-module _ (s : List ℕ) (at : ℕ) (given : Length) (r : MiddleAt) (h : Middles s (deepIn (drop at s)) (middle (drop at s)) r) where
+module _ (s : List ℕ) (at : ℕ) (given : Length) (strict : Bool) (r : MiddleAt) (h : Middles s (deepIn (drop at s)) (middle (drop at s)) r) where
   as-told : (x : MiddleAt) → r ≡ x → MiddleAs s (deepIn (drop at s)) (middle (drop at s)) x
   as-told x e = subst (λ (x : MiddleAt). MiddleAs s (deepIn (drop at s)) (middle (drop at s)) x) e (h .is)
 
-  pub rest-cut : r ≡ mid.Cut → Rests s given (restThen (drop at s)) (rest.Refused unread.Unended)
+  pub rest-cut : r ≡ mid.Cut → Rests s given (restThen strict (drop at s)) (rest.Refused unread.Unended)
   unfolding restThen
-  rest-cut e = let k = as-told mid.Cut e in record { is = λ l fs _. rw (k .0, k .1) }
+  rest-cut e = let k = as-told mid.Cut e in record { is = λ l fs _. rw (k .0, k .1) (strictly-none strict (Not unread.Unended)) }
 
-  pub rest-deep : r ≡ mid.Deep → Rests s given (restThen (drop at s)) (rest.Refused unread.TooDeep)
+  pub rest-deep : r ≡ mid.Deep → Rests s given (restThen strict (drop at s)) (rest.Refused unread.TooDeep)
   unfolding restThen
-  rest-deep e = let k : deepIn (drop at s) ≡ true = as-told mid.Deep e in record { is = λ l fs _. rw k }
+  rest-deep e = let k : deepIn (drop at s) ≡ true = as-told mid.Deep e in record { is = λ l fs _. rw k (strictly-none strict (Not unread.TooDeep)) }
 
   module _ (first : ℕ) (counts : Features) (entry : MayEntry) (rows next : ℕ) (e : r ≡ mid.Got first counts entry rows next) where
     known : MiddleKnown s (deepIn (drop at s)) (middle (drop at s)) first counts entry rows next
@@ -69,22 +71,22 @@ module _ (s : List ℕ) (at : ℕ) (given : Length) (r : MiddleAt) (h : Middles 
     pub middle-within : next ≤ length s
     middle-within = known .within
 
-    then-origin : (l : Locus) (fs : List Field) → restThen (drop at s) l fs ≡ originThen (drop next s) (tableFrom l fs (middleIn s first entry))
+    then-origin : (l : Locus) (fs : List Field) → restThen strict (drop at s) l fs ≡ originThen strict (drop next s) (tableFrom l fs (middleIn s first entry))
     unfolding restThen originThen
     then-origin l fs = rw (known .shallow, known .is)
 
-    module _ (q : EndAt) (w : Ends s given (originThen (drop next s)) q) where
-      pub rest-refused : (why : Unread) → q ≡ ended.Refused why → Rests s given (restThen (drop at s)) (rest.Refused why)
+    module _ (q : EndAt) (w : Ends s given (originThen strict (drop next s)) q) where
+      pub rest-refused : (why : Unread) → q ≡ ended.Refused why → Rests s given (restThen strict (drop at s)) (rest.Refused why)
       rest-refused why f =
-          let k : EndAs s given (originThen (drop next s)) (ended.Refused why) = subst (λ (x : EndAt). EndAs s given (originThen (drop next s)) x) f (w .is) in
+          let k : EndAs s given (originThen strict (drop next s)) (ended.Refused why) = subst (λ (x : EndAt). EndAs s given (originThen strict (drop next s)) x) f (w .is) in
           record { is = λ l fs d. then-origin l fs ∙ k (tableFrom l fs (middleIn s first entry)) (table-before given l fs (middleIn s first entry) d) }
 
       pub rest-got : (lettersAt n place : ℕ) → q ≡ ended.Got lettersAt n place →
-          Rests s given (restThen (drop at s))
+          Rests s given (restThen strict (drop at s))
           (rest.Got (record { «features_at» = first; features = counts; contig = entry; «contig_rows» = rows; «letters_at» = lettersAt; letters = n; place = place }))
       unfolding tableWith
       rest-got lettersAt n place f =
-          let k : EndKnown s given (originThen (drop next s)) lettersAt n place = subst (λ (x : EndAt). EndAs s given (originThen (drop next s)) x) f (w .is) in
+          let k : EndKnown s given (originThen strict (drop next s)) lettersAt n place = subst (λ (x : EndAt). EndAs s given (originThen strict (drop next s)) x) f (w .is) in
           record {
             is = record {
               is = λ l fs d. then-origin l fs ∙ k .is (tableFrom l fs (middleIn s first entry)) (table-before given l fs (middleIn s first entry) d);
@@ -106,34 +108,34 @@ once n b e f = le-leb n 1 (ltb-false 1 n (sym e ∙ f))
 more-than-once : (n : ℕ) (b : Bool) → b ≡ ltb 1 n → b ≡ true → leb n 1 ≡ false
 more-than-once n b e f = lt-leb n 1 (ltb-true 1 n (sym e ∙ f))
 
-module _ (s : List ℕ) (at : ℕ) (p : LocusPlan) (h : Header) (g : Gathered s at (fieldsAt (drop at s)) h) where
+module _ (s : List ℕ) (at : ℕ) (p : LocusPlan) (strict : Bool) (h : Header) (g : Gathered s at (fieldsAt (drop at s)) h) where
   abbrev names : ℕ
   names = length (every (textIn (bytes "DEFINITION")) (fieldsAt (drop at s)))
 
-  pub header-twice : h .twice ≡ true → Plans s (headerThen (planned s p) (drop at s)) (plan.Refused unread.TwoDefinitions)
+  pub header-twice : h .twice ≡ true → Plans s (headerThen strict (planned s p) (drop at s)) (plan.Refused unread.TwoDefinitions)
   unfolding headerThen
-  header-twice e = record { is = rw (g .ended, more-than-once names (h .twice) (g .twice) e) }
+  header-twice e = record { is = rw (g .ended, more-than-once names (h .twice) (g .twice) e) (strictly-none strict (Not unread.TwoDefinitions)) }
 
   pub header-within : h .next ≤ length s
   header-within = g .within
 
-  module _ (r : RestAt) (n : Length) (e : h .twice ≡ false) (m : n ≡ lengthIn p) (w : Rests s n (restThen (drop (h .next) s)) r) where
-    then-rest : headerThen (planned s p) (drop at s) ≡ restThen (drop (h .next) s) (planned s p) (fieldsAt (drop at s))
+  module _ (r : RestAt) (n : Length) (e : h .twice ≡ false) (m : n ≡ lengthIn p) (w : Rests s n (restThen strict (drop (h .next) s)) r) where
+    then-rest : headerThen strict (planned s p) (drop at s) ≡ restThen strict (drop (h .next) s) (planned s p) (fieldsAt (drop at s))
     unfolding headerThen restThen
     then-rest = rw (g .ended, once names (h .twice) (g .twice) e)
 
     given : planned s p .length ≡ mayLength n
     given = length-in s p ∙ ap mayLength (sym m)
 
-    pub header-refused : (why : Unread) → r ≡ rest.Refused why → Plans s (headerThen (planned s p) (drop at s)) (plan.Refused why)
+    pub header-refused : (why : Unread) → r ≡ rest.Refused why → Plans s (headerThen strict (planned s p) (drop at s)) (plan.Refused why)
     header-refused why f =
-        let k : RestAs s n (restThen (drop (h .next) s)) (rest.Refused why) = subst (λ (x : RestAt). RestAs s n (restThen (drop (h .next) s)) x) f (w .is) in
+        let k : RestAs s n (restThen strict (drop (h .next) s)) (rest.Refused why) = subst (λ (x : RestAt). RestAs s n (restThen strict (drop (h .next) s)) x) f (w .is) in
         record { is = then-rest ∙ k (planned s p) (fieldsAt (drop at s)) given }
 
     pub header-ready : (x : Rest) → r ≡ rest.Got x → at ≤ length s → PlanEnds (length s) p →
-        Plans s (headerThen (planned s p) (drop at s)) (plan.Ready (record { locus = p; «header_at» = at; header = h; rest = x }))
+        Plans s (headerThen strict (planned s p) (drop at s)) (plan.Ready (record { locus = p; «header_at» = at; header = h; rest = x }))
     header-ready x f l b =
-        let k : RestKnown s n (restThen (drop (h .next) s)) x = subst (λ (y : RestAt). RestAs s n (restThen (drop (h .next) s)) y) f (w .is) in
+        let k : RestKnown s n (restThen strict (drop (h .next) s)) x = subst (λ (y : RestAt). RestAs s n (restThen strict (drop (h .next) s)) y) f (w .is) in
         record {
           is = record {
             is = then-rest ∙ k .is (planned s p) (fieldsAt (drop at s)) given;
@@ -145,12 +147,14 @@ pub ruleset heading = (header-twice, header-within, header-refused, header-ready
 
 -- ---- LOCUS, and the lines before it
 
-module _ (s : List ℕ) (at : ℕ) (r : LocusAt) (h : LocusRead s at (locus (drop at s)) r) where
-  pub locus-no : r ≡ read.No → Plans s (afterLocus (locus (drop at s))) (plan.Refused unread.NoLocus)
-  locus-no e = record { is = rw (← h .is, e) }
+module _ (s : List ℕ) (at : ℕ) (strict : Bool) (r : LocusAt) (h : LocusRead s at (locus (drop at s)) r) where
+  pub locus-no : r ≡ read.No → Plans s (locusThen strict (drop at s)) (plan.Refused unread.NoLocus)
+  unfolding locusThen
+  locus-no e = record { is = rw (← h .is, e) (strictly-none strict (Not unread.NoLocus)) }
 
-  pub locus-cut : r ≡ read.Cut → Plans s (afterLocus (locus (drop at s))) (plan.Refused unread.Unended)
-  locus-cut e = record { is = rw (← h .is, e) }
+  pub locus-cut : r ≡ read.Cut → Plans s (locusThen strict (drop at s)) (plan.Refused unread.Unended)
+  unfolding locusThen
+  locus-cut e = record { is = rw (← h .is, e) (strictly-none strict (Not unread.Unended)) }
 
   module _ (p : LocusPlan) (n : ℕ) (e : r ≡ read.Got p n) where
     ends : LocusEnds s at (read.Got p n)
@@ -162,23 +166,23 @@ module _ (s : List ℕ) (at : ℕ) (r : LocusAt) (h : LocusRead s at (locus (dro
     pub locus-ends : PlanEnds (length s) p
     locus-ends = ends .2
 
-    pub locus-then : (q : PlanAt) → Plans s (headerThen (planned s p) (drop n s)) q → Plans s (afterLocus (locus (drop at s))) q
-    unfolding headerThen
+    pub locus-then : (q : PlanAt) → Plans s (headerThen strict (planned s p) (drop n s)) q → Plans s (locusThen strict (drop at s)) q
+    unfolding headerThen locusThen
     locus-then q w = let k : locus (drop at s) ≡ Got (planned s p) (drop n s) = rw (← h .is, e) in rw k w
 
 pub ruleset locating = (locus-no, locus-cut, locus-within, locus-ends, locus-then)
 
-module _ (s : List ℕ) (at : ℕ) (r : Step) (h : Stepped s at (preamble (drop at s)) r) where
-  pub before-no : r ≡ step.No → Plans s (readRecord (drop at s)) (plan.Refused unread.NoLocus)
-  unfolding readRecord
-  before-no e = record { is = rw (← h .is, e) }
+module _ (s : List ℕ) (at : ℕ) (strict : Bool) (r : Step) (h : Stepped s at (preamble (drop at s)) r) where
+  pub before-no : r ≡ step.No → Plans s (recordBy strict (drop at s)) (plan.Refused unread.NoLocus)
+  unfolding readRecord recordBy lettersFrom
+  before-no e = record { is = rw (← h .is, e) (strictly-none strict (Not unread.NoLocus)) }
 
-  pub before-cut : r ≡ step.Cut → Plans s (readRecord (drop at s)) (plan.Refused unread.NoLocus)
-  unfolding readRecord
-  before-cut e = record { is = rw (← h .is, e) }
+  pub before-cut : r ≡ step.Cut → Plans s (recordBy strict (drop at s)) (plan.Refused unread.NoLocus)
+  unfolding readRecord recordBy lettersFrom
+  before-cut e = record { is = rw (← h .is, e) (strictly-none strict (Not unread.NoLocus)) }
 
-  pub before-then : (n : ℕ) (q : PlanAt) → r ≡ step.Got n → Plans s (afterLocus (locus (drop n s))) q → Plans s (readRecord (drop at s)) q
-  unfolding readRecord
+  pub before-then : (n : ℕ) (q : PlanAt) → r ≡ step.Got n → Plans s (locusThen strict (drop n s)) q → Plans s (recordBy strict (drop at s)) q
+  unfolding locusThen readRecord recordBy lettersFrom
   before-then n q e w = rw (← h .is, e) w
 
 pub ruleset starting = (before-no, before-cut, before-then, step-within)

@@ -1,20 +1,23 @@
 -- What the plan of a record says of the record that is read there.
 use Prim.Native.Nat.{ℕ, _≤_}
+use mathlib.Core.Bool.{Bool}
 use mathlib.Core.Path.{_≡_}
 use mathlib.Core.List.{List}
 use lib.ListN.{length, drop}
 use Rattle.spec_format.specs.Bytes.{pick}
-use Rattle.spec_format.specs.Readers.{whileFits}
+use Rattle.spec_format.specs.Readers.{bind, whileFits}
 use Rattle.spec_format.specs.Table.{Locus, Table}
 use Rattle.spec_format.specs.Header.{Field, headerField}
-use Rattle.spec_format.specs.Record.{Outcome, Read, Not, most, withLetters, middle, deepIn, tableFrom, afterHeader, header}
+use Rattle.spec_format.specs.Locus.{locus}
+use Rattle.spec_format.specs.Record.{Outcome, Read, Not, most, withLetters, middle, deepIn, tableFrom, afterHeader, header, afterLocus}
+use Rattle.spec_format.specs.Strict.{lettersBelow, lettersAfter, strayAfter, strictly}
 use Rattle.spec_format.specs.Rooms.{mayLength}
 use Rattle.spec_format.specs.declared.Unread.the-variants as unread
 use Rattle.spec_format.specs.declared.Length.{Length}
 use Rattle.spec_format.specs.declared.Length.the-variants as bases
 use Rattle.read_letters.specs.Runs.{sifted}
 use Rattle.read_locus.specs.declared.LocusPlan.{LocusPlan}
-use Rattle.read_locus.specs.declared.LocusPlan.the-variants as locus
+use Rattle.read_locus.specs.declared.LocusPlan.the-variants as plans
 use Rattle.read_locus.specs.Plans.{planned, PlanEnds}
 use Rattle.read_field_all.specs.Gathered.{fieldsAt, Gathered}
 use Rattle.read_record_middle.specs.Middles.{middleIn, MiddleStands}
@@ -26,13 +29,13 @@ use Rattle.read_record_plan.specs.declared.PlanAt.{PlanAt}
 use Rattle.read_record_plan.specs.declared.PlanAt.the-variants as plan
 
 abbrev pub lengthIn : LocusPlan → Length
-lengthIn locus.Unknown = bases.Absent
-lengthIn (locus.Known name n molecule circular division date) = bases.Bases n
+lengthIn plans.Unknown = bases.Absent
+lengthIn (plans.Known name n molecule circular division date) = bases.Bases n
 
--- ---- after the header, whatever LOCUS and header were read
+-- ---- after the header, whatever LOCUS and header were read, with the strict switch or without
 
-unfoldable pub restThen : List ℕ → Locus → List Field → Outcome
-restThen s l fs = pick (deepIn s) (Not unread.TooDeep) (afterHeader l fs (middle s))
+unfoldable pub restThen : Bool → List ℕ → Locus → List Field → Outcome
+restThen strict s l fs = strictly strict (strayAfter (lettersBelow s)) (pick (deepIn s) (Not unread.TooDeep) (afterHeader l fs (middle s)))
 
 -- the table of what was read before and of what a plan says of the rest
 unfoldable pub tableWith : List ℕ → Locus → List Field → Rest → Table
@@ -58,8 +61,11 @@ pub record Rests (s : List ℕ) (given : Length) (o : Locus → List Field → O
 
 -- ---- a whole record
 
-unfoldable pub headerThen : Locus → List ℕ → Outcome
-headerThen l s = header l s (whileFits headerField s)
+unfoldable pub headerThen : Bool → Locus → List ℕ → Outcome
+headerThen strict l s = strictly strict (strayAfter (bind (whileFits headerField s) lettersAfter)) (header l s (whileFits headerField s))
+
+unfoldable pub locusThen : Bool → List ℕ → Outcome
+locusThen strict s = strictly strict (strayAfter (bind (locus s) λ _ s. bind (whileFits headerField s) lettersAfter)) (afterLocus (locus s))
 
 -- the table that a plan stands for
 abbrev pub planTable : List ℕ → Plan → Table

@@ -12,10 +12,10 @@ use spec_format::Unread;
 ghost use mathlib.Core.Path.{_≡_};
 ghost use Prim.Native.Nat.{_≤_};
 ghost use lib.ListN.{length, drop};
-ghost use Rattle.spec_format.specs.Locus.{locus};
-ghost use Rattle.spec_format.specs.Record.{most, afterLocus, readRecord};
+ghost use Rattle.spec_format.specs.Record.{most};
+ghost use Rattle.spec_format.specs.Strict.{recordBy};
 ghost use Rattle.read_locus.specs.Plans.{planned, PlanEnds};
-ghost use Rattle.read_record_plan.specs.Plans.{lengthIn, restThen, Rests, headerThen, Plans};
+ghost use Rattle.read_record_plan.specs.Plans.{lengthIn, restThen, Rests, headerThen, locusThen, Plans};
 
 // What stands after the header, up to `place`.
 pub struct Rest {
@@ -64,9 +64,9 @@ fn locus_length(plan: LocusPlan) -> Length
 }
 
 // All that follows the header.
-fn rest_at(s: &[u8], at: usize, given: Length) -> RestAt
+fn rest_at(s: &[u8], at: usize, given: Length, strict: bool) -> RestAt
     requires { ⌜ (at ≤ length (now s)) × (length (now s) ≤ most) ⌝ }
-    ensures { λ r. ⌜ Rests (now (s .entry)) given (restThen (drop at (now (s .entry)))) r ⌝ }
+    ensures { λ r. ⌜ Rests (now (s .entry)) given (restThen strict (drop at (now (s .entry)))) r ⌝ }
 {
     match read_record_middle::middle_at(s, at) {
         MiddleAt::Cut => RestAt::Refused(Unread::Unended),
@@ -77,7 +77,7 @@ fn rest_at(s: &[u8], at: usize, given: Length) -> RestAt
             contig,
             contig_rows,
             next,
-        } => match read_origin::end_at(s, next, given) {
+        } => match read_origin::end_at(s, next, given, strict) {
             EndAt::Refused(why) => RestAt::Refused(why),
             EndAt::Got {
                 letters_at,
@@ -97,15 +97,15 @@ fn rest_at(s: &[u8], at: usize, given: Length) -> RestAt
 }
 
 // All that follows LOCUS.
-fn plan_header(s: &[u8], at: usize, plan: LocusPlan) -> PlanAt
+fn plan_header(s: &[u8], at: usize, plan: LocusPlan, strict: bool) -> PlanAt
     requires { ⌜ (at ≤ length (now s)) × (length (now s) ≤ most) × PlanEnds (length (now s)) plan ⌝ }
-    ensures { λ r. ⌜ Plans (now (s .entry)) (headerThen (planned (now (s .entry)) plan) (drop at (now (s .entry)))) r ⌝ }
+    ensures { λ r. ⌜ Plans (now (s .entry)) (headerThen strict (planned (now (s .entry)) plan) (drop at (now (s .entry)))) r ⌝ }
 {
     let header = read_field_all::header_at(s, at);
     if header.twice {
         return PlanAt::Refused(Unread::TwoDefinitions);
     }
-    match rest_at(s, header.next, locus_length(plan)) {
+    match rest_at(s, header.next, locus_length(plan), strict) {
         RestAt::Refused(why) => PlanAt::Refused(why),
         RestAt::Got(rest) => PlanAt::Ready(Plan {
             locus: plan,
@@ -117,23 +117,24 @@ fn plan_header(s: &[u8], at: usize, plan: LocusPlan) -> PlanAt
 }
 
 // From LOCUS on.
-fn plan_locus(s: &[u8], at: usize) -> PlanAt
+fn plan_locus(s: &[u8], at: usize, strict: bool) -> PlanAt
     requires { ⌜ (at ≤ length (now s)) × (length (now s) ≤ most) ⌝ }
-    ensures { λ r. ⌜ Plans (now (s .entry)) (afterLocus (locus (drop at (now (s .entry))))) r ⌝ }
+    ensures { λ r. ⌜ Plans (now (s .entry)) (locusThen strict (drop at (now (s .entry)))) r ⌝ }
 {
     match read_locus_at::locus_at(s, at) {
-        LocusAt::Got { plan, next } => plan_header(s, next, plan),
+        LocusAt::Got { plan, next } => plan_header(s, next, plan, strict),
         LocusAt::No => PlanAt::Refused(Unread::NoLocus),
         LocusAt::Cut => PlanAt::Refused(Unread::Unended),
     }
 }
 
-pub fn plan_at(s: &[u8], at: usize) -> PlanAt
+// With the strict switch a letter without a code is a trouble, too.
+pub fn plan_at(s: &[u8], at: usize, strict: bool) -> PlanAt
     requires { ⌜ (at ≤ length (now s)) × (length (now s) ≤ most) ⌝ }
-    ensures { λ r. ⌜ Plans (now (s .entry)) (readRecord (drop at (now (s .entry)))) r ⌝ }
+    ensures { λ r. ⌜ Plans (now (s .entry)) (recordBy strict (drop at (now (s .entry)))) r ⌝ }
 {
     match read_preamble::preamble_at(s, at) {
-        Step::Got(next) => plan_locus(s, next),
+        Step::Got(next) => plan_locus(s, next, strict),
         Step::No => PlanAt::Refused(Unread::NoLocus),
         Step::Cut => PlanAt::Refused(Unread::NoLocus),
     }

@@ -9,7 +9,8 @@ use lib.Seq.{drop-length}
 use Rattle.spec_format.specs.Table.{Feature}
 use Rattle.spec_format.specs.Readers.{Ans, Got, No, Cut}
 use Rattle.spec_format.specs.Features.{feature}
-use Rattle.spec_format.specs.Record.{most, readRecord}
+use Rattle.spec_format.specs.Record.{most}
+use Rattle.spec_format.specs.Strict.{recordBy}
 use Rattle.spec_format.specs.Rooms.{Rooms, featureRows, qualifierRows, roomsIn}
 use Rattle.spec_format.specs.declared.Sizes.{Sizes}
 use Rattle.spec_format.specs.declared.Unread.{Unread}
@@ -66,11 +67,11 @@ unchanged s t₁ t₂ f₀ f₁ q₀ q₁ n₀ n₁ z h =
     let k : FeaturesPut 0 [] t₁ t₂ f₀ f₁ q₀ q₁ n₀ n₁ z = subst (λ (fs : List Feature). FeaturesPut 0 fs t₁ t₂ f₀ f₁ q₀ q₁ n₀ n₁ z) (none-left s) h in
     (k .texts .is, (k .features, (k .qualifiers, k .locations)))
 
-module _ (s : List ℕ) (at : ℕ) (t r c : List ℕ) (rows qualifiers : ℕ) (n l : List ℕ) (x : Prepared) where
+module _ (strict : Bool) (s : List ℕ) (at : ℕ) (t r c : List ℕ) (rows qualifiers : ℕ) (n l : List ℕ) (x : Prepared) where
   -- an answer that leaves all rooms as they were
-  unprepared : (a : ReadAnswer) → ((old : Rooms) → Answered s at old old a) → x ≡ noRows (length s) a → Prepares s at t t r r c c rows qualifiers n n l l x
+  unprepared : (a : ReadAnswer) → ((old : Rooms) → Answered strict s at old old a) → x ≡ noRows (length s) a → Prepares strict s at t t r r c c rows qualifiers n n l l x
   unprepared a h e =
-      subst (λ (y : Prepared). Prepares s at t t r r c c rows qualifiers n n l l y) (sym e)
+      subst (λ (y : Prepared). Prepares strict s at t t r r c c rows qualifiers n n l l y) (sym e)
       (record {
         answers = λ t₂ f₀ f₁ q₀ q₁ n₂ z i j k.
             let u = unchanged s t t₂ f₀ f₁ q₀ q₁ n n₂ z k in
@@ -78,28 +79,28 @@ module _ (s : List ℕ) (at : ℕ) (t r c : List ℕ) (rows qualifiers : ℕ) (n
         fits = none-fits s;
       })
 
-  pub unread-long : most < length s → x ≡ noRows (length s) (answer.Refused unread.BadPlace) → Prepares s at t t r r c c rows qualifiers n n l l x
-  unread-long h e = unprepared (answer.Refused unread.BadPlace) (λ old. refused-long s at old h) e
+  pub unread-long : most < length s → x ≡ noRows (length s) (answer.Refused unread.BadPlace) → Prepares strict s at t t r r c c rows qualifiers n n l l x
+  unread-long h e = unprepared (answer.Refused unread.BadPlace) (λ old. refused-long strict s at old h) e
 
-  pub unread-beyond : length s ≤ most → length s < at → x ≡ noRows (length s) (answer.Refused unread.BadPlace) → Prepares s at t t r r c c rows qualifiers n n l l x
-  unread-beyond m h e = unprepared (answer.Refused unread.BadPlace) (λ old. refused-beyond s at old m h) e
+  pub unread-beyond : length s ≤ most → length s < at → x ≡ noRows (length s) (answer.Refused unread.BadPlace) → Prepares strict s at t t r r c c rows qualifiers n n l l x
+  unread-beyond m h e = unprepared (answer.Refused unread.BadPlace) (λ old. refused-beyond strict s at old m h) e
 
   pub unread-end : length s ≤ most → length s ≤ at → at ≤ length s → x ≡ noRows (length s) (answer.Refused unread.AtEnd) →
-      Prepares s at t t r r c c rows qualifiers n n l l x
-  unread-end m h w e = unprepared (answer.Refused unread.AtEnd) (λ old. refused-end s at old m h w) e
+      Prepares strict s at t t r r c c rows qualifiers n n l l x
+  unread-end m h w e = unprepared (answer.Refused unread.AtEnd) (λ old. refused-end strict s at old m h w) e
 
-  pub unread-plan : (o : PlanAt) → Plans s (readRecord (drop at s)) o → length s ≤ most → at < length s → (why : Unread) → o ≡ plan.Refused why →
-      x ≡ noRows (length s) (answer.Refused why) → Prepares s at t t r r c c rows qualifiers n n l l x
-  unread-plan o h m w why k e = unprepared (answer.Refused why) (λ old. refused-plan s at o h m w old why k) e
+  pub unread-plan : (o : PlanAt) → Plans s (recordBy strict (drop at s)) o → length s ≤ most → at < length s → (why : Unread) → o ≡ plan.Refused why →
+      x ≡ noRows (length s) (answer.Refused why) → Prepares strict s at t t r r c c rows qualifiers n n l l x
+  unread-plan o h m w why k e = unprepared (answer.Refused why) (λ old. refused-plan strict s at o h m w old why k) e
 
 -- what was planned is what is read
-pub prepared : (s : List ℕ) (at : ℕ) (o : PlanAt) → Plans s (readRecord (drop at s)) o → length s ≤ most → at < length s → (p : Plan) → o ≡ plan.Ready p →
+pub prepared : (strict : Bool) (s : List ℕ) (at : ℕ) (o : PlanAt) → Plans s (recordBy strict (drop at s)) o → length s ≤ most → at < length s → (p : Plan) → o ≡ plan.Ready p →
     (t₀ t₁ r₀ r₁ c₀ c₁ : List ℕ) (rows qualifiers : ℕ) (n₀ n₁ l₀ l₁ : List ℕ) (x : Prepared) →
-    Planned s p t₀ t₁ r₀ r₁ c₀ c₁ rows qualifiers n₀ n₁ l₀ l₁ x → Prepares s at t₀ t₁ r₀ r₁ c₀ c₁ rows qualifiers n₀ n₁ l₀ l₁ x
-prepared s at o h m w p e t₀ t₁ r₀ r₁ c₀ c₁ rows qualifiers n₀ n₁ l₀ l₁ x k =
+    Planned s p t₀ t₁ r₀ r₁ c₀ c₁ rows qualifiers n₀ n₁ l₀ l₁ x → Prepares strict s at t₀ t₁ r₀ r₁ c₀ c₁ rows qualifiers n₀ n₁ l₀ l₁ x
+prepared strict s at o h m w p e t₀ t₁ r₀ r₁ c₀ c₁ rows qualifiers n₀ n₁ l₀ l₁ x k =
     record {
       answers = λ t₂ f₀ f₁ q₀ q₁ n₂ z u v d.
-          answered s at o h m w p e (roomsIn t₀ r₀ c₀ f₀ q₀ n₀ l₀) (roomsIn t₂ r₁ c₁ f₁ q₁ n₂ l₁) (x .answer) (k .answers t₂ f₀ f₁ q₀ q₁ n₂ z u v d);
+          answered strict s at o h m w p e (roomsIn t₀ r₀ c₀ f₀ q₀ n₀ l₀) (roomsIn t₂ r₁ c₁ f₁ q₁ n₂ l₁) (x .answer) (k .answers t₂ f₀ f₁ q₀ q₁ n₂ z u v d);
       fits = k .fits;
     }
 

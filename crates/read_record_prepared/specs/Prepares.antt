@@ -1,5 +1,6 @@
 -- What is prepared: with the features put that it names, it is the reader's answer. It rules out features that are put for a refused record.
 use Prim.Native.Nat.{ℕ, _*_}
+use mathlib.Core.Bool.{Bool}
 use mathlib.Core.Path.{_≡_}
 use mathlib.Core.List.{List}
 use lib.ListN.{length, drop}
@@ -41,10 +42,10 @@ pub record Planned (s : List ℕ) (p : Plan) (t₀ t₁ r₀ r₁ c₀ c₁ : Li
       Answering s p (roomsIn t₀ r₀ c₀ f₀ q₀ n₀ l₀) (roomsIn t₂ r₁ c₁ f₁ q₁ n₂ l₁) (r .answer)
   pub fits : Fits s (r .at) (r .count) (r .place) (featuresIn (drop (r .at) s))
 
--- the same of the record at a place
-pub record Prepares (s : List ℕ) (at : ℕ) (t₀ t₁ r₀ r₁ c₀ c₁ : List ℕ) (rows qualifiers : ℕ) (n₀ n₁ l₀ l₁ : List ℕ) (r : Prepared) : Type 0 where
+-- the same of the record at a place, with the strict switch or without
+pub record Prepares (strict : Bool) (s : List ℕ) (at : ℕ) (t₀ t₁ r₀ r₁ c₀ c₁ : List ℕ) (rows qualifiers : ℕ) (n₀ n₁ l₀ l₁ : List ℕ) (r : Prepared) : Type 0 where
   pub answers :
       (t₂ f₀ f₁ q₀ q₁ n₂ : List ℕ) (z : ℕ) → length f₀ ≡ 8 * rows → length q₀ ≡ qualifiers →
       FeaturesPut (r .place) (featuresIn (drop (r .at) s)) t₁ t₂ f₀ f₁ q₀ q₁ n₁ n₂ z →
-      Answered s at (roomsIn t₀ r₀ c₀ f₀ q₀ n₀ l₀) (roomsIn t₂ r₁ c₁ f₁ q₁ n₂ l₁) (r .answer)
+      Answered strict s at (roomsIn t₀ r₀ c₀ f₀ q₀ n₀ l₀) (roomsIn t₂ r₁ c₁ f₁ q₁ n₂ l₁) (r .answer)
   pub fits : Fits s (r .at) (r .count) (r .place) (featuresIn (drop (r .at) s))

@@ -90,10 +90,11 @@ fn planned(
     all_rows(plan, place)
 }
 
-// The record at a place of a slice.
+// The record at a place of a slice, with the strict switch or without.
 pub fn prepare(
     s: &[u8],
     at: usize,
+    strict: bool,
     texts: &mut [u8],
     references: &mut [usize],
     comments: &mut [usize],
@@ -103,7 +104,7 @@ pub fn prepare(
     letters: &mut [u8],
 ) -> Prepared
     requires { ⌜ 8 * rows < 2 ^ 64 ⌝ }
-    ensures { λ r. ⌜ Prepares (now (s .entry)) at (now (texts .entry)) (now (texts .exit)) (now (references .entry)) (now (references .exit)) (now (comments .entry)) (now (comments .exit)) rows qualifiers (now (locations .entry)) (now (locations .exit)) (now (letters .entry)) (now (letters .exit)) r ⌝ }
+    ensures { λ r. ⌜ Prepares strict (now (s .entry)) at (now (texts .entry)) (now (texts .exit)) (now (references .entry)) (now (references .exit)) (now (comments .entry)) (now (comments .exit)) rows qualifiers (now (locations .entry)) (now (locations .exit)) (now (letters .entry)) (now (letters .exit)) r ⌝ }
 {
     if MOST < s.len() {
         return no_rows(s, ReadAnswer::Refused(Unread::BadPlace));
@@ -114,7 +115,7 @@ pub fn prepare(
     if s.len() <= at {
         return no_rows(s, ReadAnswer::Refused(Unread::AtEnd));
     }
-    match read_record_plan::plan_at(s, at) {
+    match read_record_plan::plan_at(s, at, strict) {
         PlanAt::Refused(why) => no_rows(s, ReadAnswer::Refused(why)),
         PlanAt::Ready(plan) => planned(
             s,

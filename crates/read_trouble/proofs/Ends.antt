@@ -1,28 +1,27 @@
 -- The laws of the finders: what stands where each says, by the answers of the scanners.
-use Prim.Native.Nat.{ℕ, _+_, _≤_}
+use Prim.Native.Nat.{ℕ, _+_, _≤_, _<_}
 use native.Mathlib.Nat.{le-refl}
 use native.Mathlib.Omega.{arith}
-use mathlib.Core.Bool.{Bool, true, false, _&&_}
+use mathlib.Core.Bool.{Bool, true, false}
 use mathlib.Core.Path.{_≡_, refl, sym, ap, subst, _∙_}
 use mathlib.Core.List.{List, []}
 use lib.ListN.{length, drop, length-drop, drop-of-length-le}
-use Rattle.spec_format.specs.Bytes.{May, absent, is, pick}
+use Rattle.spec_format.specs.Bytes.{May, is}
 use Rattle.spec_format.specs.Readers.{Ans, Got, No, Cut, optional}
-use Rattle.spec_format.specs.Table.{Feature}
 use Rattle.spec_format.specs.Features.{featuresHeader}
 use Rattle.spec_format.specs.Deep.{deepFeature}
-use Rattle.spec_format.specs.Origin.{AtSlash, AtEnd, Bad, letters, originTag}
-use Rattle.spec_format.specs.Record.{features, baseCount, leftBy, isThere, Middle, middle, deepIn}
+use Rattle.spec_format.specs.Origin.{Letters, AtSlash, AtEnd, Bad, originTag}
+use Rattle.spec_format.specs.Record.{features, baseCount, leftBy, middle, deepIn}
 use Rattle.spec_lines.specs.Stands.{Stands}
-use Rattle.spec_lines.specs.Troubles.{lettersEnd, afterTag, originEnds, sectionsEnd, deepWith, deepPlace}
+use Rattle.spec_lines.specs.Troubles.{lettersEnd, deepPlace}
 use Rattle.spec_loops.specs.Shrinks.{leaves-length, middle-leaves}
-use Rattle.scan_bytes.specs.Views.{stepOf, Past, Emptied}
+use Rattle.scan_bytes.specs.Views.{Past, Emptied}
 use Rattle.scan_bytes.specs.Sequence.{empty-places}
 use Rattle.scan_bytes.specs.declared.Step.{Step}
 use Rattle.scan_bytes.specs.declared.Step.the-variants as step
 use Rattle.read_letters.specs.declared.Counted.{Counted}
 use Rattle.read_letters.specs.declared.Counted.the-variants as counted
-use Rattle.read_letters.specs.Runs.{slash, bad, tally, PastCounted, Counts, sifted, count-slash, count-end, count-bad}
+use Rattle.read_letters.specs.Runs.{lettersBy, slash, end, bad, tally, PastCounted, Counts}
 use Rattle.read_origin.specs.Ends.{passed, Passed}
 use Rattle.read_field_optional.specs.declared.MayEntry.{MayEntry}
 use Rattle.read_field_optional.specs.declared.MayEntryAt.{MayEntryAt}
@@ -34,7 +33,7 @@ use Rattle.read_feature_table.specs.Reads.{featuresIn, FeaturesRead}
 use Rattle.read_record_middle.specs.declared.MiddleAt.{MiddleAt}
 use Rattle.read_record_middle.specs.declared.MiddleAt.the-variants as mid
 use Rattle.read_record_middle.specs.Middles.{middleIn, MiddleKnown, MiddleAs, Middles}
-use Rattle.read_trouble.specs.Found.{Shallow, deepAt}
+use Rattle.read_trouble.specs.Found.{afterTagBy, originEndsBy, sectionsEndBy, Shallow, deepAt}
 use Rattle.spec_format.specs.Impossible.{impossible}
 
 -- what stands from a place on stands from an earlier one on
@@ -43,63 +42,83 @@ stands-from s at n t r l h = record { is = h .is; from = omega (arith, h .from);
 
 -- ---- the letters
 
-module _ (s : List ℕ) (at : ℕ) (r : Counted) (h : Counts s at (tally (letters (drop at s))) r) where
+end-slash : (n : ℕ) (r : List ℕ) (x : Letters) → slash n r ≡ tally x → r ≡ lettersEnd x
+end-slash n r (AtSlash l z) e = cc
+end-slash n r (AtEnd l) e = impossible cc
+end-slash n r (Bad z) e = impossible cc
+
+end-all : (n : ℕ) (x : Letters) → end n ≡ tally x → [] ≡ lettersEnd x
+end-all n (AtSlash l z) e = impossible cc
+end-all n (AtEnd l) e = refl
+end-all n (Bad z) e = impossible cc
+
+end-bad : (r : List ℕ) (x : Letters) → bad r ≡ tally x → r ≡ lettersEnd x
+end-bad r (AtSlash l z) e = impossible cc
+end-bad r (AtEnd l) e = impossible cc
+end-bad r (Bad z) e = cc
+
+module _ (s : List ℕ) (at : ℕ) (strict : Bool) (r : Counted) (h : Counts s at (tally (lettersBy strict (drop at s))) r) where
+  abbrev Lettered : ℕ → Type 0
+  Lettered n = Stands s at (lettersEnd (lettersBy strict (drop at s))) n
+
   places : (x : Counted) → r ≡ x → PastCounted s at x
   places x e = subst (λ (x : Counted). PastCounted s at x) e (h .place)
 
-  pub ends-slash : (n next : ℕ) → r ≡ counted.AtSlash n next → Stands s at (lettersEnd (letters (drop at s))) next
+  pub ends-slash : (n next : ℕ) → r ≡ counted.AtSlash n next → Lettered next
   ends-slash n next e =
-      let k : letters (drop at s) ≡ AtSlash (sifted (drop at s)) (drop next s) = count-slash (drop at s) n (drop next s) (rw e at (h .is)) .0 in
       let p : (n + at ≤ next) × (next ≤ length s) = places (counted.AtSlash n next) e in
-      record { is = rw k refl; from = omega (arith, p .0); within = p .1 }
+      record { is = end-slash n (drop next s) (lettersBy strict (drop at s)) (rw e at (h .is)); from = omega (arith, p .0); within = p .1 }
 
-  pub ends-all : (n : ℕ) → r ≡ counted.AtEnd n → at ≤ length s → Stands s at (lettersEnd (letters (drop at s))) (length s)
+  pub ends-all : (n : ℕ) → r ≡ counted.AtEnd n → at ≤ length s → Lettered (length s)
   ends-all n e l =
-      let k : letters (drop at s) ≡ AtEnd (sifted (drop at s)) = count-end (drop at s) n (rw e at (h .is)) .0 in
-      record { is = rw k (drop-of-length-le s (le-refl (length s))); from = l; within = le-refl (length s) }
+      record {
+        is = drop-of-length-le s (le-refl (length s)) ∙ end-all n (lettersBy strict (drop at s)) (rw e at (h .is));
+        from = l;
+        within = le-refl (length s);
+      }
 
-  pub ends-bad : (next : ℕ) → r ≡ counted.Bad next → Stands s at (lettersEnd (letters (drop at s))) next
+  pub ends-bad : (next : ℕ) → r ≡ counted.Bad next → Lettered next
   ends-bad next e =
-      let k : letters (drop at s) ≡ Bad (drop next s) = count-bad (drop at s) (drop next s) (rw e at (h .is)) in
-      let p : (at ≤ next) × (next ≤ length s) = places (counted.Bad next) e in
-      record { is = rw k refl; from = p .0; within = p .1 }
+      let p : (at ≤ next) × (next < length s) = places (counted.Bad next) e in
+      record { is = end-bad (drop next s) (lettersBy strict (drop at s)) (rw e at (h .is)); from = p .0; within = omega (arith, p .1) }
 
 pub ruleset lettering = (ends-slash, ends-all, ends-bad)
 
 -- ---- ORIGIN
 
-tag-got : (s : List ℕ) (o : Ans (List ℕ)) (r : List ℕ) → Got tt r ≡ passed o → afterTag s o ≡ lettersEnd (letters r)
-tag-got s (Got t z) r e = let f : z ≡ r = cc in rw f
-tag-got s No r e = impossible cc
-tag-got s Cut r e = impossible cc
+module _ (strict : Bool) (s : List ℕ) where
+  tag-got : (o : Ans (List ℕ)) (r : List ℕ) → Got tt r ≡ passed o → afterTagBy strict s o ≡ lettersEnd (lettersBy strict r)
+  tag-got (Got t z) r e = let f : z ≡ r = cc in rw f
+  tag-got No r e = impossible cc
+  tag-got Cut r e = impossible cc
 
-tag-no : (s : List ℕ) (o : Ans (List ℕ)) → No ≡ passed o → afterTag s o ≡ s
-tag-no s (Got t z) e = impossible cc
-tag-no s No e = refl
-tag-no s Cut e = refl
+  tag-no : (o : Ans (List ℕ)) → No ≡ passed o → afterTagBy strict s o ≡ s
+  tag-no (Got t z) e = impossible cc
+  tag-no No e = refl
+  tag-no Cut e = refl
 
-tag-cut : (s : List ℕ) (o : Ans (List ℕ)) → Cut ≡ passed o → afterTag s o ≡ s
-tag-cut s (Got t z) e = impossible cc
-tag-cut s No e = refl
-tag-cut s Cut e = refl
+  tag-cut : (o : Ans (List ℕ)) → Cut ≡ passed o → afterTagBy strict s o ≡ s
+  tag-cut (Got t z) e = impossible cc
+  tag-cut No e = refl
+  tag-cut Cut e = refl
 
-module _ (s : List ℕ) (at : ℕ) (r : Step) (h : Passed s at (originTag (drop at s)) r) where
+module _ (s : List ℕ) (at : ℕ) (strict : Bool) (r : Step) (h : Passed s at (originTag (drop at s)) r) where
   origin-place : (n : ℕ) → r ≡ step.Got n → (at ≤ n) × (n ≤ length s)
   origin-place n e = subst (λ (x : Step). Past s at x) e (h .place)
 
   pub origin-within : (n : ℕ) → r ≡ step.Got n → n ≤ length s
   origin-within n e = origin-place n e .1
 
-  pub origin-got : (n p : ℕ) → r ≡ step.Got n → Stands s n (lettersEnd (letters (drop n s))) p → Stands s at (originEnds (drop at s)) p
+  pub origin-got : (n p : ℕ) → r ≡ step.Got n → Stands s n (lettersEnd (lettersBy strict (drop n s))) p → Stands s at (originEndsBy strict (drop at s)) p
   origin-got n p e w =
-      let k : originEnds (drop at s) ≡ lettersEnd (letters (drop n s)) = tag-got (drop at s) (originTag (drop at s)) (drop n s) (rw e at (h .is)) in
-      rw k (stands-from s at n (lettersEnd (letters (drop n s))) p (origin-place n e .0) w)
+      let k : originEndsBy strict (drop at s) ≡ lettersEnd (lettersBy strict (drop n s)) = tag-got strict (drop at s) (originTag (drop at s)) (drop n s) (rw e at (h .is)) in
+      rw k (stands-from s at n (lettersEnd (lettersBy strict (drop n s))) p (origin-place n e .0) w)
 
-  pub origin-no : r ≡ step.No → at ≤ length s → Stands s at (originEnds (drop at s)) at
-  origin-no e l = record { is = sym (tag-no (drop at s) (originTag (drop at s)) (rw e at (h .is))); from = le-refl at; within = l }
+  pub origin-no : r ≡ step.No → at ≤ length s → Stands s at (originEndsBy strict (drop at s)) at
+  origin-no e l = record { is = sym (tag-no strict (drop at s) (originTag (drop at s)) (rw e at (h .is))); from = le-refl at; within = l }
 
-  pub origin-cut : r ≡ step.Cut → at ≤ length s → Stands s at (originEnds (drop at s)) at
-  origin-cut e l = record { is = sym (tag-cut (drop at s) (originTag (drop at s)) (rw e at (h .is))); from = le-refl at; within = l }
+  pub origin-cut : r ≡ step.Cut → at ≤ length s → Stands s at (originEndsBy strict (drop at s)) at
+  origin-cut e l = record { is = sym (tag-cut strict (drop at s) (originTag (drop at s)) (rw e at (h .is))); from = le-refl at; within = l }
 
 pub ruleset origins = (origin-within, origin-got, origin-no, origin-cut)
 
@@ -130,9 +149,9 @@ module _ (s : List ℕ) (at n : ℕ) (d : Bool) (h : Shallow d s at (leftBy (dro
   pub sections-within : n ≤ length s
   sections-within = h .within
 
-  pub sections-are : (r : ℕ) → Stands s n (originEnds (drop n s)) r → Shallow d s at (sectionsEnd (drop at s)) r
-  unfolding sectionsEnd
-  sections-are r w = record { is = λ e. w .is ∙ ap originEnds (h .is e); from = omega (arith, h .from, w .from); within = w .within }
+  pub sections-are : (strict : Bool) (r : ℕ) → Stands s n (originEndsBy strict (drop n s)) r → Shallow d s at (sectionsEndBy strict (drop at s)) r
+  unfolding sectionsEndBy
+  sections-are strict r w = record { is = λ e. w .is ∙ ap (originEndsBy strict) (h .is e); from = omega (arith, h .from, w .from); within = w .within }
 
 pub ruleset sectioning = (sections-within, sections-are)
 

@@ -1,3 +1,4 @@
 pub mod Searched
+pub mod Stray
 pub mod Ends
 pub mod Told

@@ -1,17 +1,15 @@
 -- Where the search for LOCUS succeeds, it stops there; so where a record is not read for what stands after its sections, no location before that is too deep.
 use Prim.Native.Nat.{ℕ, zero, suc}
 use mathlib.Core.Bool.{Bool, true, false}
-use mathlib.Core.Path.{_≡_, refl, sym, ap, _∙_}
+use mathlib.Core.Path.{_≡_, refl, sym, _∙_}
 use mathlib.Core.List.{List}
 use lib.ListN.{length}
-use lib.Dec.{leb}
 use Rattle.spec_format.specs.Bytes.{bytes, pick}
-use Rattle.spec_format.specs.Utf8.{utf8}
 use Rattle.spec_format.specs.Readers.{Ans, Got, No, Cut, mapped, utf8Of, line, tag, Turn, more, stop, endUpTo, end, whileFits}
 use Rattle.spec_format.specs.Table.{Locus}
 use Rattle.spec_format.specs.Locus.{skipping, preambleTurn, preamble, locus}
-use Rattle.spec_format.specs.Header.{Field, headerField, every, textIn}
-use Rattle.spec_format.specs.Record.{Outcome, Read, Not, deepIn, middle, afterHeader, header, afterLocus, afterPreamble, readRecord}
+use Rattle.spec_format.specs.Header.{Field, headerField}
+use Rattle.spec_format.specs.Record.{Outcome, Read, Not, deepIn, middle, afterHeader, once, header, afterLocus, afterPreamble, readRecord}
 use Rattle.spec_format.specs.Impossible.{impossible}
 use Rattle.spec_format.specs.declared.Unread.{Unread}
 use Rattle.spec_format.specs.declared.Unread.the-variants as unread
@@ -49,7 +47,7 @@ preamble-here s r h = go (tag (bytes "LOCUS") s) h
     go No e = lined (utf8Of (line s)) e
     go Cut e = lined (utf8Of (line s)) e
 
-found : (s : List ℕ) (u : Unit) (r : List ℕ) → preamble s ≡ Got u r → searched s ≡ r
+pub found : (s : List ℕ) (u : Unit) (r : List ℕ) → preamble s ≡ Got u r → searched s ≡ r
 unfolding preamble
 found s u r e = end-stopped preambleTurn preamble-here s u r e
 
@@ -65,6 +63,7 @@ late (Not unread.NoSlashes) = true
 late (Not unread.OtherLength) = true
 late (Not unread.BadLetter) = true
 late (Not unread.TooDeep) = false
+late (Not unread.StrayLetter) = false
 
 early : (b : Bool) (o : Outcome) → late (pick b (pick true (Not unread.TooDeep) o) (Not unread.TwoDefinitions)) ≡ false
 early true o = refl
@@ -79,7 +78,7 @@ deep-first s h = begin (preamble s) refl
     fields l q b (Got fs z) e =
         let k : headerEnds s ≡ z = rw (headerEnds, b, e) in
         let d : deepIn z ≡ true = rw k at h in
-        rw d (early (leb (length (every (textIn (bytes "DEFINITION")) fs)) 1) (afterHeader l fs (middle z)))
+        rw d (early (once fs) (afterHeader l fs (middle z)))
     fields l q b No e = refl
     fields l q b Cut e = refl
 

@@ -10,22 +10,22 @@ use spec_lines::Spot;
 ghost use mathlib.Core.Path.{_≡_};
 ghost use Prim.Native.Nat.{_≤_};
 ghost use lib.ListN.{length, drop};
-ghost use Rattle.spec_format.specs.Origin.{letters};
 ghost use Rattle.spec_format.specs.Record.{most, leftBy, baseCount, middle, deepIn};
 ghost use Rattle.spec_format.specs.declared.ReadAnswer.the-variants as answers;
+ghost use Rattle.read_letters.specs.Runs.{lettersBy};
 ghost use Rattle.spec_lines.specs.Lines.{nowhere, spotOf};
 ghost use Rattle.spec_lines.specs.Stands.{Stands};
-ghost use Rattle.spec_lines.specs.Troubles.{lettersEnd, originEnds, sectionsEnd, headerBegins, headerEnds, secondDefinition, deepPlace, searched};
-ghost use Rattle.read_trouble.specs.Found.{Shallow, deepAt, lined, Found, SpotTold};
+ghost use Rattle.spec_lines.specs.Troubles.{lettersEnd, headerBegins, headerEnds, secondDefinition, deepPlace, searched};
+ghost use Rattle.read_trouble.specs.Found.{originEndsBy, sectionsEndBy, Shallow, deepAt, lined, Found, SpotTold};
 
-// ---- where the sections end: 7, 8 and 9
+// ---- where the sections end: 7, 8, 9 and 16
 
-// The byte that ends the letters, or the slice's end.
-fn letters_end(s: &[u8], at: usize) -> usize
+// The byte that ends the letters, with the strict switch the letter without a code, or the slice's end.
+fn letters_end(s: &[u8], at: usize, strict: bool) -> usize
     requires { ⌜ at ≤ length (now s) ⌝ }
-    ensures { λ r. ⌜ Stands (now (s .entry)) at (lettersEnd (letters (drop at (now (s .entry))))) r ⌝ }
+    ensures { λ r. ⌜ Stands (now (s .entry)) at (lettersEnd (lettersBy strict (drop at (now (s .entry))))) r ⌝ }
 {
-    match read_letters::count_letters(s, at) {
+    match read_letters::count_letters(s, at, strict) {
         Counted::AtSlash { count: _, next } => next,
         Counted::AtEnd { count: _ } => s.len(),
         Counted::Bad { next } => next,
@@ -33,12 +33,12 @@ fn letters_end(s: &[u8], at: usize) -> usize
 }
 
 // Where ORIGIN stands, what ends its letters.
-fn origin_ends(s: &[u8], at: usize) -> usize
+fn origin_ends(s: &[u8], at: usize, strict: bool) -> usize
     requires { ⌜ at ≤ length (now s) ⌝ }
-    ensures { λ r. ⌜ Stands (now (s .entry)) at (originEnds (drop at (now (s .entry)))) r ⌝ }
+    ensures { λ r. ⌜ Stands (now (s .entry)) at (originEndsBy strict (drop at (now (s .entry)))) r ⌝ }
 {
     match read_origin::origin_at(s, at) {
-        Step::Got(next) => letters_end(s, next),
+        Step::Got(next) => letters_end(s, next, strict),
         Step::No => at,
         Step::Cut => at,
     }
@@ -63,12 +63,12 @@ fn middle_ends(s: &[u8], at: usize) -> usize
 }
 
 // Where the sections end that follow the header; `at` is where that ends.
-fn sections_end(s: &[u8], at: usize) -> usize
+fn sections_end(s: &[u8], at: usize, strict: bool) -> usize
     requires { ⌜ (at ≤ length (now s)) × (length (now s) ≤ most) ⌝ }
-    ensures { λ r. ⌜ Shallow (deepIn (drop at (now (s .entry)))) (now (s .entry)) at (sectionsEnd (drop at (now (s .entry)))) r ⌝ }
+    ensures { λ r. ⌜ Shallow (deepIn (drop at (now (s .entry)))) (now (s .entry)) at (sectionsEndBy strict (drop at (now (s .entry)))) r ⌝ }
 {
     let next = middle_ends(s, at);
-    origin_ends(s, next)
+    origin_ends(s, next, strict)
 }
 
 // ---- the location that is too deep: 14
@@ -121,12 +121,12 @@ fn second_definition(s: &[u8], at: usize) -> usize
     read_trouble_header::second_definition(s, header)
 }
 
-fn sections(s: &[u8], at: usize) -> usize
+fn sections(s: &[u8], at: usize, strict: bool) -> usize
     requires { ⌜ (at ≤ length (now s)) × (length (now s) ≤ most) ⌝ }
-    ensures { λ r. ⌜ Shallow (deepIn (headerEnds (drop at (now (s .entry))))) (now (s .entry)) at (sectionsEnd (headerEnds (drop at (now (s .entry))))) r ⌝ }
+    ensures { λ r. ⌜ Shallow (deepIn (headerEnds (drop at (now (s .entry))))) (now (s .entry)) at (sectionsEndBy strict (headerEnds (drop at (now (s .entry))))) r ⌝ }
 {
     let header = read_trouble_header::header_ends(s, at);
-    sections_end(s, header)
+    sections_end(s, header, strict)
 }
 
 fn deep_location(s: &[u8], at: usize) -> usize
@@ -151,6 +151,7 @@ fn has_line(why: Unread) -> bool
         Unread::OtherLength => true,
         Unread::BadLetter => true,
         Unread::TooDeep => true,
+        Unread::StrayLetter => true,
     }
 }
 
@@ -165,10 +166,11 @@ fn trouble_at(s: &[u8], at: usize, why: Unread) -> usize
         Unread::BadPlace => s.len(),
         Unread::NoLocus => read_preamble::search_at(s, at),
         Unread::TwoDefinitions => second_definition(s, at),
-        Unread::NoSlashes => sections(s, at),
-        Unread::OtherLength => sections(s, at),
-        Unread::BadLetter => sections(s, at),
+        Unread::NoSlashes => sections(s, at, false),
+        Unread::OtherLength => sections(s, at, false),
+        Unread::BadLetter => sections(s, at, false),
         Unread::TooDeep => deep_location(s, at),
+        Unread::StrayLetter => sections(s, at, true),
     }
 }
 

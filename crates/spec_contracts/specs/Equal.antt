@@ -1,6 +1,7 @@
 -- Rooms are equal where each of the seven is; so the contract's seven equations are one.
 use Prim.Native.Nat.{ℕ}
 use mathlib.Core.Path.{_≡_, ap, _∙_}
+use mathlib.Core.Bool.{Bool}
 use mathlib.Core.List.{List}
 use Rattle.spec_format.specs.Rooms.{Rooms, roomsAfter, roomsIn}
 use Rattle.spec_format.specs.declared.ReadAnswer.{ReadAnswer}
@@ -17,6 +18,6 @@ rooms-equal a b t r c f q n l =
     ∙ ap (λ (x : List ℕ). roomsIn (b .texts) (b .references) (b .comments) (b .features) (b .qualifiers) x (a .letters)) n
     ∙ ap (λ (x : List ℕ). roomsIn (b .texts) (b .references) (b .comments) (b .features) (b .qualifiers) (b .locations) x) l
 
-pub rooms-after : (s : List ℕ) (at : ℕ) (old new : Rooms) (r : ReadAnswer) → Answered s at old new r → new ≡ roomsAfter s at old
-rooms-after s at old new r a =
-    rooms-equal new (roomsAfter s at old) (a .texts) (a .references) (a .comments) (a .features) (a .qualifiers) (a .locations) (a .letters)
+pub rooms-after : (strict : Bool) (s : List ℕ) (at : ℕ) (old new : Rooms) (r : ReadAnswer) → Answered strict s at old new r → new ≡ roomsAfter strict s at old
+rooms-after strict s at old new r a =
+    rooms-equal new (roomsAfter strict s at old) (a .texts) (a .references) (a .comments) (a .features) (a .qualifiers) (a .locations) (a .letters)

@@ -1,6 +1,6 @@
 -- What the function behind the programs promises: a record read into rooms, and written again from them. It rules out one that writes though nothing was read, and one that tells no line.
 use Prim.Native.Nat.{ℕ}
-use mathlib.Core.Bool.{false}
+use mathlib.Core.Bool.{Bool, false}
 use mathlib.Core.List.{List}
 use mathlib.Core.Path.{_≡_}
 use lib.ListN.{replicate}
@@ -65,13 +65,15 @@ howAfter (read.Refused why) how = notAtAll how
 howAfter (read.Room sizes) how = notAtAll how
 
 -- THE ANSWERS AND THE ROOMS AFTERWARDS, of a record at a place of s, read into the rooms `old` and written to the slice `before`
-pub record Rounds (s : List ℕ) (at : ℕ) (old : Rooms) (how : How) (texts references comments qualifiers locations letters before after : List ℕ) (r : Reported) (w : WriteAnswer) : Type 0 where
-  pub is : r .answer ≡ readAnswer s at old
+pub record Rounds
+    (strict : Bool) (s : List ℕ) (at : ℕ) (old : Rooms) (how : How) (texts references comments qualifiers locations letters before after : List ℕ)
+    (r : Reported) (w : WriteAnswer) : Type 0 where
+  pub is : r .answer ≡ readAnswer strict s at old
   pub told : r .spot ≡ readSpot s at (r .answer)
-  pub texts-are : texts ≡ roomsAfter s at old .texts
-  pub references-are : references ≡ roomsAfter s at old .references
-  pub comments-are : comments ≡ roomsAfter s at old .comments
-  pub qualifiers-are : qualifiers ≡ roomsAfter s at old .qualifiers
-  pub locations-are : locations ≡ roomsAfter s at old .locations
-  pub letters-are : letters ≡ roomsAfter s at old .letters
-  pub wrote : WriteAnswered (howAfter (r .answer) how) (roomsAfter s at old) (headOf (r .answer)) before after w
+  pub texts-are : texts ≡ roomsAfter strict s at old .texts
+  pub references-are : references ≡ roomsAfter strict s at old .references
+  pub comments-are : comments ≡ roomsAfter strict s at old .comments
+  pub qualifiers-are : qualifiers ≡ roomsAfter strict s at old .qualifiers
+  pub locations-are : locations ≡ roomsAfter strict s at old .locations
+  pub letters-are : letters ≡ roomsAfter strict s at old .letters
+  pub wrote : WriteAnswered (howAfter (r .answer) how) (roomsAfter strict s at old) (headOf (r .answer)) before after w

@@ -53,9 +53,9 @@ reading at r =
     }
 
 -- WHAT `vilggodan_read` RETURNS: the reader's answer as numbers; the rooms are the reader's
-pub record ReadTold (s : List ℕ) (at : ℕ) (old new : Rooms) (told : Reading) : Type 0 where
+pub record ReadTold (strict : Bool) (s : List ℕ) (at : ℕ) (old new : Rooms) (told : Reading) : Type 0 where
   pub answer : Reported
-  pub answered : ReadReported s at old new answer
+  pub answered : ReadReported strict s at old new answer
   pub is : told ≡ reading at answer
 
 -- ---- writing

@@ -11,8 +11,9 @@ use Rattle.spec_format.specs.Answers.{room, noRule, keepingRules, writeAnswer, 
 use Rattle.spec_format.specs.Bytes.{pick}
 use Rattle.spec_format.specs.Impossible.{impossible}
 use Rattle.spec_format.specs.Numbers.{unreadNumber, readNumber, unwrittenNumber, writeNumber, writeValue}
-use Rattle.spec_format.specs.Record.{Outcome, Read, Not, readAt}
+use Rattle.spec_format.specs.Record.{Outcome, Read, Not}
 use Rattle.spec_format.specs.Rooms.{Rooms, tableOf, roomsFine, layout, sizes, fits, overRooms, answerOf, readAnswer, roomsOf, roomsAfter}
+use Rattle.spec_format.specs.Strict.{readBy}
 use Rattle.spec_format.specs.Table.{Table}
 use Rattle.spec_format.specs.WellFormed.{widthFine, wellFormed}
 use Rattle.spec_format.specs.Write.{written}
@@ -51,6 +52,7 @@ unread-not-zero unread.NoSlashes e = impossible cc
 unread-not-zero unread.OtherLength e = impossible cc
 unread-not-zero unread.BadLetter e = impossible cc
 unread-not-zero unread.TooDeep e = impossible cc
+unread-not-zero unread.StrayLetter e = impossible cc
 
 pub unread-not-six : (why : Unread) → unreadNumber why ≡ 6 → ⊥
 unread-not-six unread.AtEnd e = impossible cc
@@ -62,57 +64,58 @@ unread-not-six unread.NoSlashes e = impossible cc
 unread-not-six unread.OtherLength e = impossible cc
 unread-not-six unread.BadLetter e = impossible cc
 unread-not-six unread.TooDeep e = impossible cc
+unread-not-six unread.StrayLetter e = impossible cc
 
--- ---- what the definitions answer, lent rooms q, and leave
+-- ---- what the definitions answer, strictly or not, lent rooms q, and leave
 
-module _ (s : List ℕ) (at : ℕ) (q : Rooms) where
-  pub answer-read : (t : Table) (rest : List ℕ) → readAt s at ≡ Read t rest → readAnswer s at q ≡ answerOf (length s) q (Read t rest)
+module _ (strict : Bool) (s : List ℕ) (at : ℕ) (q : Rooms) where
+  pub answer-read : (t : Table) (rest : List ℕ) → readBy strict s at ≡ Read t rest → readAnswer strict s at q ≡ answerOf (length s) q (Read t rest)
   unfolding readAnswer
   answer-read t rest e = rw e
 
-  pub answer-short : (t : Table) (rest : List ℕ) → readAt s at ≡ Read t rest → fits (sizes t) q ≡ false → readAnswer s at q ≡ read.Room (sizes t)
+  pub answer-short : (t : Table) (rest : List ℕ) → readBy strict s at ≡ Read t rest → fits (sizes t) q ≡ false → readAnswer strict s at q ≡ read.Room (sizes t)
   unfolding readAnswer answerOf
   answer-short t rest e f = rw (e, f)
 
-  pub answer-number : (t : Table) (rest : List ℕ) (b : Bool) → readAt s at ≡ Read t rest → fits (sizes t) q ≡ b → readNumber (readAnswer s at q) ≡ pick b 0 6
+  pub answer-number : (t : Table) (rest : List ℕ) (b : Bool) → readBy strict s at ≡ Read t rest → fits (sizes t) q ≡ b → readNumber (readAnswer strict s at q) ≡ pick b 0 6
   unfolding readAnswer answerOf
   answer-number t rest true e f = rw (e, f)
   answer-number t rest false e f = rw (e, f)
 
-  pub answer-not : (why : Unread) → readAt s at ≡ Not why → readNumber (readAnswer s at q) ≡ unreadNumber why
+  pub answer-not : (why : Unread) → readBy strict s at ≡ Not why → readNumber (readAnswer strict s at q) ≡ unreadNumber why
   unfolding readAnswer answerOf
   answer-not why e = rw e
 
-  pub refused-by : (why : Unread) → readAnswer s at q ≡ read.Refused why → readAt s at ≡ Not why
+  pub refused-by : (why : Unread) → readAnswer strict s at q ≡ read.Refused why → readBy strict s at ≡ Not why
   unfolding readAnswer answerOf
-  refused-by why r = go (readAt s at) refl
+  refused-by why r = go (readBy strict s at) refl
     where
-      fitted : (t : Table) (rest : List ℕ) → readAt s at ≡ Read t rest → (b : Bool) → fits (sizes t) q ≡ b → readAt s at ≡ Not why
+      fitted : (t : Table) (rest : List ℕ) → readBy strict s at ≡ Read t rest → (b : Bool) → fits (sizes t) q ≡ b → readBy strict s at ≡ Not why
       fitted t rest e true f = impossible cc
       fitted t rest e false f = impossible cc
 
-      go : (o : Outcome) → readAt s at ≡ o → readAt s at ≡ Not why
+      go : (o : Outcome) → readBy strict s at ≡ o → readBy strict s at ≡ Not why
       go (Read t rest) e = fitted t rest e (fits (sizes t) q) refl
       go (Not w) e = cc
 
-  pub after-same : (readNumber (readAnswer s at q) ≡ 0 → ⊥) → roomsAfter s at q ≡ q
+  pub after-same : (readNumber (readAnswer strict s at q) ≡ 0 → ⊥) → roomsAfter strict s at q ≡ q
   unfolding readAnswer answerOf roomsAfter roomsOf
-  after-same n = go (readAt s at) refl
+  after-same n = go (readBy strict s at) refl
     where
-      fitted : (t : Table) (rest : List ℕ) → readAt s at ≡ Read t rest → (b : Bool) → fits (sizes t) q ≡ b → roomsAfter s at q ≡ q
+      fitted : (t : Table) (rest : List ℕ) → readBy strict s at ≡ Read t rest → (b : Bool) → fits (sizes t) q ≡ b → roomsAfter strict s at q ≡ q
       fitted t rest e true f = absurd (n (answer-number t rest true e f))
       fitted t rest e false f = rw (e, f)
 
-      go : (o : Outcome) → readAt s at ≡ o → roomsAfter s at q ≡ q
+      go : (o : Outcome) → readBy strict s at ≡ o → roomsAfter strict s at q ≡ q
       go (Read t rest) e = fitted t rest e (fits (sizes t) q) refl
       go (Not why) e = rw e
 
   -- where the number is 0 the rooms have the table's layout over what they held
-  pub after-laid : (t : Table) (rest : List ℕ) → readAt s at ≡ Read t rest → readNumber (readAnswer s at q) ≡ 0 → roomsAfter s at q ≡ overRooms (layout t) q
+  pub after-laid : (t : Table) (rest : List ℕ) → readBy strict s at ≡ Read t rest → readNumber (readAnswer strict s at q) ≡ 0 → roomsAfter strict s at q ≡ overRooms (layout t) q
   unfolding roomsAfter roomsOf
   after-laid t rest e n = go (fits (sizes t) q) refl
     where
-      go : (b : Bool) → fits (sizes t) q ≡ b → roomsAfter s at q ≡ overRooms (layout t) q
+      go : (b : Bool) → fits (sizes t) q ≡ b → roomsAfter strict s at q ≡ overRooms (layout t) q
       go true f = rw (e, f)
       go false f = let x = answer-number t rest false e f in impossible cc
 

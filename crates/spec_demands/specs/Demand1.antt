@@ -34,7 +34,7 @@ use Rattle.spec_demands.specs.Answers.{unread-not-six, told-equal, rows-
 use Rattle.spec_demands.specs.Six.{six-more, more-six, told-more, told-used, room-told, bytes-told}
 use Rattle.spec_demands.specs.What.{MoreRoom, Uses, MoreBytes}
 
--- ---- a number of document 01's table, to which ticket 1 adds 14
+-- ---- a number of document 01's table, to which ticket 1 adds 14 and ticket 7 16
 
 abbrev pub oneOf : List ℕ → ℕ → Bool
 oneOf [] n = false
@@ -42,7 +42,7 @@ oneOf (m ∷ ms) n = eqb n m || oneOf ms n
 
 -- those of the reader
 abbrev pub readNumbers : List ℕ
-readNumbers = 0 ∷ 1 ∷ 2 ∷ 3 ∷ 4 ∷ 5 ∷ 6 ∷ 7 ∷ 8 ∷ 9 ∷ 14 ∷ []
+readNumbers = 0 ∷ 1 ∷ 2 ∷ 3 ∷ 4 ∷ 5 ∷ 6 ∷ 7 ∷ 8 ∷ 9 ∷ 14 ∷ 16 ∷ []
 
 pub read-numbered : (a : ReadAnswer) → oneOf readNumbers (readNumber a) ≡ true
 read-numbered (read.Done head place) = refl
@@ -56,6 +56,7 @@ read-numbered (read.Refused unread.NoSlashes) = refl
 read-numbered (read.Refused unread.OtherLength) = refl
 read-numbered (read.Refused unread.BadLetter) = refl
 read-numbered (read.Refused unread.TooDeep) = refl
+read-numbered (read.Refused unread.StrayLetter) = refl
 
 pub written-numbered : (a : WriteAnswer) → oneOf (0 ∷ 6 ∷ 10 ∷ 11 ∷ 12 ∷ 13 ∷ []) (writeNumber a) ≡ true
 written-numbered (write.Done count) = refl
@@ -65,35 +66,35 @@ written-numbered (write.Refused unwritten.NoLayout) = refl
 written-numbered (write.Refused unwritten.BadWidth) = refl
 written-numbered (write.Refused unwritten.NotKept) = refl
 
--- ---- THE READER: a call on the slice s at a place, with rooms `old`, which are then `new`
+-- ---- THE READER: a call on the slice s at a place, strict or not, with rooms `old`, which are then `new`
 
-module _ (s : List ℕ) (at : ℕ) (old new : RowRooms) (a : ReadAnswer) (call : Answered s at (flatRooms old) (flatRooms new) a) where
-  after : flatRooms new ≡ roomsAfter s at (flatRooms old)
-  after = rooms-after s at (flatRooms old) (flatRooms new) a call
+module _ (strict : Bool) (s : List ℕ) (at : ℕ) (old new : RowRooms) (a : ReadAnswer) (call : Answered strict s at (flatRooms old) (flatRooms new) a) where
+  after : flatRooms new ≡ roomsAfter strict s at (flatRooms old)
+  after = rooms-after strict s at (flatRooms old) (flatRooms new) a call
 
   -- with any number but 0 each lent room is what it was
   pub read-untouched : (readNumber a ≡ 0 → ⊥) → new ≡ old
-  read-untouched n = rows-tell new old (after ∙ after-same s at (flatRooms old) (λ z. n (ap readNumber (call .is) ∙ z)))
+  read-untouched n = rows-tell new old (after ∙ after-same strict s at (flatRooms old) (λ z. n (ap readNumber (call .is) ∙ z)))
 
   -- any two answers that the contract permits are equal, and so are the rooms afterwards
-  pub read-one : (new′ : RowRooms) (a′ : ReadAnswer) → Answered s at (flatRooms old) (flatRooms new′) a′ → (a ≡ a′) × (new ≡ new′)
-  read-one new′ a′ other = (call .is ∙ sym (other .is), rows-tell new new′ (after ∙ sym (rooms-after s at (flatRooms old) (flatRooms new′) a′ other)))
+  pub read-one : (new′ : RowRooms) (a′ : ReadAnswer) → Answered strict s at (flatRooms old) (flatRooms new′) a′ → (a ≡ a′) × (new ≡ new′)
+  read-one new′ a′ other = (call .is ∙ sym (other .is), rows-tell new new′ (after ∙ sym (rooms-after strict s at (flatRooms old) (flatRooms new′) a′ other)))
 
 -- what the reader returns: any two results that its contract permits are equal, answer and line, and so are the rooms afterwards
-pub reported-one : (s : List ℕ) (at : ℕ) (old new new′ : RowRooms) (r r′ : Reported) → ReadReported s at (flatRooms old) (flatRooms new) r →
-    ReadReported s at (flatRooms old) (flatRooms new′) r′ → (r ≡ r′) × (new ≡ new′)
-reported-one s at old new new′ r r′ call other =
-    let e = read-one s at old new (r .answer) (call .answered) new′ (r′ .answer) (other .answered) in
+pub reported-one : (strict : Bool) (s : List ℕ) (at : ℕ) (old new new′ : RowRooms) (r r′ : Reported) → ReadReported strict s at (flatRooms old) (flatRooms new) r →
+    ReadReported strict s at (flatRooms old) (flatRooms new′) r′ → (r ≡ r′) × (new ≡ new′)
+reported-one strict s at old new new′ r r′ call other =
+    let e = read-one strict s at old new (r .answer) (call .answered) new′ (r′ .answer) (other .answered) in
     (told-equal s at r r′ (e .0) (call .told) (other .told), e .1)
 
-module _ (s : List ℕ) (at : ℕ) (old new : Rooms) (a : ReadAnswer) (call : Answered s at old new a) where
+module _ (strict : Bool) (s : List ℕ) (at : ℕ) (old new : Rooms) (a : ReadAnswer) (call : Answered strict s at old new a) where
   -- 6 EXACTLY WHEN THE CALL WOULD SUCCEED WITH MORE ROOM
-  pub read-six : (readNumber a ≡ 6) ↔ ((n : Sizes) × MoreRoom s at old n)
-  read-six = (six-more s at old new a call, λ m. more-six s at old new a call (m .0) (m .1))
+  pub read-six : (readNumber a ≡ 6) ↔ ((n : Sizes) × MoreRoom strict s at old n)
+  read-six = (six-more strict s at old new a call, λ m. more-six strict s at old new a call (m .0) (m .1))
 
   -- with the sizes that make it succeed, and that a success then uses
-  pub read-six-sizes : (n : Sizes) → a ≡ read.Room n → MoreRoom s at old n × ((more after : Rooms) (b : ReadAnswer) → Answered s at more after b → readNumber b ≡ 0 → Uses n more after)
-  read-six-sizes n e = (told-more s at old new a call n e, told-used s at old new a call n e)
+  pub read-six-sizes : (n : Sizes) → a ≡ read.Room n → MoreRoom strict s at old n × ((more after : Rooms) (b : ReadAnswer) → Answered strict s at more after b → readNumber b ≡ 0 → Uses n more after)
+  read-six-sizes n e = (told-more strict s at old new a call n e, told-used strict s at old new a call n e)
 
 -- ---- THE WRITER, plain or keeping as `how` says: a call with the table of r and h, and a slice `old`, which is then `new`
 
@@ -114,7 +115,7 @@ module _ (how : How) (r : Rooms) (h : Head) (old new : List ℕ) (a : WriteAnswe
 
 -- ---- THE BOUNDARY for C and Rust: the same of `vilggodan_read` and `vilggodan_write`, which return their answers by value
 
-module _ (s : List ℕ) (at : ℕ) (old new : RowRooms) (told : Reading) (call : ReadTold s at (flatRooms old) (flatRooms new) told) where
+module _ (strict : Bool) (s : List ℕ) (at : ℕ) (old new : RowRooms) (told : Reading) (call : ReadTold strict s at (flatRooms old) (flatRooms new) told) where
   number-is : told .number ≡ readNumber (call .answer .answer)
   number-is = ap (λ (x : Reading). x .number) (call .is)
 
@@ -122,24 +123,24 @@ module _ (s : List ℕ) (at : ℕ) (old new : RowRooms) (told : Reading) (call :
   read-told-numbered = rw number-is (read-numbered (call .answer .answer))
 
   pub read-told-untouched : (told .number ≡ 0 → ⊥) → new ≡ old
-  read-told-untouched n = read-untouched s at old new (call .answer .answer) (call .answered .answered) (λ z. n (number-is ∙ z))
+  read-told-untouched n = read-untouched strict s at old new (call .answer .answer) (call .answered .answered) (λ z. n (number-is ∙ z))
 
-  pub read-told-one : (new′ : RowRooms) (told′ : Reading) → ReadTold s at (flatRooms old) (flatRooms new′) told′ → (told ≡ told′) × (new ≡ new′)
+  pub read-told-one : (new′ : RowRooms) (told′ : Reading) → ReadTold strict s at (flatRooms old) (flatRooms new′) told′ → (told ≡ told′) × (new ≡ new′)
   read-told-one new′ told′ other =
-      let e = reported-one s at old new new′ (call .answer) (other .answer) (call .answered) (other .answered) in
+      let e = reported-one strict s at old new new′ (call .answer) (other .answer) (call .answered) (other .answered) in
       (call .is ∙ (ap (λ (x : Reported). reading at x) (e .0) ∙ sym (other .is)), e .1)
 
-  pub read-told-six : (told .number ≡ 6) ↔ ((n : Sizes) × MoreRoom s at (flatRooms old) n)
-  read-told-six = rw number-is (read-six s at (flatRooms old) (flatRooms new) (call .answer .answer) (call .answered .answered))
+  pub read-told-six : (told .number ≡ 6) ↔ ((n : Sizes) × MoreRoom strict s at (flatRooms old) n)
+  read-told-six = rw number-is (read-six strict s at (flatRooms old) (flatRooms new) (call .answer .answer) (call .answered .answered))
 
-  pub read-told-sizes : told .number ≡ 6 → MoreRoom s at (flatRooms old) (told .sizes)
+  pub read-told-sizes : told .number ≡ 6 → MoreRoom strict s at (flatRooms old) (told .sizes)
   read-told-sizes z = go (call .answer .answer) refl
     where
-      go : (a : ReadAnswer) → call .answer .answer ≡ a → MoreRoom s at (flatRooms old) (told .sizes)
+      go : (a : ReadAnswer) → call .answer .answer ≡ a → MoreRoom strict s at (flatRooms old) (told .sizes)
       go (read.Done h place) e = let x : told .number ≡ 0 = number-is ∙ ap readNumber e in impossible cc
       go (read.Refused why) e = absurd (unread-not-six why (sym (number-is ∙ ap readNumber e) ∙ z))
       go (read.Room n) e =
-          rw (call .is) (rw e (read-six-sizes s at (flatRooms old) (flatRooms new) (call .answer .answer) (call .answered .answered) n e .0))
+          rw (call .is) (rw e (read-six-sizes strict s at (flatRooms old) (flatRooms new) (call .answer .answer) (call .answered .answered) n e .0))
 
 module _ (how : How) (r : Rooms) (ns old new : List ℕ) (told : Writing) (call : WriteTold how r ns old new told) where
   wrote-is : told .number ≡ writeNumber (call .answer)
@@ -168,19 +169,19 @@ module _ (how : How) (r : Rooms) (ns old new : List ℕ) (told : Writing) (call 
         (λ m. let e = six .1 m in (wrote-is ∙ ap writeNumber e, ap (λ (x : Writing). x .count) (call .is) ∙ ap writeValue e)),
       )
 
--- ---- THE FUNCTION BEHIND THE PROGRAMS: a record at a place of s, read into the rooms `old` and written again to the slice `before`, which is then `after`
+-- ---- THE FUNCTION BEHIND THE PROGRAMS: a record at a place of s, read into the rooms `old`, strictly or not, and written again to the slice `before`, which is then `after`
 
 module _
-    (s : List ℕ) (at : ℕ) (old : Rooms) (how : How) (t rf cm q lc l before after : List ℕ) (r : Reported) (w : WriteAnswer)
-    (call : Rounds s at old how t rf cm q lc l before after r w) where
+    (strict : Bool) (s : List ℕ) (at : ℕ) (old : Rooms) (how : How) (t rf cm q lc l before after : List ℕ) (r : Reported) (w : WriteAnswer)
+    (call : Rounds strict s at old how t rf cm q lc l before after r w) where
   -- any two results that the contract permits are equal, answers and line, and so are the slice and the rooms afterwards
-  pub round-one : (t′ rf′ cm′ q′ lc′ l′ after′ : List ℕ) (r′ : Reported) (w′ : WriteAnswer) → Rounds s at old how t′ rf′ cm′ q′ lc′ l′ before after′ r′ w′ →
+  pub round-one : (t′ rf′ cm′ q′ lc′ l′ after′ : List ℕ) (r′ : Reported) (w′ : WriteAnswer) → Rounds strict s at old how t′ rf′ cm′ q′ lc′ l′ before after′ r′ w′ →
       (r ≡ r′) × ((w ≡ w′) × ((after ≡ after′) × ((t ≡ t′) × ((rf ≡ rf′) × ((cm ≡ cm′) × ((q ≡ q′) × ((lc ≡ lc′) × (l ≡ l′))))))))
   round-one t′ rf′ cm′ q′ lc′ l′ after′ r′ w′ other =
       let e : r ≡ r′ = told-equal s at r r′ (call .is ∙ sym (other .is)) (call .told) (other .told) in
-      let o : WriteAnswered (howAfter (r .answer) how) (roomsAfter s at old) (headOf (r .answer)) before after′ w′ =
-      subst (λ (x : Reported). WriteAnswered (howAfter (x .answer) how) (roomsAfter s at old) (headOf (x .answer)) before after′ w′) (sym e) (other .wrote) in
-      let v = written-one (howAfter (r .answer) how) (roomsAfter s at old) (headOf (r .answer)) before after w (call .wrote) after′ w′ o in (
+      let o : WriteAnswered (howAfter (r .answer) how) (roomsAfter strict s at old) (headOf (r .answer)) before after′ w′ =
+      subst (λ (x : Reported). WriteAnswered (howAfter (x .answer) how) (roomsAfter strict s at old) (headOf (x .answer)) before after′ w′) (sym e) (other .wrote) in
+      let v = written-one (howAfter (r .answer) how) (roomsAfter strict s at old) (headOf (r .answer)) before after w (call .wrote) after′ w′ o in (
         e,
         (
           v .0,
@@ -204,7 +205,7 @@ module _
   pub round-unread : (readNumber (r .answer) ≡ 0 → ⊥) →
       (t ≡ old .texts) × ((rf ≡ old .references) × ((cm ≡ old .comments) × ((q ≡ old .qualifiers) × ((lc ≡ old .locations) × (l ≡ old .letters)))))
   round-unread n =
-      let e = after-same s at old (λ z. n (ap readNumber (call .is) ∙ z)) in (
+      let e = after-same strict s at old (λ z. n (ap readNumber (call .is) ∙ z)) in (
         call .texts-are ∙ ap (λ (x : Rooms). x .texts) e,
         (
           call .references-are ∙ ap (λ (x : Rooms). x .references) e,
@@ -220,19 +221,19 @@ module _
 
   -- where nothing is read or nothing is written the slice is what it was
   pub round-unwritten : (writeNumber w ≡ 0 → ⊥) → after ≡ before
-  round-unwritten n = written-untouched (howAfter (r .answer) how) (roomsAfter s at old) (headOf (r .answer)) before after w (call .wrote) n
+  round-unwritten n = written-untouched (howAfter (r .answer) how) (roomsAfter strict s at old) (headOf (r .answer)) before after w (call .wrote) n
 
   pub round-unread-unwritten : (readNumber (r .answer) ≡ 0 → ⊥) → after ≡ before
   round-unread-unwritten n = round-unwritten (λ z. impossible (cc (z, width-none (r .answer) refl n)))
     where
       width-none : (x : ReadAnswer) → r .answer ≡ x → (readNumber (r .answer) ≡ 0 → ⊥) → writeNumber w ≡ 12
       width-none (read.Done h place) e n = absurd (n (ap readNumber e))
-      width-none (read.Refused why) e n = ap writeNumber (call .wrote .is) ∙ rw e (no-width (how .keeping) (how .truncate) (how .escape) (roomsAfter s at old) _ (length before))
-      width-none (read.Room sizes) e n = ap writeNumber (call .wrote .is) ∙ rw e (no-width (how .keeping) (how .truncate) (how .escape) (roomsAfter s at old) _ (length before))
+      width-none (read.Refused why) e n = ap writeNumber (call .wrote .is) ∙ rw e (no-width (how .keeping) (how .truncate) (how .escape) (roomsAfter strict s at old) _ (length before))
+      width-none (read.Room sizes) e n = ap writeNumber (call .wrote .is) ∙ rw e (no-width (how .keeping) (how .truncate) (how .escape) (roomsAfter strict s at old) _ (length before))
 
   -- its two answers are the reader's and the writer's, so what is said of 6 above holds of them
-  pub round-read : Answered s at old (roomsAfter s at old) (r .answer)
+  pub round-read : Answered strict s at old (roomsAfter strict s at old) (r .answer)
   round-read = record { is = call .is; texts = refl; references = refl; comments = refl; features = refl; qualifiers = refl; locations = refl; letters = refl }
 
-  pub round-reported : ReadReported s at old (roomsAfter s at old) r
+  pub round-reported : ReadReported strict s at old (roomsAfter strict s at old) r
   round-reported = record { answered = round-read; told = call .told }

@@ -2,7 +2,7 @@
 -- number but 0, 1 and 3 that is the line in which the trouble lies (`LineTold` of What.antt says what that is); with 0, 1 and 3 line and offset are 0. That the trouble lies where the ticket
 -- says, number by number, is what the definition `troubled` says (crates/spec_lines), and is computed on examples there.
 use Prim.Native.Nat.{ℕ, _-_, _≤_}
-use mathlib.Core.Bool.{true, false}
+use mathlib.Core.Bool.{Bool, true, false}
 use mathlib.Core.List.{List}
 use mathlib.Core.Path.{_≡_, ap, _∙_}
 use lib.ListN.{length, drop}
@@ -36,11 +36,11 @@ troubled-stands why s at t l e = past-stands s at t l (troubled-past why (drop a
 pub line-one : (s : List ℕ) (at : ℕ) (a : ReadAnswer) (l m o n : ℕ) → LineTold s at a l o → LineTold s at a m n → (l ≡ m) × (o ≡ n)
 line-one s at a l m o n x y = one-line s at a l m o n x y
 
--- ---- THE READER: a call on the slice s at a place
+-- ---- THE READER: a call on the slice s at a place, strict or not
 
-module _ (s : List ℕ) (at : ℕ) (old new : Rooms) (r : Reported) (call : ReadReported s at old new r) where
+module _ (strict : Bool) (s : List ℕ) (at : ℕ) (old new : Rooms) (r : Reported) (call : ReadReported strict s at old new r) where
   pub line-told : lineless (readNumber (r .answer)) ≡ false → LineTold s at (r .answer) (r .spot .line) (r .spot .offset)
-  line-told n = rw (call .told) (answer-line s at old (r .answer) (call .answered .is) n)
+  line-told n = rw (call .told) (answer-line strict s at old (r .answer) (call .answered .is) n)
 
   pub no-line : lineless (readNumber (r .answer)) ≡ true → (r .spot .line ≡ 0) × (r .spot .offset ≡ 0)
   no-line n =
@@ -49,23 +49,23 @@ module _ (s : List ℕ) (at : ℕ) (old new : Rooms) (r : Reported) (call : Read
 
 -- ---- THE BOUNDARY for C and Rust: `vilggodan_read`
 
-module _ (s : List ℕ) (at : ℕ) (old new : Rooms) (told : Reading) (call : ReadTold s at old new told) where
+module _ (strict : Bool) (s : List ℕ) (at : ℕ) (old new : Rooms) (told : Reading) (call : ReadTold strict s at old new told) where
   number-is : told .number ≡ readNumber (call .answer .answer)
   number-is = ap (λ (x : Reading). x .number) (call .is)
 
   pub read-told-line : lineless (told .number) ≡ false → LineTold s at (call .answer .answer) (told .line) (told .offset)
-  read-told-line n = rw (call .is) (line-told s at old new (call .answer) (call .answered) (rw number-is at n))
+  read-told-line n = rw (call .is) (line-told strict s at old new (call .answer) (call .answered) (rw number-is at n))
 
   pub read-told-no-line : lineless (told .number) ≡ true → (told .line ≡ 0) × (told .offset ≡ 0)
-  read-told-no-line n = rw (call .is) (no-line s at old new (call .answer) (call .answered) (rw number-is at n))
+  read-told-no-line n = rw (call .is) (no-line strict s at old new (call .answer) (call .answered) (rw number-is at n))
 
 -- ---- THE FUNCTION BEHIND THE PROGRAMS
 
 module _
-    (s : List ℕ) (at : ℕ) (old : Rooms) (how : How) (t rf cm q lc l before after : List ℕ) (r : Reported) (w : WriteAnswer)
-    (call : Rounds s at old how t rf cm q lc l before after r w) where
+    (strict : Bool) (s : List ℕ) (at : ℕ) (old : Rooms) (how : How) (t rf cm q lc l before after : List ℕ) (r : Reported) (w : WriteAnswer)
+    (call : Rounds strict s at old how t rf cm q lc l before after r w) where
   pub round-line : lineless (readNumber (r .answer)) ≡ false → LineTold s at (r .answer) (r .spot .line) (r .spot .offset)
-  round-line n = rw (call .told) (answer-line s at old (r .answer) (call .is) n)
+  round-line n = rw (call .told) (answer-line strict s at old (r .answer) (call .is) n)
 
   pub round-no-line : lineless (readNumber (r .answer)) ≡ true → (r .spot .line ≡ 0) × (r .spot .offset ≡ 0)
   round-no-line n =

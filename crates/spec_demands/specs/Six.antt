@@ -12,8 +12,9 @@ use Rattle.spec_format.specs.Answers.{room, sliceAfter}
 use Rattle.spec_format.specs.Bytes.{pick}
 use Rattle.spec_format.specs.Impossible.{impossible}
 use Rattle.spec_format.specs.Numbers.{readNumber, writeNumber, writeValue}
-use Rattle.spec_format.specs.Record.{Outcome, Read, Not, readAt}
+use Rattle.spec_format.specs.Record.{Outcome, Read, Not}
 use Rattle.spec_format.specs.Rooms.{Rooms, layout, sizes, fits, readAnswer, roomsAfter, overRooms, tableOf}
+use Rattle.spec_format.specs.Strict.{readBy}
 use Rattle.spec_format.specs.Table.{Table}
 use Rattle.spec_format.specs.declared.Head.{Head}
 use Rattle.spec_format.specs.declared.How.{How}
@@ -32,20 +33,20 @@ use Rattle.spec_demands.specs.What.{MoreRoom, Uses, MoreBytes}
 
 -- ---- reading
 
-module _ (s : List ℕ) (at : ℕ) (t : Table) (rest : List ℕ) (e : readAt s at ≡ Read t rest) (q : Rooms) where
-  by-fits : (readNumber (readAnswer s at q) ≡ 0) ↔ (fits (sizes t) q ≡ true)
-  by-fits = (to (fits (sizes t) q) refl, λ f. answer-number s at q t rest true e f)
+module _ (strict : Bool) (s : List ℕ) (at : ℕ) (t : Table) (rest : List ℕ) (e : readBy strict s at ≡ Read t rest) (q : Rooms) where
+  by-fits : (readNumber (readAnswer strict s at q) ≡ 0) ↔ (fits (sizes t) q ≡ true)
+  by-fits = (to (fits (sizes t) q) refl, λ f. answer-number strict s at q t rest true e f)
     where
-      to : (b : Bool) → fits (sizes t) q ≡ b → readNumber (readAnswer s at q) ≡ 0 → fits (sizes t) q ≡ true
+      to : (b : Bool) → fits (sizes t) q ≡ b → readNumber (readAnswer strict s at q) ≡ 0 → fits (sizes t) q ≡ true
       to true f z = f
-      to false f z = let x = answer-number s at q t rest false e f in impossible cc
+      to false f z = let x = answer-number strict s at q t rest false e f in impossible cc
 
-more-room : (s : List ℕ) (at : ℕ) (t : Table) (rest : List ℕ) → readAt s at ≡ Read t rest → (q : Rooms) → fits (sizes t) q ≡ false → MoreRoom s at q (sizes t)
-more-room s at t rest e q f =
+more-room : (strict : Bool) (s : List ℕ) (at : ℕ) (t : Table) (rest : List ℕ) → readBy strict s at ≡ Read t rest → (q : Rooms) → fits (sizes t) q ≡ false → MoreRoom strict s at q (sizes t)
+more-room strict s at t rest e q f =
     record {
       short = f;
       exact = λ more after a c.
-          let b = by-fits s at t rest e more in
+          let b = by-fits strict s at t rest e more in
           ((λ z. b .0 (sym (ap readNumber (c .is)) ∙ z)), (λ g. ap readNumber (c .is) ∙ b .1 g));
     }
 
@@ -64,62 +65,62 @@ laid-uses t n more after w e =
       letters = rw w (l .letters);
     }
 
-module _ (s : List ℕ) (at : ℕ) (old new : Rooms) (a : ReadAnswer) (call : Answered s at old new a) where
-  number-fits : (t : Table) (rest : List ℕ) (b : Bool) → readAt s at ≡ Read t rest → fits (sizes t) old ≡ b → readNumber a ≡ pick b 0 6
-  number-fits t rest b e f = ap readNumber (call .is) ∙ answer-number s at old t rest b e f
+module _ (strict : Bool) (s : List ℕ) (at : ℕ) (old new : Rooms) (a : ReadAnswer) (call : Answered strict s at old new a) where
+  number-fits : (t : Table) (rest : List ℕ) (b : Bool) → readBy strict s at ≡ Read t rest → fits (sizes t) old ≡ b → readNumber a ≡ pick b 0 6
+  number-fits t rest b e f = ap readNumber (call .is) ∙ answer-number strict s at old t rest b e f
 
   -- six tells that a table was read that does not fit
   pub record SixBy : Type 0 where
     table : Table
     rest : List ℕ
-    reads : readAt s at ≡ Read table rest
+    reads : readBy strict s at ≡ Read table rest
     over : fits (sizes table) old ≡ false
 
   pub six-by : readNumber a ≡ 6 → SixBy
-  six-by z = go (readAt s at) refl
+  six-by z = go (readBy strict s at) refl
     where
-      fitted : (t : Table) (rest : List ℕ) → readAt s at ≡ Read t rest → (b : Bool) → fits (sizes t) old ≡ b → SixBy
+      fitted : (t : Table) (rest : List ℕ) → readBy strict s at ≡ Read t rest → (b : Bool) → fits (sizes t) old ≡ b → SixBy
       fitted t rest e true f = let x = number-fits t rest true e f in impossible cc
       fitted t rest e false f = record { table = t; rest = rest; reads = e; over = f }
 
-      go : (o : Outcome) → readAt s at ≡ o → SixBy
+      go : (o : Outcome) → readBy strict s at ≡ o → SixBy
       go (Read t rest) e = fitted t rest e (fits (sizes t) old) refl
-      go (Not why) e = absurd (unread-not-six why (sym (answer-not s at old why e) ∙ sym (ap readNumber (call .is)) ∙ z))
+      go (Not why) e = absurd (unread-not-six why (sym (answer-not strict s at old why e) ∙ sym (ap readNumber (call .is)) ∙ z))
 
-  pub six-more : readNumber a ≡ 6 → (n : Sizes) × MoreRoom s at old n
-  six-more z = let b = six-by z in (sizes (b .table), more-room s at (b .table) (b .rest) (b .reads) old (b .over))
+  pub six-more : readNumber a ≡ 6 → (n : Sizes) × MoreRoom strict s at old n
+  six-more z = let b = six-by z in (sizes (b .table), more-room strict s at (b .table) (b .rest) (b .reads) old (b .over))
 
-  any-call : (q : Rooms) → Answered s at q (roomsAfter s at q) (readAnswer s at q)
+  any-call : (q : Rooms) → Answered strict s at q (roomsAfter strict s at q) (readAnswer strict s at q)
   any-call q = record { is = refl; texts = refl; references = refl; comments = refl; features = refl; qualifiers = refl; locations = refl; letters = refl }
 
-  pub more-six : (n : Sizes) → MoreRoom s at old n → readNumber a ≡ 6
-  more-six n m = go (readAt s at) refl
+  pub more-six : (n : Sizes) → MoreRoom strict s at old n → readNumber a ≡ 6
+  more-six n m = go (readBy strict s at) refl
     where
-      fitted : (t : Table) (rest : List ℕ) → readAt s at ≡ Read t rest → (b : Bool) → fits (sizes t) old ≡ b → readNumber a ≡ 6
+      fitted : (t : Table) (rest : List ℕ) → readBy strict s at ≡ Read t rest → (b : Bool) → fits (sizes t) old ≡ b → readNumber a ≡ 6
       fitted t rest e true f =
           let x : fits n old ≡ true = m .exact old new a call .0 (number-fits t rest true e f) in
           let y : fits n old ≡ false = m .short in
           impossible cc
       fitted t rest e false f = number-fits t rest false e f
 
-      go : (o : Outcome) → readAt s at ≡ o → readNumber a ≡ 6
+      go : (o : Outcome) → readBy strict s at ≡ o → readNumber a ≡ 6
       go (Read t rest) e = fitted t rest e (fits (sizes t) old) refl
       go (Not why) e =
-          absurd (unread-not-zero why (sym (answer-not s at (roomsFor n) why e) ∙ m .exact (roomsFor n) _ _ (any-call (roomsFor n)) .1 (rooms-for-fit n)))
+          absurd (unread-not-zero why (sym (answer-not strict s at (roomsFor n) why e) ∙ m .exact (roomsFor n) _ _ (any-call (roomsFor n)) .1 (rooms-for-fit n)))
 
   module _ (n : Sizes) (told : a ≡ read.Room n) where
     sizes-are : (b : SixBy) → n ≡ sizes (b .table)
     sizes-are b =
-        let w : read.Room n ≡ read.Room (sizes (b .table)) = sym told ∙ (call .is ∙ answer-short s at old (b .table) (b .rest) (b .reads) (b .over)) in
+        let w : read.Room n ≡ read.Room (sizes (b .table)) = sym told ∙ (call .is ∙ answer-short strict s at old (b .table) (b .rest) (b .reads) (b .over)) in
         cc
 
-    pub told-more : MoreRoom s at old n
-    told-more = let b = six-by (ap readNumber told) in rw (sizes-are b) (more-room s at (b .table) (b .rest) (b .reads) old (b .over))
+    pub told-more : MoreRoom strict s at old n
+    told-more = let b = six-by (ap readNumber told) in rw (sizes-are b) (more-room strict s at (b .table) (b .rest) (b .reads) old (b .over))
 
-    pub told-used : (more after : Rooms) (x : ReadAnswer) → Answered s at more after x → readNumber x ≡ 0 → Uses n more after
+    pub told-used : (more after : Rooms) (x : ReadAnswer) → Answered strict s at more after x → readNumber x ≡ 0 → Uses n more after
     told-used more after x c z =
         let b = six-by (ap readNumber told) in
-        laid-uses (b .table) n more after (sizes-are b) (rooms-after s at more after x c ∙ after-laid s at more (b .table) (b .rest) (b .reads) (sym (ap readNumber (c .is)) ∙ z))
+        laid-uses (b .table) n more after (sizes-are b) (rooms-after strict s at more after x c ∙ after-laid strict s at more (b .table) (b .rest) (b .reads) (sym (ap readNumber (c .is)) ∙ z))
 
 -- ---- writing
 

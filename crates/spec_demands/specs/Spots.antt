@@ -12,8 +12,9 @@ use borrow.Author.Tests.{leb-true, ltb-true, ltb-false}
 use Rattle.spec_format.specs.Bytes.{May, absent, is}
 use Rattle.spec_format.specs.Impossible.{impossible}
 use Rattle.spec_format.specs.Numbers.{readNumber}
-use Rattle.spec_format.specs.Record.{most, readAt}
+use Rattle.spec_format.specs.Record.{most}
 use Rattle.spec_format.specs.Rooms.{Rooms, readAnswer}
+use Rattle.spec_format.specs.Strict.{readBy}
 use Rattle.spec_format.specs.declared.ReadAnswer.{ReadAnswer}
 use Rattle.spec_format.specs.declared.ReadAnswer.the-variants as read
 use Rattle.spec_format.specs.declared.Unread.{Unread}
@@ -108,14 +109,14 @@ one-line s at a l m o n x y =
 -- ---- answers
 
 -- 3 is answered where the place lies past the end
-pub placed : (s : List ℕ) (at : ℕ) (q : Rooms) → (readNumber (readAnswer s at q) ≡ 3 → ⊥) → at ≤ length s
-unfolding readAt
-placed s at q n = go (leb at (length s)) refl (leb (length s) most) refl
+pub placed : (strict : Bool) (s : List ℕ) (at : ℕ) (q : Rooms) → (readNumber (readAnswer strict s at q) ≡ 3 → ⊥) → at ≤ length s
+unfolding readBy
+placed strict s at q n = go (leb at (length s)) refl (leb (length s) most) refl
   where
     go : (b : Bool) → leb at (length s) ≡ b → (c : Bool) → leb (length s) most ≡ c → at ≤ length s
     go true e c f = leb-true at (length s) e
-    go false e true f = absurd (n (answer-not s at q unread.BadPlace (rw (f, e))))
-    go false e false f = absurd (n (answer-not s at q unread.BadPlace (rw f)))
+    go false e true f = absurd (n (answer-not strict s at q unread.BadPlace (rw (f, e))))
+    go false e false f = absurd (n (answer-not strict s at q unread.BadPlace (rw f)))
 
 -- an answer whose number tells a line has a trouble, and that lies in the text
 pub record Trouble (a : ReadAnswer) (s : List ℕ) : Type 0 where
@@ -136,6 +137,7 @@ unread-trouble why s e = go (troubled why s) refl (there why e)
     there unread.OtherLength e f = impossible cc
     there unread.BadLetter e f = impossible cc
     there unread.TooDeep e f = impossible cc
+    there unread.StrayLetter e f = impossible cc
 
     go : (m : May (List ℕ)) → troubled why s ≡ m → (troubled why s ≡ absent → ⊥) → Trouble (read.Refused why) s
     go absent f not = absurd (not f)
@@ -152,11 +154,11 @@ spot-of-trouble s at (read.Refused why) = refl
 spot-of-trouble s at (read.Room sizes) = refl
 
 -- THE TWO LAWS that the theorems of Lines.antt cite
-pub answer-line : (s : List ℕ) (at : ℕ) (q : Rooms) (a : ReadAnswer) → a ≡ readAnswer s at q → lineless (readNumber a) ≡ false →
+pub answer-line : (strict : Bool) (s : List ℕ) (at : ℕ) (q : Rooms) (a : ReadAnswer) → a ≡ readAnswer strict s at q → lineless (readNumber a) ≡ false →
     LineTold s at a (readSpot s at a .line) (readSpot s at a .offset)
-answer-line s at q a e n =
+answer-line strict s at q a e n =
     let t = trouble-there a (drop at s) n in
-    let l = placed s at q (λ z. let y : readNumber a ≡ 3 = ap readNumber e ∙ z in impossible cc) in
+    let l = placed strict s at q (λ z. let y : readNumber a ≡ 3 = ap readNumber e ∙ z in impossible cc) in
     let f : readSpot s at a ≡ spotOf s at (t .rest) = spot-of-trouble s at a ∙ ap (spotAt s at) (t .is-there) in
     rw f (spot-told s at (t .rest) l (t .past) a (t .is-there))
 
@@ -172,3 +174,4 @@ answer-no-line s at (read.Refused unread.NoSlashes) e = impossible cc
 answer-no-line s at (read.Refused unread.OtherLength) e = impossible cc
 answer-no-line s at (read.Refused unread.BadLetter) e = impossible cc
 answer-no-line s at (read.Refused unread.TooDeep) e = impossible cc
+answer-no-line s at (read.Refused unread.StrayLetter) e = impossible cc

@@ -1,20 +1,21 @@
 -- Why a trouble lies in the text: what stands from it on is an end of what stands from the place given on, for each refusal that tells a line.
 use Prim.Native.Nat.{ℕ, zero, suc, _+_, _-_, _≤_}
 use mathlib.Core.Bool.{Bool, true, false, _&&_}
-use mathlib.Core.List.{List, [], _∷_}
+use mathlib.Core.List.{List, [], _∷_, _++_}
 use mathlib.Core.Path.{_≡_, refl, sym, ap, _∙_}
 use native.Mathlib.Omega.{arith}
 use lib.Dec.{eqb}
-use lib.ListN.{length, drop, length-drop}
-use lib.Seq.{drop-drop, drop-length}
-use Rattle.spec_format.specs.Bytes.{pick, but, May, is, bytes, letter, notBlank}
+use lib.ListN.{length, drop, length-append, length-drop}
+use lib.Seq.{drop-drop, drop-length, drop-append-seam}
+use Rattle.spec_format.specs.Bytes.{pick, but, May, absent, is, bytes, letter, notBlank}
 use Rattle.spec_format.specs.Deep.{deepFeature}
 use Rattle.spec_format.specs.Header.{Field, headerField, textIn}
 use Rattle.spec_format.specs.Impossible.{impossible}
-use Rattle.spec_format.specs.Locus.{preambleTurn, locus, locusLine}
+use Rattle.spec_format.specs.Locus.{preambleTurn, preamble, locus, locusLine}
 use Rattle.spec_format.specs.Origin.{Letters, AtSlash, AtEnd, Bad, keep, skipped, letters, originTag}
 use Rattle.spec_format.specs.Readers.{Ans, Got, No, Cut, optional, until, Turn, more, stop, whileFits}
-use Rattle.spec_format.specs.Record.{features, baseCount, leftBy, isThere, middle}
+use Rattle.spec_format.specs.Record.{features, baseCount, leftBy, isThere, listOf, middle, deepIn, once}
+use Rattle.spec_format.specs.Strict.{stray, lettersBelow, lettersFrom, strayAfter, strayIn}
 use Rattle.spec_format.specs.Table.{Feature}
 use Rattle.spec_format.specs.Utf8.{utf8}
 use Rattle.spec_format.specs.declared.Unread.{Unread}
@@ -22,9 +23,10 @@ use Rattle.spec_format.specs.declared.Unread.the-variants as unread
 use Rattle.spec_lines.specs.Stands.{Stands}
 use Rattle.spec_lines.specs.Troubles.{stoppedUpTo, stopped, searched, headerBegins, headerEnds, upTo, toDefinition, definition, secondDefinition, lettersEnd, afterTag}
 use Rattle.spec_lines.specs.Troubles.{originEnds, sectionsEnd, deepWith, deepPlace, troubled}
-use Rattle.spec_loops.specs.Shrinks.{Past, past-here, past-byte, past-loose, past-then, Leaves, leaves-got, leaves-loose, leaves-first}
+use Rattle.spec_loops.specs.Shrinks.{Past, past-here, past-byte, past-loose, past-then, Leaves, leaves-got, leaves-no, leaves-loose, leaves-first, leaves-pick}
 use Rattle.spec_loops.specs.Shrinks.{leaves-mapped, leaves-passing, leaves-or, leaves-optional, tag-loose, until-past, until1-takes, line-takes, end-takes}
-use Rattle.spec_loops.specs.Shrinks.{Turns, turns-takes, turns-here, tries-leave, field-takes, header-takes, preamble-turns, features-leave, middle-leaves}
+use Rattle.spec_loops.specs.Shrinks.{Turns, turns-takes, turns-here, end-leaves, tries-leave, field-takes, header-takes, preamble-turns, features-leave, middle-leaves}
+use Rattle.spec_strict.specs.Switch.{stray-is}
 
 -- ---- readers and loops
 
@@ -153,6 +155,37 @@ deep-past s = go (optional s (features s)) (leaves-optional (features-leave s))
     go No h = past-here s
     go Cut h = past-here s
 
+-- ---- the stray letter
+
+stray-past : (s z : List ℕ) → stray s ≡ is z → Past 0 s z
+stray-past s z e =
+    let k = stray-is s z .0 e in
+    let b = k .before in
+    let w : s ≡ b ++ z = k .whole ∙ ap (λ (x : List ℕ). b ++ x) (sym (k .starts)) in
+    let n : length s ≡ length b + length z = ap length w ∙ length-append b z in
+    record { gone = length b; least = omega arith; within = omega arith; is = sym (ap (drop (length b)) w ∙ drop-append-seam b z) }
+
+found-past : (s : List ℕ) (o : May (List ℕ)) → stray s ≡ o → Past 0 s (listOf o)
+found-past s (is z) e = stray-past s z e
+found-past s absent e = end-past s
+
+below-leaves : (s : List ℕ) → Leaves 0 s (lettersBelow s)
+below-leaves s = leaves-pick (deepIn s) (leaves-no 0 s) (leaves-first (middle-leaves s) (λ _ s. origin-leaves s))
+
+from-leaves : (s : List ℕ) → Leaves 0 s (lettersFrom s)
+unfolding lettersFrom preamble
+from-leaves s =
+    leaves-first (end-leaves preambleTurn preamble-turns s) (λ _ s. leaves-first (locus-leaves s) (λ _ s. leaves-first (tries-leave headerField header-takes s)
+    (λ fs s. leaves-pick (once fs) (below-leaves s) (leaves-no 0 s))))
+
+stray-in-past : (s : List ℕ) → Past 0 s (listOf (strayIn s))
+stray-in-past s = go (lettersFrom s) (from-leaves s)
+  where
+    go : (o : Ans (List ℕ)) → Leaves 0 s o → Past 0 s (listOf (strayAfter o))
+    go (Got u r) h = past-on s r _ (h .past u r refl) (found-past r (stray r) refl)
+    go No h = end-past s
+    go Cut h = end-past s
+
 -- ---- each refusal
 
 pub troubled-past : (why : Unread) (s t : List ℕ) → troubled why s ≡ is t → Past 0 s t
@@ -170,6 +203,7 @@ troubled-past unread.BadLetter s t e =
     let f : sectionsEnd (headerEnds s) ≡ t = cc in rw f at (past-on s (headerEnds s) _ (ends-past s) (sections-past (headerEnds s)))
 troubled-past unread.TooDeep s t e =
     let f : deepPlace (headerEnds s) ≡ t = cc in rw f at (past-on s (headerEnds s) _ (ends-past s) (deep-past (headerEnds s)))
+troubled-past unread.StrayLetter s t e = let f : listOf (strayIn s) ≡ t = cc in rw f at (stray-in-past s)
 
 -- an end of what stands from the place on stands in the slice
 pub past-stands : (s : List ℕ) (at : ℕ) (t : List ℕ) → at ≤ length s → Past 0 (drop at s) t → Stands s at t (length s - length t)

@@ -23,10 +23,10 @@ use Rattle.spec_contracts.specs.Reads.{Answered}
 use Rattle.spec_contracts.specs.Writes.{WriteAnswered}
 use Rattle.spec_contracts.specs.declared.Reading.{Reading}
 
--- n is more than the rooms `lent` hold, and a call on the same slice and place succeeds exactly where the rooms hold n: so n is exact
-pub record MoreRoom (s : List ℕ) (at : ℕ) (lent : Rooms) (n : Sizes) : Type 0 where
+-- n is more than the rooms `lent` hold, and a call on the same slice and place, with the same switch, succeeds exactly where the rooms hold n: so n is exact
+pub record MoreRoom (strict : Bool) (s : List ℕ) (at : ℕ) (lent : Rooms) (n : Sizes) : Type 0 where
   pub short : fits n lent ≡ false
-  pub exact : (more after : Rooms) (a : ReadAnswer) → Answered s at more after a → (readNumber a ≡ 0) ↔ (fits n more ≡ true)
+  pub exact : (more after : Rooms) (a : ReadAnswer) → Answered strict s at more after a → (readNumber a ≡ 0) ↔ (fits n more ≡ true)
 
 -- what a success lays over the rooms `more` has the sizes n
 pub record Uses (n : Sizes) (more after : Rooms) : Type 0 where

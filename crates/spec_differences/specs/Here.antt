@@ -14,6 +14,8 @@ use Rattle.spec_format.specs.Origin.{originTag, letters}
 use Rattle.spec_format.specs.Readers.{tag, until, line, lineEnd, membersUpTo, endUpTo, members, end}
 use Rattle.spec_format.specs.Numbers.{unreadNumber, unreadPlace}
 use Rattle.spec_format.specs.Record.{Outcome, Read, Not, features, slashesLater, middle, deepIn, tableFrom, readRecord, readAt}
+use Rattle.spec_bases.specs.Bases.{setOf}
+use Rattle.spec_format.specs.Strict.{stray, lettersFrom, recordBy, readBy}
 use Rattle.spec_format.specs.Table.{LocationRow, Feature, Contig, Table}
 use Rattle.spec_format.specs.Location.{run, past, behind, baseNumber, bases, accession, leaf, plain, begin, membersIn, locationFrom, reading, rowsIn}
 use Rattle.spec_format.specs.Deep.{soFar, deepFeature, deepContig}
@@ -40,6 +42,9 @@ told s (Not why) = unreadNumber why ∷ unreadPlace why 0 ∷ []
 
 answer : List ℕ → List ℕ
 answer s = told s (readAt s 0)
+
+strict-answer : List ℕ → List ℕ
+strict-answer s = told s (readBy true s 0)
 
 may-text : May (List ℕ) → List ℕ
 may-text absent = bytes "-"
@@ -284,6 +289,11 @@ answers =
     eleven (table (bytes "x") (bytes "anticodon") (bytes "a b")) ∷
     eleven (with-letters 4 (bytes "acg1")) ∷
     record { got = take 43 (line-or-11 true (table (replicate 27 97 ++ 255 ∷ []) (bytes "note") (bytes "a"))); should = bytes "LOCUS       " ++ replicate 24 97 ++ bytes " 123 bp" } ∷
+    record { got = strict-answer (bytes "LOCUS x\nORIGIN\nx//\n"); should = 16 ∷ 0 ∷ [] } ∷
+    record { got = strict-answer (bytes "LOCUS x 0 bp DNA linear SYN 01-MAR-2024\nORIGIN\nx//\n"); should = 16 ∷ 0 ∷ [] } ∷
+    record { got = strict-answer (bytes "LOCUS x\nORIGIN\nx"); should = 16 ∷ 0 ∷ [] } ∷
+    record { got = strict-answer (bytes "LOCUS x\nORIGIN\nx-//\n"); should = 16 ∷ 0 ∷ [] } ∷
+    record { got = strict-answer (bytes "LOCUS x\nORIGIN\n-x//\n"); should = 9 ∷ 0 ∷ [] } ∷
     -- 6
     record { got = drop 55 (line-or-11 false (table (bytes "x") (bytes "note") (bytes "a"))); should = bytes "linear   SYN 01-MAR-2024\n" } ∷
     bare-line (bytes "citation") ∷
@@ -322,5 +332,5 @@ the-writer = true
 
 -- THE PAGE'S ANSWERS ARE THOSE OF THE DEFINITIONS
 pub answers-hold : map (λ a. a .got) answers ≡ map (λ a. a .should) answers
-unfolding the-reader the-rules the-writer told answer may-text may-number may-date locus-values locus-read unk location-text first-location location-values location-read may-contig contig-values contig-read seven located contig-located joinRow joins lettered origin-read table-of table with-kind with-letters line-or-11 eleven lines-of bare-line answers
+unfolding the-reader the-rules the-writer setOf stray lettersFrom recordBy readBy told answer strict-answer may-text may-number may-date locus-values locus-read unk location-text first-location location-values location-read may-contig contig-values contig-read seven located contig-located joinRow joins lettered origin-read table-of table with-kind with-letters line-or-11 eleven lines-of bare-line answers
 answers-hold = refl

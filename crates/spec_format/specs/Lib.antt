@@ -11,6 +11,7 @@ pub mod Features
 pub mod Deep
 pub mod Origin
 pub mod Record
+pub mod Strict
 pub mod Rooms
 pub mod Wrap
 pub mod Write

@@ -21,6 +21,7 @@ unreadNumber unread.NoSlashes = 7
 unreadNumber unread.OtherLength = 8
 unreadNumber unread.BadLetter = 9
 unreadNumber unread.TooDeep = 14
+unreadNumber unread.StrayLetter = 16
 
 abbrev pub unreadPlace : Unread → ℕ → ℕ
 unreadPlace unread.AtEnd at = at
@@ -32,6 +33,7 @@ unreadPlace unread.NoSlashes at = at
 unreadPlace unread.OtherLength at = at
 unreadPlace unread.BadLetter at = at
 unreadPlace unread.TooDeep at = at
+unreadPlace unread.StrayLetter at = at
 
 abbrev pub readNumber : ReadAnswer → ℕ
 readNumber (read.Done head place) = 0

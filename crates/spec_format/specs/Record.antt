@@ -160,9 +160,11 @@ afterHeader l fs No = Not unread.Unended
 afterHeader l fs Cut = Not unread.Unended
 
 -- "second DEFINITION": 5 stands where the header ends
+abbrev pub once : List Field → Bool
+once fs = leb (length (every (textIn (bytes "DEFINITION")) fs)) 1
+
 abbrev pub header : Locus → List ℕ → Ans (List Field) → Outcome
-header l s (Got fs r) =
-    pick (leb (length (every (textIn (bytes "DEFINITION")) fs)) 1) (pick (deepIn r) (Not unread.TooDeep) (afterHeader l fs (middle r))) (Not unread.TwoDefinitions)
+header l s (Got fs r) = pick (once fs) (pick (deepIn r) (Not unread.TooDeep) (afterHeader l fs (middle r))) (Not unread.TwoDefinitions)
 header l s No = Not unread.Unended
 header l s Cut = Not unread.Unended
 
@@ -183,7 +185,10 @@ readRecord s = afterPreamble (preamble s)
 abbrev pub most : ℕ
 most = 16777216
 
--- "Reader: 3, 1, then the first trouble in file order": the record of a slice at a place
+-- "Reader: 3, 1, then the first trouble in file order": the record of a slice at a place, as `reader` reads it
+abbrev pub placed : (List ℕ → Outcome) → List ℕ → ℕ → Outcome
+placed reader s at =
+    pick (leb (length s) most && leb at (length s)) (pick (eqb at (length s)) (Not unread.AtEnd) (reader (drop at s))) (Not unread.BadPlace)
+
 unfoldable pub readAt : List ℕ → ℕ → Outcome
-readAt s at =
-    pick (leb (length s) most && leb at (length s)) (pick (eqb at (length s)) (Not unread.AtEnd) (readRecord (drop at s))) (Not unread.BadPlace)
+readAt s at = placed readRecord s at

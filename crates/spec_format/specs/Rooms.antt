@@ -8,7 +8,8 @@ use lib.Dec.{eqb, leb}
 use Rattle.spec_format.specs.Bytes.{pick, May, absent, is, each, all, same}
 use Rattle.spec_format.specs.Table.{Source, Reference, Qualifier, LocationRow, Feature, Contig, Table}
 use Rattle.spec_format.specs.Location.{Reading, one, none, tooDeep, reading}
-use Rattle.spec_format.specs.Record.{Outcome, Read, Not, most, readAt}
+use Rattle.spec_format.specs.Record.{Outcome, Read, Not, most}
+use Rattle.spec_format.specs.Strict.{readBy}
 use Rattle.spec_format.specs.declared.Span.{Span}
 use Rattle.spec_format.specs.declared.Text.{Text}
 use Rattle.spec_format.specs.declared.Text.the-variants as text
@@ -471,9 +472,9 @@ unfoldable pub answerOf : ℕ → Rooms → Outcome → ReadAnswer
 answerOf n r (Read t rest) = pick (fits (sizes t) r) (answer.Done (headOf t) (n - length rest)) (answer.Room (sizes t))
 answerOf n r (Not why) = answer.Refused why
 
--- what reading the slice s at a place answers, lent rooms r
-unfoldable pub readAnswer : List ℕ → ℕ → Rooms → ReadAnswer
-readAnswer s at r = answerOf (length s) r (readAt s at)
+-- what reading the slice s at a place answers, strictly or not, lent rooms r
+unfoldable pub readAnswer : Bool → List ℕ → ℕ → Rooms → ReadAnswer
+readAnswer strict s at r = answerOf (length s) r (readBy strict s at)
 
 -- a room after a success: "Success leaves unused room untouched"
 abbrev pub over : List ℕ → List ℕ → List ℕ
@@ -496,5 +497,5 @@ roomsOf r (Read t rest) = pick (fits (sizes t) r) (overRooms (layout t) r) r
 roomsOf r (Not why) = r
 
 -- the rooms afterwards: "All but 0 change no lent byte"
-unfoldable pub roomsAfter : List ℕ → ℕ → Rooms → Rooms
-roomsAfter s at r = roomsOf r (readAt s at)
+unfoldable pub roomsAfter : Bool → List ℕ → ℕ → Rooms → Rooms
+roomsAfter strict s at r = roomsOf r (readBy strict s at)

@@ -143,6 +143,7 @@ pub enum Unread {
     OtherLength,
     BadLetter,
     TooDeep,
+    StrayLetter,
 }
 
 // What the reader answers.

@@ -1,5 +1,6 @@
 -- Short slices, each with the number, the line and the offset that are told of it, proved about the definitions by one statement over a list.
 use Prim.Native.Nat.{ℕ}
+use mathlib.Core.Bool.{Bool, true, false}
 use mathlib.Core.Path.{_≡_, refl}
 use mathlib.Core.List.{List, [], _∷_, _++_, map}
 use lib.ListN.{replicate}
@@ -12,7 +13,9 @@ use Rattle.spec_format.specs.Header.{fieldText, fieldBytes, field, reference, s
 use Rattle.spec_format.specs.Features.{featuresHeader, bare, escape, quotedTurn, quoted, value, valueOf, qualifier, featureFrom, feature}
 use Rattle.spec_format.specs.Deep.{soFar, deepFeature, deepContig}
 use Rattle.spec_format.specs.Origin.{originTag, letters}
-use Rattle.spec_format.specs.Record.{features, slashesLater, middle, deepIn, tableFrom, readRecord, readAt}
+use Rattle.spec_bases.specs.Bases.{setOf}
+use Rattle.spec_format.specs.Record.{features, slashesLater, middle, deepIn, tableFrom, readRecord}
+use Rattle.spec_format.specs.Strict.{stray, lettersFrom, recordBy, readBy}
 use Rattle.spec_format.specs.Rooms.{Rooms, roomsIn, piecesText, piecesRow, textsOf, featureText, qualifierCount, locationCount, layout, sizes, headOf, fits, answerOf, readAnswer}
 use Rattle.spec_format.specs.Numbers.{readNumber}
 use Rattle.spec_format.specs.declared.ReadAnswer.{ReadAnswer}
@@ -38,8 +41,9 @@ numbers n p = n ∷ p .line ∷ p .offset ∷ []
 told-of : List ℕ → ℕ → ReadAnswer → List ℕ
 told-of s at a = numbers (readNumber a) (readSpot s at a)
 
-pub told : Example → List ℕ
-told e = told-of (e .slice) (e .place) (readAnswer (e .slice) (e .place) no-room)
+-- with the strict switch on or off
+pub told : Bool → Example → List ℕ
+told strict e = told-of (e .slice) (e .place) (readAnswer strict (e .slice) (e .place) no-room)
 
 pub should : Example → List ℕ
 should e = e .number ∷ e .line ∷ e .offset ∷ []
@@ -82,6 +86,23 @@ examples =
     record { slice = bytes "zz\nLOCUS x\nCONTIG " ++ sixteen ++ bytes "join(\n"; place = 3; number = 14; line = 2; offset = 11 } ∷
     []
 
-pub examples-hold : map told examples ≡ map should examples
-unfolding examples no-room numbers told-of told should four sixteen feeds lineStart spotOf stoppedUpTo stopped headerBegins headerEnds secondDefinition sectionsEnd deepPlace number chars utf8 tag until line lineEnd membersUpTo endUpTo members end run past behind baseNumber bases accession leaf plain begin membersIn locationFrom reading preamble tokens dateOf dateToken locusFrom locusOf locusLine locus fieldText fieldBytes field reference source ignoredLine headerField latest every featuresHeader bare escape quotedTurn quoted value valueOf qualifier featureFrom feature soFar deepFeature deepContig originTag letters features slashesLater middle deepIn tableFrom readRecord readAt piecesText piecesRow textsOf featureText qualifierCount locationCount layout sizes headOf fits answerOf readAnswer
+pub examples-hold : map (told false) examples ≡ map should examples
+unfolding examples no-room numbers told-of told should four sixteen feeds lineStart spotOf stoppedUpTo stopped headerBegins headerEnds secondDefinition sectionsEnd deepPlace number chars utf8 tag until line lineEnd membersUpTo endUpTo members end run past behind baseNumber bases accession leaf plain begin membersIn locationFrom reading preamble tokens dateOf dateToken locusFrom locusOf locusLine locus fieldText fieldBytes field reference source ignoredLine headerField latest every featuresHeader bare escape quotedTurn quoted value valueOf qualifier featureFrom feature soFar deepFeature deepContig originTag letters features slashesLater middle deepIn tableFrom readRecord recordBy readBy piecesText piecesRow textsOf featureText qualifierCount locationCount layout sizes headOf fits answerOf readAnswer
 examples-hold = refl
+
+-- with the switch on: 16 tells the line of the first letter without a code, and goes ahead of 8, 2 and 7; of it and a byte that is 9 the first in the file decides
+pub strict-examples : List Example
+strict-examples =
+    record { slice = four ++ bytes "ORIGIN\n ac\n gx\n//\n"; place = 0; number = 16; line = 4; offset = 51 } ∷
+    record { slice = bytes "z\n" ++ four ++ bytes "ORIGIN\n acgtE/\n"; place = 2; number = 16; line = 3; offset = 49 } ∷
+    record { slice = four ++ bytes "ORIGIN\n\nl"; place = 0; number = 16; line = 4; offset = 48 } ∷
+    record { slice = four ++ bytes "ORIGIN\n x\n-"; place = 0; number = 16; line = 3; offset = 47 } ∷
+    record { slice = four ++ bytes "ORIGIN\n -\nx"; place = 0; number = 9; line = 3; offset = 47 } ∷
+    record { slice = four ++ bytes "ORIGIN x\n ac//x\n"; place = 0; number = 8; line = 3; offset = 49 } ∷
+    record { slice = four ++ bytes "DEFINITION a\nDEFINITION b\nORIGIN\n x\n//\n"; place = 0; number = 5; line = 3; offset = 53 } ∷
+    record { slice = four ++ bytes "ORIGIN\n UuNn\n//\n"; place = 0; number = 6; line = 1; offset = 0 } ∷
+    []
+
+pub strict-examples-hold : map (told true) strict-examples ≡ map should strict-examples
+unfolding strict-examples no-room numbers told-of told should four feeds lineStart spotOf stoppedUpTo stopped headerBegins headerEnds secondDefinition sectionsEnd deepPlace number setOf chars utf8 tag until line lineEnd membersUpTo endUpTo members end run past behind baseNumber bases accession leaf plain begin membersIn locationFrom reading preamble tokens dateOf dateToken locusFrom locusOf locusLine locus fieldText fieldBytes field reference source ignoredLine headerField latest every featuresHeader bare escape quotedTurn quoted value valueOf qualifier featureFrom feature soFar deepFeature deepContig originTag letters features slashesLater middle deepIn tableFrom readRecord stray lettersFrom recordBy readBy piecesText piecesRow textsOf featureText qualifierCount locationCount layout sizes headOf fits answerOf readAnswer
+strict-examples-hold = refl

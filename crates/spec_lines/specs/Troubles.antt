@@ -10,7 +10,8 @@ use Rattle.spec_format.specs.Locus.{preambleTurn, locus}
 use Rattle.spec_format.specs.Header.{Field, headerField, textIn}
 use Rattle.spec_format.specs.Deep.{deepFeature}
 use Rattle.spec_format.specs.Origin.{Letters, AtSlash, AtEnd, Bad, letters, originTag}
-use Rattle.spec_format.specs.Record.{features, baseCount, leftBy, isThere, middle}
+use Rattle.spec_format.specs.Record.{features, baseCount, leftBy, isThere, listOf, middle}
+use Rattle.spec_format.specs.Strict.{strayIn}
 use Rattle.spec_format.specs.declared.Unread.{Unread}
 use Rattle.spec_format.specs.declared.Unread.the-variants as unread
 use Rattle.spec_format.specs.declared.ReadAnswer.{ReadAnswer}
@@ -79,7 +80,7 @@ deepWith s Cut = s
 unfoldable pub deepPlace : List ℕ → List ℕ
 deepPlace s = deepWith s (optional s (features s))
 
--- what stands from the trouble on, in the text from the place given on; 1 and 3 have no line
+-- what stands from the trouble on, in the text from the place given on; 1 and 3 have no line. 16 comes "with the letter's line" (ticket 7)
 abbrev pub troubled : Unread → List ℕ → May (List ℕ)
 troubled unread.AtEnd s = absent
 troubled unread.Unended s = is []
@@ -90,6 +91,7 @@ troubled unread.NoSlashes s = is (sectionsEnd (headerEnds s))
 troubled unread.OtherLength s = is (sectionsEnd (headerEnds s))
 troubled unread.BadLetter s = is (sectionsEnd (headerEnds s))
 troubled unread.TooDeep s = is (deepPlace (headerEnds s))
+troubled unread.StrayLetter s = is (listOf (strayIn s))
 
 -- THE LINE THAT AN ANSWER TELLS, of a call that gave the slice s and the place `at`
 abbrev pub spotAt : List ℕ → ℕ → May (List ℕ) → Spot

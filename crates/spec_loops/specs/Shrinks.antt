@@ -266,7 +266,7 @@ module _ {A : Type 0} (turn : List ℕ → Ans (Turn A)) (h : (s : List ℕ) →
       go ih No e = rw (endUpTo, e) (leaves-no 0 s)
       go ih Cut e = rw (endUpTo, e) (leaves-cut 0 s)
 
-  end-leaves : (s : List ℕ) → Leaves 0 s (end turn s)
+  pub end-leaves : (s : List ℕ) → Leaves 0 s (end turn s)
   unfolding end
   end-leaves s = upTo-leaves (suc (length s)) s
 

@@ -11,6 +11,7 @@ use borrow.Author.Tests.{le-leb}
 use Rattle.spec_format.specs.Bytes.{pick, May, absent, is}
 use Rattle.spec_format.specs.Table.{Table}
 use Rattle.spec_format.specs.Record.{Outcome, Read, Not, most, readAt}
+use Rattle.spec_format.specs.Strict.{readBy, lettersFit}
 use Rattle.spec_format.specs.Write.{written}
 use Rattle.spec_format.specs.WellFormed.{widthFine, ifIs, wellFormed}
 use Rattle.spec_format.specs.Keeping.{keeps}
@@ -25,9 +26,10 @@ use Rattle.spec_format.specs.declared.Unwritten.{Unwritten}
 use Rattle.spec_format.specs.declared.Unwritten.the-variants as unwritten
 use Rattle.spec_format.specs.declared.WriteAnswer.{WriteAnswer}
 use Rattle.spec_format.specs.declared.WriteAnswer.the-variants as answer
+use Rattle.spec_strict.specs.Switch.{as-read}
 use Rattle.spec_record_back.specs.LocusBack.{lengthFits}
 use Rattle.spec_record_back.specs.RecordsBack.{keepable}
-use Rattle.spec_record_back.specs.AnswersBack.{answer-back, answer-read}
+use Rattle.spec_record_back.specs.AnswersBack.{answer-alike, answer-read}
 use Rattle.spec_rooms.specs.LayoutBack.{layout-back}
 use Rattle.spec_rooms.specs.LayoutFine.{layout-fine}
 use Rattle.spec_rooms.specs.ReadRows.{read-rows}
@@ -139,65 +141,70 @@ thirteen-not-kept a = (to a, λ e. ap writeNumber e)
 -- ---- over rooms
 
 after-read :
-    (s : List ℕ) (at : ℕ) (q : Rooms) (t : Table) (rest : List ℕ) → readAt s at ≡ Read t rest → fits (sizes t) q ≡ true →
-    roomsAfter s at q ≡ overRooms (layout t) q
+    (strict : Bool) (s : List ℕ) (at : ℕ) (q : Rooms) (t : Table) (rest : List ℕ) → readBy strict s at ≡ Read t rest → fits (sizes t) q ≡ true →
+    roomsAfter strict s at q ≡ overRooms (layout t) q
 unfolding roomsAfter roomsOf
-after-read s at q t rest e f = rw (e, f)
+after-read strict s at q t rest e f = rw (e, f)
 
-module _ (s : List ℕ) (at : ℕ) (q : Rooms) (h : Head) (place : ℕ) where
+module _ (strict : Bool) (s : List ℕ) (at : ℕ) (q : Rooms) (h : Head) (place : ℕ) where
   -- what a reader's answer 0 says
   pub record DoneBy : Type 0 where
     pub table : Table
     pub rest : List ℕ
-    pub reads : readAt s at ≡ Read table rest
+    pub reads : readBy strict s at ≡ Read table rest
     pub fit : fits (sizes table) q ≡ true
     pub answered : h ≡ headOf table
     pub ended : place ≡ length s - length rest
 
-  pub done-by : readAnswer s at q ≡ read.Done h place → DoneBy
+  pub done-by : readAnswer strict s at q ≡ read.Done h place → DoneBy
   unfolding readAnswer answerOf
-  done-by e = go (readAt s at) refl
+  done-by e = go (readBy strict s at) refl
     where
-      fitted : (t : Table) (rest : List ℕ) → readAt s at ≡ Read t rest → (b : Bool) → fits (sizes t) q ≡ b → DoneBy
+      fitted : (t : Table) (rest : List ℕ) → readBy strict s at ≡ Read t rest → (b : Bool) → fits (sizes t) q ≡ b → DoneBy
       fitted t rest p true f = record { table = t; rest = rest; reads = p; fit = f; answered = cc; ended = cc }
       fitted t rest p false f = impossible cc
 
-      go : (o : Outcome) → readAt s at ≡ o → DoneBy
+      go : (o : Outcome) → readBy strict s at ≡ o → DoneBy
       go (Read t rest) p = fitted t rest p (fits (sizes t) q) refl
       go (Not why) p = impossible cc
 
-  rooms-are : (d : DoneBy) → roomsAfter s at q ≡ overRooms (layout (d .table)) q
-  rooms-are d = after-read s at q (d .table) (d .rest) (d .reads) (d .fit)
+  rooms-are : (d : DoneBy) → roomsAfter strict s at q ≡ overRooms (layout (d .table)) q
+  rooms-are d = after-read strict s at q (d .table) (d .rest) (d .reads) (d .fit)
 
-  pub done-holds : (t : Table) (rest : List ℕ) → DoneBy → readAt s at ≡ Read t rest → tableOf (roomsAfter s at q) h ≡ t
+  -- the table is the one that is read without the switch
+  pub done-reads : (d : DoneBy) → readAt s at ≡ Read (d .table) (d .rest)
+  done-reads d = as-read strict s at (d .table) (d .rest) (d .reads)
+
+  pub done-holds : (t : Table) (rest : List ℕ) → DoneBy → readAt s at ≡ Read t rest → tableOf (roomsAfter strict s at q) h ≡ t
   done-holds t rest d e =
-      let same : Read (d .table) (d .rest) ≡ Read t rest = sym (d .reads) ∙ e in
+      let same : Read (d .table) (d .rest) ≡ Read t rest = sym (done-reads d) ∙ e in
       let t-is : d .table ≡ t = cc in
       rw (rooms-are d, d .answered) (layout-back (d .table) q ∙ t-is)
 
   pub done-ends : (t : Table) (rest : List ℕ) → DoneBy → readAt s at ≡ Read t rest → place ≡ length s - length rest
   done-ends t rest d e =
-      let same : Read (d .table) (d .rest) ≡ Read t rest = sym (d .reads) ∙ e in
+      let same : Read (d .table) (d .rest) ≡ Read t rest = sym (done-reads d) ∙ e in
       let rest-is : d .rest ≡ rest = cc in
       d .ended ∙ ap (λ l. length s - length l) rest-is
 
-  pub done-fine : DoneBy → lengthsFine q ≡ true → roomsFine (roomsAfter s at q) h ≡ true
-  done-fine d l = rw (rooms-are d, d .answered) (layout-fine (d .table) q (read-rows s at (d .table) (d .rest) (d .reads)) (d .fit) l)
+  pub done-fine : DoneBy → lengthsFine q ≡ true → roomsFine (roomsAfter strict s at q) h ≡ true
+  done-fine d l = rw (rooms-are d, d .answered) (layout-fine (d .table) q (read-rows s at (d .table) (d .rest) (done-reads d)) (d .fit) l)
 
 module _
-    (W : ℕ) (truncate escape : Bool) (r : Rooms) (h : Head) (old : List ℕ) (k : ℕ) (e : keepingAnswer W truncate escape r h (length old) ≡ answer.Done k)
-    (n : lengthFits (tableOf r h) ≡ true) (m : k ≤ most) (q : Rooms) (f : fits (sizes (tableOf r h)) q ≡ true) (new : List ℕ)
+    (strict : Bool) (W : ℕ) (truncate escape : Bool) (r : Rooms) (h : Head) (old : List ℕ) (k : ℕ)
+    (e : keepingAnswer W truncate escape r h (length old) ≡ answer.Done k) (n : lengthFits (tableOf r h) ≡ true) (m : k ≤ most)
+    (c : lettersFit strict (tableOf r h) ≡ true) (q : Rooms) (f : fits (sizes (tableOf r h)) q ≡ true) (new : List ℕ)
     (is-new : new ≡ sliceAfter (keepingAnswer W truncate escape r h (length old)) (written W truncate escape (tableOf r h)) old) where
   text-is : take k new ≡ take k (sliceAfter (answer.Done k) (written W truncate escape (tableOf r h)) old)
   text-is = ap (take k) is-new ∙ ap (λ a. take k (sliceAfter a (written W truncate escape (tableOf r h)) old)) e
 
-  pub read-done : readAnswer (take k new) 0 q ≡ read.Done (headOf (tableOf r h)) k
+  pub read-done : readAnswer strict (take k new) 0 q ≡ read.Done (headOf (tableOf r h)) k
   read-done =
       rw text-is
-      (answer-read W truncate escape r h old k q e n (le-leb k most m) ∙
+      (answer-read W truncate escape r h strict old k q e n (le-leb k most m) c ∙
       ap (λ b. pick b (read.Done (headOf (tableOf r h)) k) (read.Room (sizes (tableOf r h)))) f)
 
-  pub read-back : tableOf (roomsAfter (take k new) 0 q) (headOf (tableOf r h)) ≡ tableOf r h
+  pub read-back : tableOf (roomsAfter strict (take k new) 0 q) (headOf (tableOf r h)) ≡ tableOf r h
   read-back =
-      rw (after-read (take k new) 0 q (tableOf r h) [] (rw text-is (answer-back W truncate escape r h old k e n (le-leb k most m))) f)
+      rw (after-read strict (take k new) 0 q (tableOf r h) [] (rw text-is (answer-alike W truncate escape r h strict old k e n (le-leb k most m) c)) f)
       (layout-back (tableOf r h) q)

@@ -7,9 +7,11 @@ use mathlib.Core.List.{List, _++_}
 use native.Mathlib.Omega.{arith}
 use lib.ListN.{length, take}
 use lib.Dec.{leb}
+use Rattle.spec_bases.specs.Bases.{coded}
 use Rattle.spec_format.specs.Bytes.{is, each, all}
 use Rattle.spec_format.specs.Table.{Table}
 use Rattle.spec_format.specs.Record.{Read, most, readAt}
+use Rattle.spec_format.specs.Strict.{readBy, lettersFit}
 use Rattle.spec_format.specs.Write.{written}
 use Rattle.spec_format.specs.WellFormed.{wellFormed}
 use Rattle.spec_format.specs.Keeping.{keeps}
@@ -20,6 +22,7 @@ use Rattle.spec_format.specs.declared.Length.the-variants as given
 use Rattle.spec_format.specs.declared.ReadAnswer.the-variants as read
 use Rattle.spec_format.specs.declared.Unwritten.the-variants as unwritten
 use Rattle.spec_format.specs.declared.WriteAnswer.the-variants as answer
+use Rattle.spec_strict.specs.Switch.{reads-alike}
 use Rattle.spec_record_back.specs.RecordBack.{lineEnds}
 use Rattle.spec_record_back.specs.RecordsBack.{keepable, kept-inside, Records, kept-all}
 use Rattle.spec_promise.specs.EmptyLines.{EmptyLine, endBytes, lines-inside}
@@ -47,6 +50,14 @@ record-comes-back W truncate escape before t rest k e m =
     kept-inside W truncate escape (width-fine W (k .narrowest) (k .widest)) before t rest
     (can-keep W truncate escape t (k .laidOut) (k .rules) (k .rowsRead) (length-fits t (λ n d. omega (arith, k .bases n d)))) e m
 
+-- The strict switch makes no difference to that, if the table's letters all have codes: with the switch on it is read back too.
+pub record-comes-back-strictly :
+    (W : ℕ) (truncate escape : Bool) (before : List ℕ) (t : Table) (rest : List ℕ) → Taken W truncate escape t → all coded (t .letters) ≡ true →
+    lineEnds rest ≡ false → leb (length (before ++ (written W truncate escape t ++ rest))) most ≡ true →
+    readBy true (before ++ (written W truncate escape t ++ rest)) (length before) ≡ Read t rest
+record-comes-back-strictly W truncate escape before t rest k c e m =
+    reads-alike true (before ++ (written W truncate escape t ++ rest)) (length before) t rest (record-comes-back W truncate escape before t rest k e m) c
+
 -- Empty lines that follow the record are taken with it, whether they end with LF or with CR LF. They are no part of the table, and the next record
 -- is read from behind them.
 pub empty-lines-are-taken :
@@ -67,38 +78,39 @@ records-come-back W truncate escape l u ts k m = kept-all W truncate escape (wid
 -- ---- rooms
 
 -- When the reader answers that it is done, the head that it answers and the rooms afterwards hold the table that the definitions read at that place,
--- whatever the rooms held before. The place that it answers is where the definitions stop, with `rest` left of the slice.
+-- whatever the rooms held before, and whether the strict switch is on or off. The place that it answers is where the definitions stop, with `rest` left
+-- of the slice.
 pub rooms-hold-what-was-read :
-    (s : List ℕ) (at : ℕ) (q : Rooms) (h : Head) (place : ℕ) (t : Table) (rest : List ℕ) → readAnswer s at q ≡ read.Done h place → readAt s at ≡ Read t rest →
-    (tableOf (roomsAfter s at q) h ≡ t) × (place ≡ length s - length rest)
-rooms-hold-what-was-read s at q h place t rest d e =
-    let by = done-by s at q h place d in
-    (done-holds s at q h place t rest by e, done-ends s at q h place t rest by e)
+    (strict : Bool) (s : List ℕ) (at : ℕ) (q : Rooms) (h : Head) (place : ℕ) (t : Table) (rest : List ℕ) → readAnswer strict s at q ≡ read.Done h place →
+    readAt s at ≡ Read t rest → (tableOf (roomsAfter strict s at q) h ≡ t) × (place ≡ length s - length rest)
+rooms-hold-what-was-read strict s at q h place t rest d e =
+    let by = done-by strict s at q h place d in
+    (done-holds strict s at q h place t rest by e, done-ends strict s at q h place t rest by e)
 
 -- What was read can be handed to a writer in the same rooms: number 10 is not due. That asks only that none of the rooms is longer than 16,777,216.
 pub what-was-read-can-be-written :
-    (s : List ℕ) (at : ℕ) (q : Rooms) (h : Head) (place : ℕ) → readAnswer s at q ≡ read.Done h place → lengthsFine q ≡ true →
-    roomsFine (roomsAfter s at q) h ≡ true
-what-was-read-can-be-written s at q h place d l = done-fine s at q h place (done-by s at q h place d) l
+    (strict : Bool) (s : List ℕ) (at : ℕ) (q : Rooms) (h : Head) (place : ℕ) → readAnswer strict s at q ≡ read.Done h place → lengthsFine q ≡ true →
+    roomsFine (roomsAfter strict s at q) h ≡ true
+what-was-read-can-be-written strict s at q h place d l = done-fine strict s at q h place (done-by strict s at q h place d) l
 
 -- The bytes that the keeping writer counts are read as done, up to their end. The head that is answered and the rooms afterwards hold the table of
 -- the rooms that were written.
-pub record Back (r : Rooms) (h : Head) (text : List ℕ) (k : ℕ) (q : Rooms) : Type 0 where
-  pub done : readAnswer text 0 q ≡ read.Done (headOf (tableOf r h)) k
-  pub same : tableOf (roomsAfter text 0 q) (headOf (tableOf r h)) ≡ tableOf r h
+pub record Back (strict : Bool) (r : Rooms) (h : Head) (text : List ℕ) (k : ℕ) (q : Rooms) : Type 0 where
+  pub done : readAnswer strict text 0 q ≡ read.Done (headOf (tableOf r h)) k
+  pub same : tableOf (roomsAfter strict text 0 q) (headOf (tableOf r h)) ≡ tableOf r h
 
 -- When the keeping writer answers that k bytes are written, of a table whose LOCUS length is below 2^32, these k bytes come back. They do so
--- through any rooms that the table fits, whatever those held, if k is at most 16,777,216.
+-- through any rooms that the table fits, whatever those held, if k is at most 16,777,216; with the strict switch on, if the table's letters all have codes.
 pub rooms-come-back :
-    (W : ℕ) (truncate escape : Bool) (r : Rooms) (h : Head) (old new : List ℕ) (k : ℕ) →
+    (strict : Bool) (W : ℕ) (truncate escape : Bool) (r : Rooms) (h : Head) (old new : List ℕ) (k : ℕ) →
     keepingAnswer W truncate escape r h (length old) ≡ answer.Done k →
     new ≡ sliceAfter (keepingAnswer W truncate escape r h (length old)) (written W truncate escape (tableOf r h)) old →
     ((n : ℕ) → h .length ≡ given.Bases n → n < 4294967296) → k ≤ most →
-    (q : Rooms) → fits (sizes (tableOf r h)) q ≡ true → Back r h (take k new) k q
-rooms-come-back W truncate escape r h old new k e s n m q f =
+    lettersFit strict (tableOf r h) ≡ true → (q : Rooms) → fits (sizes (tableOf r h)) q ≡ true → Back strict r h (take k new) k q
+rooms-come-back strict W truncate escape r h old new k e s n m c q f =
     let l = head-length-fits r h (λ j d. omega (arith, n j d)) in
     let u : k ≤ most = omega (arith, m) in
-    record { done = read-done W truncate escape r h old k e l u q f new s; same = read-back W truncate escape r h old k e l u q f new s }
+    record { done = read-done strict W truncate escape r h old k e l u c q f new s; same = read-back strict W truncate escape r h old k e l u c q f new s }
 
 -- ---- number 13
 

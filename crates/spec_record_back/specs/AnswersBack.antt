@@ -13,10 +13,12 @@ use Rattle.spec_format.specs.Write.{written}
 use Rattle.spec_format.specs.WellFormed.{widthFine, wellFormed}
 use Rattle.spec_format.specs.Keeping.{keeps}
 use Rattle.spec_format.specs.Rooms.{Rooms, tableOf, locationsRead, roomsFine, sizes, fits, headOf, answerOf, readAnswer}
+use Rattle.spec_format.specs.Strict.{readBy, lettersFit}
 use Rattle.spec_format.specs.Answers.{keepingAnswer, sliceAfter}
 use Rattle.spec_format.specs.declared.Head.{Head}
 use Rattle.spec_format.specs.declared.ReadAnswer.the-variants as read
 use Rattle.spec_format.specs.declared.WriteAnswer.the-variants as answer
+use Rattle.spec_strict.specs.Switch.{reads-alike}
 use Rattle.spec_rooms.specs.LocationRows.{fine-read}
 use Rattle.spec_texts_back.specs.Tests.{and-both}
 use Rattle.spec_record_back.specs.LocusBack.{lengthFits}
@@ -66,15 +68,23 @@ module _ (W : ℕ) (truncate escape : Bool) (r : Rooms) (h : Head) where
       (and-both (keeps W truncate escape (tableOf r h)) _ (a .rules) (and-both (locationsRead (tableOf r h)) _ (fine-read r h (a .rooms)) n)))
       (rw (a .count) at m))
 
+  -- with the switch on too, where its letters all have codes
+  pub answer-alike :
+      (strict : Bool) (old : List ℕ) (k : ℕ) → keepingAnswer W truncate escape r h (length old) ≡ answer.Done k → lengthFits (tableOf r h) ≡ true →
+      leb k most ≡ true → lettersFit strict (tableOf r h) ≡ true →
+      readBy strict (take k (sliceAfter (answer.Done k) (written W truncate escape (tableOf r h)) old)) 0 ≡ Read (tableOf r h) []
+  answer-alike strict old k e n m c =
+      reads-alike strict (take k (sliceAfter (answer.Done k) (written W truncate escape (tableOf r h)) old)) 0 (tableOf r h) [] (answer-back old k e n m) c
+
   -- and so the reader answers with that table, where it fits the rooms lent, all bytes taken, or with the sizes that it needs
   pub answer-read :
-      (old : List ℕ) (k : ℕ) (lent : Rooms) → keepingAnswer W truncate escape r h (length old) ≡ answer.Done k → lengthFits (tableOf r h) ≡ true →
-      leb k most ≡ true →
-      readAnswer (take k (sliceAfter (answer.Done k) (written W truncate escape (tableOf r h)) old)) 0 lent ≡
+      (strict : Bool) (old : List ℕ) (k : ℕ) (lent : Rooms) → keepingAnswer W truncate escape r h (length old) ≡ answer.Done k →
+      lengthFits (tableOf r h) ≡ true → leb k most ≡ true → lettersFit strict (tableOf r h) ≡ true →
+      readAnswer strict (take k (sliceAfter (answer.Done k) (written W truncate escape (tableOf r h)) old)) 0 lent ≡
       pick (fits (sizes (tableOf r h)) lent) (read.Done (headOf (tableOf r h)) k) (read.Room (sizes (tableOf r h)))
   unfolding readAnswer answerOf
-  answer-read old k lent e n m =
+  answer-read strict old k lent e n m c =
       let a : Kept k = answered (length old) k e in
       let s : List ℕ = take k (sliceAfter (answer.Done k) (written W truncate escape (tableOf r h)) old) in
       let l : length s - 0 ≡ k = omega (arith, ap length (filled old k a), a .count) in
-      rw (answer-back old k e n m, l)
+      rw (answer-alike strict old k e n m c, l)

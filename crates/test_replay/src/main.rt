@@ -41,6 +41,11 @@ fn replay_ticket5(counts: &mut [usize]) {
     test_stored_lines::say_source(b"vectors of ticket 5", counts);
 }
 
+fn replay_ticket7(counts: &mut [usize]) {
+    replay_file(b"ticket7-read.txt", counts);
+    test_stored_lines::say_source(b"vectors of ticket 7", counts);
+}
+
 fn replay_numbers(counts: &mut [usize]) {
     replay_file(b"numbers.txt", counts);
     test_stored_lines::say_source(b"numbers that neither has", counts);
@@ -53,12 +58,13 @@ fn replay_cases(counts: &mut [usize]) {
 }
 
 fn main() {
-    let mut counts = [0usize; 32];
+    let mut counts = [0usize; test_stored_lines::COUNTS];
     replay_rust(&mut counts);
     replay_vectors(&mut counts);
     replay_ticket1(&mut counts);
     replay_ticket2(&mut counts);
     replay_ticket5(&mut counts);
+    replay_ticket7(&mut counts);
     replay_numbers(&mut counts);
     replay_cases(&mut counts);
     test_stored_lines::say_counts(&counts);

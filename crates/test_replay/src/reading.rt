@@ -153,6 +153,7 @@ fn read_lent(
     input: &[u8],
     call: &[usize],
     n: usize,
+    strict: bool,
     texts: &mut [u8],
     references: &mut [usize],
     comments: &mut [usize],
@@ -172,6 +173,7 @@ fn read_lent(
     let reported = test_rows::read(
         input,
         at,
+        strict,
         &mut texts[0..a],
         &mut references[0..b],
         &mut comments[0..c],
@@ -190,6 +192,7 @@ fn read_input(
     input: &[u8],
     call: &[usize],
     n: usize,
+    strict: bool,
     counts: &mut [usize],
 ) -> Checked {
     let mut texts = io::buffer();
@@ -203,6 +206,7 @@ fn read_input(
         input,
         call,
         n,
+        strict,
         &mut texts,
         &mut references,
         &mut comments,
@@ -234,6 +238,7 @@ fn read_part(
     part: usize,
     call: &[usize],
     n: usize,
+    strict: bool,
     counts: &mut [usize],
 ) -> Checked {
     if input.len() < part {
@@ -242,11 +247,11 @@ fn read_part(
             same: false,
         };
     }
-    read_input(s, at, &input[0..part], call, n, counts)
+    read_input(s, at, &input[0..part], call, n, strict, counts)
 }
 
-// The reading whose fields start there.
-pub fn replay_reading(s: &[u8], at: usize, counts: &mut [usize]) -> Checked {
+// The reading whose fields start there, with the strict switch on or off.
+pub fn replay_reading(s: &[u8], at: usize, strict: bool, counts: &mut [usize]) -> Checked {
     let mut input = io::buffer();
     let mut call = number_room();
     let slice = take_text(s, at, &mut input);
@@ -258,6 +263,7 @@ pub fn replay_reading(s: &[u8], at: usize, counts: &mut [usize]) -> Checked {
         slice.count,
         &call,
         asked.count,
+        strict,
         counts,
     )
 }

@@ -1,4 +1,4 @@
-// Stored answers, run again and counted. A line of a file is one answer, `R` a reading, `W` a writing and `L` a location; oracle/README.md has its fields. Lines that
+// Stored answers, run again and counted. A line of a file is one answer, `R` a reading, `S` a strict one, `W` a writing and `L` a location; oracle/README.md has its fields. Lines that
 // begin `#` say how the file was made, and what a case shows.
 use crate::location::replay_location;
 use crate::reading::replay_reading;
@@ -8,6 +8,7 @@ use test_stored_lines::DIFFER;
 use test_stored_lines::LOCATIONS;
 use test_stored_lines::NOT_UNDERSTOOD;
 use test_stored_lines::READINGS;
+use test_stored_lines::STRICT;
 use test_stored_lines::WRITINGS;
 use test_stored_lines::byte_at;
 use test_stored_lines::count_departures;
@@ -23,7 +24,12 @@ ghost use Prim.Native.Nat.{_<_};
 fn replay_kind(s: &[u8], at: usize, kind: u8, counts: &mut [usize]) -> Checked {
     if kind == b'R' {
         count_one(counts, READINGS);
-        return replay_reading(s, at, counts);
+        return replay_reading(s, at, false, counts);
+    }
+    if kind == b'S' {
+        count_one(counts, READINGS);
+        count_one(counts, STRICT);
+        return replay_reading(s, at, true, counts);
     }
     if kind == b'W' {
         count_one(counts, WRITINGS);

@@ -2,6 +2,7 @@
 use Prim.Native.Nat.{ℕ, _*_, _≤_}
 use native.Mathlib.Nat.{zero-add}
 use native.Mathlib.Omega.{arith}
+use mathlib.Core.Bool.{Bool}
 use mathlib.Core.Path.{_≡_, ap, subst, _∙_}
 use mathlib.Core.List.{List, _++_}
 use lib.ListN.{length, take, drop, length-append, length-drop}
@@ -17,8 +18,8 @@ use Rattle.base_rows.specs.Flat.{flat-length}
 abbrev pub first : ℕ → Rooms → Rooms
 first k x = roomsIn (x .texts) (x .references) (x .comments) (take k (x .features)) (x .qualifiers) (x .locations) (x .letters)
 
-pub record Through (s : List ℕ) (at k : ℕ) (old new : Rooms) (r : Reported) : Type 0 where
-  pub answered : ReadReported s at (first k old) (first k new) r
+pub record Through (strict : Bool) (s : List ℕ) (at k : ℕ) (old new : Rooms) (r : Reported) : Type 0 where
+  pub answered : ReadReported strict s at (first k old) (first k new) r
   pub rest : drop k (new .features) ≡ drop k (old .features)
 
 -- ---- rows that were read into are put back
@@ -40,14 +41,14 @@ put-front n zs t e = subst (λ (k : ℕ). take k (flat zs ++ t) ≡ flat zs) (fl
 put-rest : (n : ℕ) (zs : List Feature) (t : List ℕ) → length zs ≡ n → drop (8 * n) (flat zs ++ t) ≡ t
 put-rest n zs t e = subst (λ (k : ℕ). drop k (flat zs ++ t) ≡ t) (flat-length zs ∙ ap (λ (k : ℕ). 8 * k) e) (drop-append-seam (flat zs) t)
 
-module _ (s : List ℕ) (at n : ℕ) (rows zs : List Feature) (old new : Rooms) (r : Reported) where
+module _ (strict : Bool) (s : List ℕ) (at n : ℕ) (rows zs : List Feature) (old new : Rooms) (r : Reported) where
   abbrev Rowed : Type 0
   Rowed =
-      ReadReported s at (roomsIn (old .texts) (old .references) (old .comments) (flat (take n rows)) (old .qualifiers) (old .locations) (old .letters))
+      ReadReported strict s at (roomsIn (old .texts) (old .references) (old .comments) (flat (take n rows)) (old .qualifiers) (old .locations) (old .letters))
       (roomsIn (new .texts) (new .references) (new .comments) (flat zs) (new .qualifiers) (new .locations) (new .letters)) r
 
   pub through : length rows ≡ 33 → n ≤ 33 → 8 * n ≤ length (old .features) → flat (take n rows) ≡ take (8 * n) (old .features) → length (zs ++ drop n rows) ≡ 33 → Rowed
-      → new .features ≡ sets (old .features) 0 (flat (take n (zs ++ drop n rows))) → Through s at (8 * n) old new r
+      → new .features ≡ sets (old .features) 0 (flat (take n (zs ++ drop n rows))) → Through strict s at (8 * n) old new r
   through e h k q l a p =
       let m : length zs ≡ n = as-long n zs rows e h l in
       let f : new .features ≡ flat zs ++ drop (8 * n) (old .features) = p ∙ rw (front n zs (drop n rows) m) (put-back n zs (old .features) m k) in

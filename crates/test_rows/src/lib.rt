@@ -102,6 +102,7 @@ fn put_rows(rows: [Feature; MOST_ROWS], n: usize, features: &mut [usize])
 fn read_lent(
     s: &[u8],
     at: usize,
+    strict: bool,
     texts: &mut [u8],
     references: &mut [usize],
     comments: &mut [usize],
@@ -113,12 +114,13 @@ fn read_lent(
     letters: &mut [u8],
 ) -> Reported
     requires { ⌜ (n ≤ 33) × (8 * n ≤ length (now features)) × (flat (take n rows) ≡ take (8 * n) (now features)) ⌝ }
-    ensures { λ r. ⌜ Through (now (s .entry)) at (8 * n) (roomsIn (now (texts .entry)) (now (references .entry)) (now (comments .entry)) (now (features .entry)) (now (qualifiers .entry)) (now (locations .entry)) (now (letters .entry))) (roomsIn (now (texts .exit)) (now (references .exit)) (now (comments .exit)) (now (features .exit)) (now (qualifiers .exit)) (now (locations .exit)) (now (letters .exit))) r ⌝ }
+    ensures { λ r. ⌜ Through strict (now (s .entry)) at (8 * n) (roomsIn (now (texts .entry)) (now (references .entry)) (now (comments .entry)) (now (features .entry)) (now (qualifiers .entry)) (now (locations .entry)) (now (letters .entry))) (roomsIn (now (texts .exit)) (now (references .exit)) (now (comments .exit)) (now (features .exit)) (now (qualifiers .exit)) (now (locations .exit)) (now (letters .exit))) r ⌝ }
 {
     let mut lent = rows;
     let reported = read_record::read(
         s,
         at,
+        strict,
         texts,
         references,
         comments,
@@ -143,6 +145,7 @@ fn too_many() -> Reported {
 pub fn read(
     s: &[u8],
     at: usize,
+    strict: bool,
     texts: &mut [u8],
     references: &mut [usize],
     comments: &mut [usize],
@@ -151,7 +154,7 @@ pub fn read(
     locations: &mut [usize],
     letters: &mut [u8],
 ) -> Reported
-    ensures { λ r. ⌜ (length (now (features .entry)) / 8 ≤ 33 → Through (now (s .entry)) at (8 * (length (now (features .entry)) / 8)) (roomsIn (now (texts .entry)) (now (references .entry)) (now (comments .entry)) (now (features .entry)) (now (qualifiers .entry)) (now (locations .entry)) (now (letters .entry))) (roomsIn (now (texts .exit)) (now (references .exit)) (now (comments .exit)) (now (features .exit)) (now (qualifiers .exit)) (now (locations .exit)) (now (letters .exit))) r) ⌝ }
+    ensures { λ r. ⌜ (length (now (features .entry)) / 8 ≤ 33 → Through strict (now (s .entry)) at (8 * (length (now (features .entry)) / 8)) (roomsIn (now (texts .entry)) (now (references .entry)) (now (comments .entry)) (now (features .entry)) (now (qualifiers .entry)) (now (locations .entry)) (now (letters .entry))) (roomsIn (now (texts .exit)) (now (references .exit)) (now (comments .exit)) (now (features .exit)) (now (qualifiers .exit)) (now (locations .exit)) (now (letters .exit))) r) ⌝ }
 {
     let n = features.len() / 8;
     if MOST_ROWS < n {
@@ -161,6 +164,7 @@ pub fn read(
     read_lent(
         s,
         at,
+        strict,
         texts,
         references,
         comments,

@@ -1,22 +1,28 @@
-// What is counted: 0 to 14 are answers by their number, and these.
-pub const TWO_OR_FOUR: usize = 15;
+// What is counted: 0 to 14 and 16 are answers by their number (15 is no answer of a reader or a writer), and these.
+pub const TWO_OR_FOUR: usize = 17;
 
-pub const REFUSED: usize = 16;
+pub const REFUSED: usize = 18;
 // Plus the departure's number; the place itself is "no departure".
-pub const DEPARTURES: usize = 17;
+pub const DEPARTURES: usize = 19;
 
-pub const READINGS: usize = 25;
+pub const READINGS: usize = 27;
 
-pub const WRITINGS: usize = 26;
+pub const WRITINGS: usize = 28;
 
-pub const LOCATIONS: usize = 27;
+pub const LOCATIONS: usize = 29;
 
 // Readings whose line and offset are stored too.
-pub const LINES: usize = 28;
+pub const LINES: usize = 30;
 
-pub const NOT_UNDERSTOOD: usize = 29;
+// Readings with the strict switch on.
+pub const STRICT: usize = 31;
 
-pub const DIFFER: usize = 30;
+pub const NOT_UNDERSTOOD: usize = 32;
+
+pub const DIFFER: usize = 33;
+
+// Places for all of these.
+pub const COUNTS: usize = 34;
 
 // One more at that place, if there is such a place.
 pub fn count_one(counts: &mut [usize], i: usize) {
@@ -122,11 +128,13 @@ pub fn say_counts(counts: &[usize]) {
         return;
     }
     say_numbers(counts);
+    say_line(b"number 16: ", counts[16]);
     say_line(b"2 or 4: ", counts[TWO_OR_FOUR]);
     say_line(b"2, 4, 5, 7, 8 or 9: ", counts[REFUSED]);
     say_departures(counts);
     say_line(b"no departure: ", counts[DEPARTURES]);
     say_line(b"with line and offset: ", counts[LINES]);
+    say_line(b"strict readings: ", counts[STRICT]);
     say_line(b"not understood: ", counts[NOT_UNDERSTOOD]);
     say_line(b"differ: ", counts[DIFFER]);
 }

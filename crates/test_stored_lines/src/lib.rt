@@ -3,11 +3,13 @@ mod counts;
 mod fields;
 mod room;
 
+pub use counts::COUNTS;
 pub use counts::DIFFER;
 pub use counts::LINES;
 pub use counts::LOCATIONS;
 pub use counts::NOT_UNDERSTOOD;
 pub use counts::READINGS;
+pub use counts::STRICT;
 pub use counts::WRITINGS;
 pub use counts::count_answer;
 pub use counts::count_departures;

@@ -1,12 +1,13 @@
 //! The arguments of the programs and the messages that they print, as the proved programs take and print them: byte for byte the same (crates app_options and app_lines).
 use std::io::Read;
 use std::os::unix::ffi::OsStrExt;
-use vilggodan::{Error, Layout, Line};
+use vilggodan::{Error, Layout, Line, Record};
 
-/// What was asked for: how a record is laid out, whether the keeping writer is wanted, how many columns a message's line may take, and the input's name.
+/// What was asked for: how a record is laid out, whether the keeping writer and strict reading are wanted, how many columns a message's line may take, and the input's name.
 pub struct Asked {
     pub layout: Layout,
     pub keep: bool,
+    strict: bool,
     columns: usize,
     name: Option<Vec<u8>>,
 }
@@ -19,12 +20,13 @@ fn number(word: &[u8]) -> Option<usize> {
 
 /// None where an argument was not understood.
 pub fn asked() -> Option<Asked> {
-    let mut asked = Asked { layout: Layout::default(), keep: false, columns: 80, name: None };
+    let mut asked = Asked { layout: Layout::default(), keep: false, strict: false, columns: 80, name: None };
     for word in std::env::args_os().skip(1) {
         match word.as_bytes() {
             b"keep" => asked.keep = true,
             b"truncate" => asked.layout.truncate = true,
             b"escape" => asked.layout.escape = true,
+            b"strict" => asked.strict = true,
             word => {
                 if let Some(name) = word.strip_prefix(b"name=") {
                     asked.name = Some(name.to_vec()).filter(|name| name.len() <= 4_091);
@@ -74,6 +76,15 @@ fn locus(input: &[u8], at: usize) -> usize {
 }
 
 impl Asked {
+    /// Reads the record at a place, strictly if that was asked for, and gives the place after it.
+    pub fn read(&self, record: &mut Record, input: &[u8], at: usize) -> Result<usize, Error> {
+        if self.strict {
+            record.read_strict(input, at)
+        } else {
+            record.read(input, at)
+        }
+    }
+
     /// The message about a record that was not read.
     pub fn unread(&self, input: &[u8], ordinal: usize, error: Error) -> Vec<u8> {
         self.message(input, error.line.map(|line| line.offset), ordinal, error)

@@ -1,6 +1,5 @@
 -- `read_letters::count_from` meets its contract. The invariant: the answer of the whole is the answer from here. Assumes nothing.
-use Rattle.spec_format.specs.Origin.{letters}
-use Rattle.read_letters.specs.Runs.{tally, plus}
+use Rattle.read_letters.specs.Runs.{lettersBy, tally, plus}
 use Rattle.read_letters.proofs.Passing.{counting}
 use Prim.Native.Nat.{_+_, _-_, _≤_}
 use mathlib.Core.Path.{_≡_}
@@ -10,10 +9,11 @@ use Rattle.read_letters.proofs.count_from.Statement.{statement}
 use Rattle.read_letters.proofs.count_from.Tie as tie
 
 abbrev Inv-loop : tie.InvT-loop
-Inv-loop s at n k₀ i₀ k i = (at ≤ i) × (i ≤ length s) × (k + (at - n) ≤ i) × (plus n (tally (letters (drop at s))) ≡ plus k (tally (letters (drop i s))))
+Inv-loop s at n strict k₀ i₀ k i =
+    (at ≤ i) × (i ≤ length s) × (k + (at - n) ≤ i) × (plus n (tally (lettersBy strict (drop at s))) ≡ plus k (tally (lettersBy strict (drop i s))))
 
 abbrev μ-loop : tie.MeasureT-loop
-μ-loop s at n k₀ i₀ k i = length s - i
+μ-loop s at n strict k₀ i₀ k i = length s - i
 
 loop-holds : tie.Need-loop-holds Inv-loop μ-loop
 loop-holds c = search (counting, needs)
@@ -21,8 +21,8 @@ loop-holds c = search (counting, needs)
 shared-slice-read-b : tie.Need-shared-slice-read-b Inv-loop μ-loop
 shared-slice-read-b c = search (counting, needs)
 
-is-letter-requires : tie.Need-is-letter-requires Inv-loop μ-loop
-is-letter-requires c κs = search (counting, needs)
+is-taken-requires : tie.Need-is-taken-requires Inv-loop μ-loop
+is-taken-requires c κs = search (counting, needs)
 
 add-k : tie.Need-add-k Inv-loop μ-loop
 add-k c = search (counting, needs)
@@ -65,7 +65,7 @@ count-from-spec =
     μ-loop
     loop-holds
     shared-slice-read-b
-    is-letter-requires
+    is-taken-requires
     add-k
     add-i
     loop-less

@@ -4,17 +4,17 @@ use mathlib.Core.Path.{_≡_}
 use lib.ListN.{length, drop}
 use native.Mathlib.Omega.{arith}
 use borrow.Author.Needs.{needs}
-use Rattle.spec_format.specs.Origin.{letters}
-use Rattle.read_letters.specs.Runs.{tally, plus}
+use Rattle.read_letters.specs.Runs.{lettersBy, tally, plus}
 use Rattle.read_letters.proofs.Passing.{count-sixty, count-feed, counts-from, plus-none}
 use Rattle.read_letters.proofs.count_letters.Statement.{statement}
 use Rattle.read_letters.proofs.count_letters.Tie as tie
 
 abbrev Inv-loop : tie.InvT-loop
-Inv-loop s at k₀ i₀ k i = (at ≤ i) × (i ≤ length s) × (k + at ≤ i) × (tally (letters (drop at s)) ≡ plus k (tally (letters (drop i s))))
+Inv-loop s at strict k₀ i₀ k i =
+    (at ≤ i) × (i ≤ length s) × (k + at ≤ i) × (tally (lettersBy strict (drop at s)) ≡ plus k (tally (lettersBy strict (drop i s))))
 
 abbrev μ-loop : tie.MeasureT-loop
-μ-loop s at k₀ i₀ k i = length s - i
+μ-loop s at strict k₀ i₀ k i = length s - i
 
 loop-holds : tie.Need-loop-holds Inv-loop μ-loop
 loop-holds c = (search needs, search needs, search needs, plus-none _)
@@ -35,7 +35,7 @@ loop-less : tie.Need-loop-less Inv-loop μ-loop
 loop-less c = search needs
 
 loop-again : tie.Need-loop-again Inv-loop μ-loop
-loop-again c = (omega arith, omega arith, omega arith, count-sixty _ _ _ _ (omega arith) (c .before .usual .ensures .go (c .if1 .taken)) (c .before .before .before .loop .inv .3))
+loop-again c = (omega arith, omega arith, omega arith, count-sixty _ _ _ _ _ (omega arith) (c .before .usual .ensures .go (c .if1 .taken)) (c .before .before .before .loop .inv .3))
 
 shared-slice-read-if2 : tie.Need-shared-slice-read-if2 Inv-loop μ-loop
 shared-slice-read-if2 c = search needs
@@ -53,7 +53,7 @@ loop-less-2 : tie.Need-loop-less-2 Inv-loop μ-loop
 loop-less-2 c = search needs
 
 loop-again-2 : tie.Need-loop-again-2 Inv-loop μ-loop
-loop-again-2 c = (omega arith, omega arith, omega arith, count-feed (c .before .before .before .before .before .before .before .args .s .now) (c .before .before .before .before .before .loop .i) _ _ (c .before .before .before .before .before .loop .inv .3) (omega arith) (c .if2 .left))
+loop-again-2 c = (omega arith, omega arith, omega arith, count-feed (c .before .before .before .before .before .before .before .args .strict) (c .before .before .before .before .before .before .before .args .s .now) (c .before .before .before .before .before .loop .i) _ _ (c .before .before .before .before .before .loop .inv .3) (omega arith) (c .if2 .left))
 
 count-from-requires-2 : tie.Need-count-from-requires-2 Inv-loop μ-loop
 count-from-requires-2 c κs = search needs

@@ -1,35 +1,37 @@
 -- `read_letters::letters_in` meets its contract. Assumes nothing.
-use Prim.Native.Nat.{_+_, _-_, _≤_}
+use Prim.Native.Nat.{_-_, _≤_}
 use mathlib.Core.Path.{_≡_, sym}
-use lib.ListN.{getD}
 use native.Mathlib.Omega.{arith}
 use borrow.Author.Needs.{needs}
 use Rattle.spec_format.specs.Bytes.{letter}
-use Rattle.read_letters.specs.Runs.{lettersIn}
-use Rattle.read_letters.proofs.Passing.{one-most, in-none, in-more}
+use Rattle.read_letters.specs.Runs.{countIn}
+use Rattle.read_letters.proofs.Passing.{in-none, one-small, one-counted}
 use Rattle.read_letters.proofs.letters_in.Statement.{statement}
 use Rattle.read_letters.proofs.letters_in.Tie as tie
 
 abbrev Inv-loop : tie.InvT-loop
-Inv-loop s at n₀ j₀ n j = (j ≤ 65) × (n ≤ j) × (n ≡ lettersIn s at j)
+Inv-loop s at n₀ j₀ n j = (j ≤ 65) × (n ≤ j) × (n ≡ countIn letter s at j)
 
 abbrev μ-loop : tie.MeasureT-loop
 μ-loop s at n₀ j₀ n j = 65 - j
 
 loop-holds : tie.Need-loop-holds Inv-loop μ-loop
-loop-holds c = (search needs, search needs, sym (in-none _ _))
+loop-holds c = (search needs, search needs, sym (in-none _ _ _))
 
-add-letter-one : tie.Need-add-letter-one Inv-loop μ-loop
-add-letter-one c = search needs
+add-is-letter : tie.Need-add-is-letter Inv-loop μ-loop
+add-is-letter c = search needs
 
-shared-slice-read-letter-one : tie.Need-shared-slice-read-letter-one Inv-loop μ-loop
-shared-slice-read-letter-one c = search needs
+shared-slice-read-is-letter : tie.Need-shared-slice-read-is-letter Inv-loop μ-loop
+shared-slice-read-is-letter c = search needs
 
-letter-one-requires : tie.Need-letter-one-requires Inv-loop μ-loop
-letter-one-requires c κs = search needs
+is-letter-requires : tie.Need-is-letter-requires Inv-loop μ-loop
+is-letter-requires c κs = search needs
+
+one-if-requires : tie.Need-one-if-requires Inv-loop μ-loop
+one-if-requires c κs = search needs
 
 add-n : tie.Need-add-n Inv-loop μ-loop
-add-n c = omega (arith, c .letter-one .ensures, one-most (letter (getD (c .before .before .before .before .before .args .s .now) (c .before .before .before .before .before .args .at + c .before .before .before .loop .j) 0)))
+add-n c = omega (arith, one-small _ _ _ (c .before .is-letter .ensures) (c .one-if .ensures))
 
 add-j : tie.Need-add-j Inv-loop μ-loop
 add-j c = search needs
@@ -39,9 +41,11 @@ loop-less c = search needs
 
 loop-again : tie.Need-loop-again Inv-loop μ-loop
 loop-again c =
-    let c3 = c .before .before .before in
-    let c5 = c3 .before .before in
-    (omega arith, omega (arith, c .letter-one .ensures, one-most (letter (getD (c5 .args .s .now) (c5 .args .at + c3 .loop .j) 0))), omega (arith, c .letter-one .ensures, in-more (c5 .args .s .now) (c5 .args .at) (c3 .loop .j)))
+    let c4 = c .before .before .before .before in (
+      omega arith,
+      omega (arith, one-small _ _ _ (c .before .is-letter .ensures) (c .one-if .ensures)),
+      one-counted letter _ _ _ _ _ _ (c4 .loop .inv .2) (c .before .is-letter .ensures) (c .one-if .ensures),
+    )
 
 returns : tie.Need-returns Inv-loop μ-loop
 returns c = let e : c .before .loop .j ≡ 65 = omega arith in rw e at (c .before .loop .inv .2)
@@ -53,9 +57,10 @@ letters-in-spec =
     Inv-loop
     μ-loop
     loop-holds
-    add-letter-one
-    shared-slice-read-letter-one
-    letter-one-requires
+    add-is-letter
+    shared-slice-read-is-letter
+    is-letter-requires
+    one-if-requires
     add-n
     add-j
     loop-less

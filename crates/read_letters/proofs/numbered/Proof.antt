@@ -1,5 +1,5 @@
 -- `read_letters::numbered` meets its contract. Assumes nothing.
-use Rattle.read_letters.proofs.Passing.{runs-false, numbered-law}
+use Rattle.read_letters.proofs.Passing.{skips-false, numbered-law}
 use borrow.Author.Needs.{needs}
 use Rattle.read_letters.proofs.numbered.Statement.{statement}
 use Rattle.read_letters.proofs.numbered.Tie as tie
@@ -14,7 +14,7 @@ is-digit-requires : tie.Need-is-digit-requires
 is-digit-requires c κs = search needs
 
 returns : tie.Need-returns
-returns c = runs-false
+returns c = skips-false
 
 skips-requires : tie.Need-skips-requires
 skips-requires c κs = search needs

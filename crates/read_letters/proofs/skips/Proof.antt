@@ -1,7 +1,6 @@
 -- `read_letters::skips` meets its contract. The invariant: the answer of the whole is the answer from here. Assumes nothing.
-use mathlib.Core.List.{[]}
-use Rattle.read_letters.specs.Runs.{Runs}
-use Rattle.read_letters.proofs.Passing.{runs-none, skips-more}
+use Rattle.read_letters.specs.Runs.{Skips}
+use Rattle.read_letters.proofs.Passing.{skips-none, skips-more}
 use Prim.Native.Nat.{_+_, _-_, _≤_}
 use mathlib.Core.Path.{_≡_}
 use native.Mathlib.Omega.{arith}
@@ -10,13 +9,13 @@ use Rattle.read_letters.proofs.skips.Statement.{statement}
 use Rattle.read_letters.proofs.skips.Tie as tie
 
 abbrev Inv-loop : tie.InvT-loop
-Inv-loop s at n ok₀ j₀ ok j = (j ≤ n) × Runs s at (at + j) [] ok
+Inv-loop s at n ok₀ j₀ ok j = (j ≤ n) × Skips s at (at + j) ok
 
 abbrev μ-loop : tie.MeasureT-loop
 μ-loop s at n ok₀ j₀ ok j = n - j
 
 loop-holds : tie.Need-loop-holds Inv-loop μ-loop
-loop-holds c = (search needs, runs-none _ _)
+loop-holds c = (search needs, skips-none _ _)
 
 add-is-skipped : tie.Need-add-is-skipped Inv-loop μ-loop
 add-is-skipped c = search needs

@@ -26,7 +26,7 @@ numbered-requires : tie.Need-numbered-requires
 numbered-requires c κs = search needs
 
 returns-3 : tie.Need-returns-3
-returns-3 c = usual-law _ _ _ _ _ (c .before .before .before .before .ends .ensures) (c .before .before .before .if1 .left) (c .before .before .sixty .ensures) (c .before .if2 .left) (c .numbered .ensures)
+returns-3 c = usual-law _ _ _ _ _ _ (c .before .before .before .before .ends .ensures) (c .before .before .before .if1 .left) (c .before .before .sixty .ensures) (c .before .if2 .left) (c .numbered .ensures)
 
 pub usual-spec : {M : Type 1} → statement M
 usual-spec =

@@ -28,8 +28,11 @@ must-number-requires c κs = search needs
 returns-2 : tie.Need-returns-2
 returns-2 c = search (sequencing, needs)
 
-enum-told : tie.Need-enum-told
-enum-told c = search needs
+enum-known-next : tie.Need-enum-known-next
+enum-known-next c = search needs
+
+bad-letter-requires : tie.Need-bad-letter-requires
+bad-letter-requires c κs = search (sequencing, needs)
 
 returns-3 : tie.Need-returns-3
 returns-3 c = search (sequencing, needs)
@@ -52,7 +55,8 @@ sequence-at-spec =
     enum-known-count-2
     must-number-requires
     returns-2
-    enum-told
+    enum-known-next
+    bad-letter-requires
     returns-3
     returns-4
     returns-5)

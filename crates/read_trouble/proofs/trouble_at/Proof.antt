@@ -49,6 +49,12 @@ enum-told-9 c = search needs
 deep-location-requires : tie.Need-deep-location-requires
 deep-location-requires c κs = search (finding, needs)
 
+enum-told-10 : tie.Need-enum-told-10
+enum-told-10 c = search needs
+
+sections-requires-4 : tie.Need-sections-requires-4
+sections-requires-4 c κs = search (finding, needs)
+
 returns : tie.Need-returns
 returns c = search (finding, needs)
 
@@ -76,6 +82,9 @@ returns-8 c = search (finding, needs)
 returns-9 : tie.Need-returns-9
 returns-9 c = search (finding, needs)
 
+returns-10 : tie.Need-returns-10
+returns-10 c = search (finding, needs)
+
 pub trouble-at-spec : {M : Type 1} → statement M
 trouble-at-spec =
     tie.close
@@ -95,6 +104,8 @@ trouble-at-spec =
     sections-requires-3
     enum-told-9
     deep-location-requires
+    enum-told-10
+    sections-requires-4
     returns
     returns-2
     returns-3
@@ -103,4 +114,5 @@ trouble-at-spec =
     returns-6
     returns-7
     returns-8
-    returns-9)
+    returns-9
+    returns-10)

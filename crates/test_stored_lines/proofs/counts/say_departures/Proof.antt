@@ -1,4 +1,4 @@
--- Six turns.
+-- A turn for each departure.
 use Prim.Native.Nat.{_-_, _≤_}
 use borrow.Author.Needs.{needs}
 use Rattle.test_stored_lines.proofs.counts.say_departures.Statement.{statement}

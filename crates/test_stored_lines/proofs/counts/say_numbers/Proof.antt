@@ -1,4 +1,4 @@
--- Fourteen turns.
+-- A turn for each number up to 14.
 use Prim.Native.Nat.{_-_, _≤_}
 use borrow.Author.Needs.{needs}
 use Rattle.test_stored_lines.proofs.counts.say_numbers.Statement.{statement}

@@ -1,0 +1,1 @@
+// Nothing runs here: specs/ says which bases a letter stands for.

@@ -1,0 +1,5 @@
+pub mod Skipped
+pub mod Laws
+pub mod Comes
+pub mod Grounds
+pub mod Switch

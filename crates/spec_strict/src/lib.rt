@@ -1,0 +1,1 @@
+// Nothing runs here: specs/Switch.antt says what the strict switch changes and what it leaves, and the other files why.
