@@ -143,7 +143,7 @@ fn show_line(fd: i32, input: &[u8], from: usize, columns: usize) {
 // ---- the message
 
 // What is refused, and how that is said: the record's ordinal and the number; the descriptor, the columns that the line may take, and the argument with the input's name (0: it has none).
-#[derive(Drop)]
+#[derive(Clone, Copy)]
 pub struct Message {
     pub ordinal: usize,
     pub number: usize,

@@ -2,7 +2,7 @@
 #![tactic(auto)]
 ghost use Rattle.std.specs.Prelude.{◌≤◌};
 
-#[derive(Drop)]
+#[derive(Clone, Copy)]
 pub struct Options {
     pub width: usize,
     pub keep: bool,
@@ -16,7 +16,7 @@ pub struct Options {
 }
 
 // What was asked for, or that it was not understood.
-#[derive(Drop)]
+#[derive(Clone, Copy)]
 pub enum Asked {
     Options(Options),
     Nothing,

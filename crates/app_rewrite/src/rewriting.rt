@@ -7,7 +7,7 @@ use spec_format::{How, ReadAnswer, WriteAnswer};
 use spec_lines::Spot;
 
 // How a record went.
-#[derive(Drop)]
+#[derive(Clone, Copy)]
 enum Rewritten {
     // It was put out, and the next one starts there.
     On(usize),

@@ -12,7 +12,7 @@ use spec_format::{
 };
 
 // What the reader answered, with the line that it tells, and then the writer.
-#[derive(Drop)]
+#[derive(Clone, Copy)]
 pub struct Round {
     pub read: Reported,
     pub wrote: WriteAnswer,

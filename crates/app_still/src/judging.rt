@@ -7,7 +7,7 @@ use app_round::Round;
 use spec_format::{Head, How, MOST, ReadAnswer, Text, WriteAnswer};
 
 // How a record went.
-#[derive(Drop)]
+#[derive(Clone, Copy)]
 enum Judged {
     // It was read and judged, and the next one starts there.
     On(usize),

@@ -7,7 +7,7 @@ use spec_format::Span;
 
 // A feature: its kind, its location, which qualifiers are its own, and which rows are its location's. In memory it is as in C, for api/vilggodan.h.
 #[repr(C)]
-#[derive(Drop)]
+#[derive(Clone, Copy)]
 pub struct Feature {
     pub kind: Span,
     pub location: Span,
@@ -17,7 +17,7 @@ pub struct Feature {
     pub rows: usize,
 }
 
-#[derive(Drop)]
+#[derive(Clone, Copy)]
 pub enum Fetched {
     Row(Feature),
     Outside,

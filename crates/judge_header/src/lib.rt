@@ -16,7 +16,7 @@ use scan_utf8::utf8_ok;
 use spec_format::{Head, SourceText, Text};
 
 // A text that can be laid out at a width, or one that is read back as it was.
-#[derive(Drop)]
+#[derive(Clone, Copy)]
 pub enum Rule {
     Fine(usize),
     Kept(usize),

@@ -13,7 +13,7 @@ use read_location::{Location, piece_at};
 use spec_format::{ContigText, Span};
 
 // Number 10 is not due; and then number 11 is not due either.
-#[derive(Drop)]
+#[derive(Clone, Copy)]
 pub struct Located {
     pub fine: bool,
     pub read: bool,

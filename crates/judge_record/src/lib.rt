@@ -23,7 +23,7 @@ pub fn width_fine(width: usize) -> bool
 }
 
 // Whether a table can be written, or why not.
-#[derive(Drop)]
+#[derive(Clone, Copy)]
 pub enum Verdict {
     Fine,
     Not(Unwritten),
@@ -85,7 +85,7 @@ fn first_letters_fine(bases: Length, letters: &[u8], n: usize) -> bool
 }
 
 // What is asked of a text of LOCUS.
-#[derive(Drop)]
+#[derive(Clone, Copy)]
 pub enum Test {
     Printing,
     Spaceless,

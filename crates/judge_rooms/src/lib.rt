@@ -146,7 +146,7 @@ fn qualifiers_fine(
 }
 
 // Where the qualifiers of the next feature may start, or that this one is not in order. Its location rows are not looked at.
-#[derive(Drop)]
+#[derive(Clone, Copy)]
 pub enum Next {
     From(usize),
     Wrong,

@@ -240,7 +240,7 @@ fn lines_kept(text: &[u8], quote: bool, width: usize, indent: usize, start: usiz
 }
 
 // The columns used after a byte, or that its line may not be so.
-#[derive(Drop)]
+#[derive(Clone, Copy)]
 pub enum Column {
     At(usize),
     Broken,

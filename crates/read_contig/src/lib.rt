@@ -16,7 +16,7 @@ use scan_bytes::Step;
 use scan_location_bytes::Laid;
 
 // The entry, how many rows its reading has, and the place after it; or that a seventeenth word opens in it.
-#[derive(Drop)]
+#[derive(Clone, Copy)]
 pub enum ContigAt {
     Got {
         entry: MayEntry,

@@ -16,7 +16,7 @@ use scan_bytes::{Line, Step};
 use scan_utf8::State;
 
 // A further line's text, and the line after it; or that none stands here.
-#[derive(Drop)]
+#[derive(Clone, Copy)]
 enum Further {
     Line {
         from: usize,
@@ -29,7 +29,7 @@ enum Further {
 }
 
 // A bare text's length, the place after it, and the state in which it leaves the test of UTF-8.
-#[derive(Drop)]
+#[derive(Clone, Copy)]
 pub enum Bare {
     Got {
         length: usize,
@@ -41,7 +41,7 @@ pub enum Bare {
 }
 
 // A bare text where it stands, in one line up to `end` or over several with this length together, and the place after it.
-#[derive(Drop)]
+#[derive(Clone, Copy)]
 pub enum Stretch {
     Line { end: usize, next: usize },
     Lines { length: usize, next: usize },

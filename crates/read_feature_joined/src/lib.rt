@@ -2,7 +2,7 @@
 #![tactic(auto)]
 
 // The text's length and the place after it; or no, or that the slice ended before that was clear.
-#[derive(Drop)]
+#[derive(Clone, Copy)]
 pub enum Value {
     Got { length: usize, next: usize },
     No,

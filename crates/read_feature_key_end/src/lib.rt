@@ -9,7 +9,7 @@ use read_feature_value::Read;
 use scan_bytes::Step;
 
 // No value; or one that starts at `from`, with its length and how it was read; and the place after it.
-#[derive(Drop)]
+#[derive(Clone, Copy)]
 pub enum Tail {
     Absent(usize),
     With {

@@ -15,7 +15,7 @@ use read_location::Location;
 use scan_location_bytes::Laid;
 
 // A location's length, the place after it, how many rows its reading has, and whether it is known to stand in one line.
-#[derive(Drop)]
+#[derive(Clone, Copy)]
 pub enum Located {
     Got {
         length: usize,

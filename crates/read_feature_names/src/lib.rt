@@ -10,7 +10,7 @@ ghost use Rattle.read_feature_names.specs.Headed.{header_words, header_gap, kind
 use scan_bytes::Step;
 
 // A feature's kind is first..end, and its location starts at `next`.
-#[derive(Drop)]
+#[derive(Clone, Copy)]
 pub enum Kind {
     Got {
         first: usize,
@@ -22,7 +22,7 @@ pub enum Kind {
 }
 
 // A qualifier's key is first..end.
-#[derive(Drop)]
+#[derive(Clone, Copy)]
 pub enum Key {
     Got { first: usize, end: usize },
     No,

@@ -8,14 +8,14 @@ ghost use Rattle.read_feature_qualifier_rows.specs.Puts.{Standing, PutTwo, Quali
 use read_feature_qualifiers::{QualifierAt, ValueAt};
 
 // The places after a qualifier's texts and after its row.
-#[derive(Drop)]
+#[derive(Clone, Copy)]
 pub struct Places {
     pub text: usize,
     pub row: usize,
 }
 
 // The place after the last qualifier, those after its texts and its row, and how many qualifiers there were.
-#[derive(Drop)]
+#[derive(Clone, Copy)]
 pub struct Run {
     pub next: usize,
     pub text: usize,

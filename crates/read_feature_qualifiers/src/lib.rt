@@ -11,7 +11,7 @@ use read_feature_key_end::Tail;
 use read_feature_names::Key;
 
 // A qualifier's value: none, or one that starts at `from`, with its length and how it was read.
-#[derive(Drop)]
+#[derive(Clone, Copy)]
 pub enum ValueAt {
     Absent,
     With {
@@ -22,7 +22,7 @@ pub enum ValueAt {
 }
 
 // A qualifier's key is first..end, `joined` where it is `translation`; `bytes` are the lengths of key and value, and `next` is the place after it.
-#[derive(Drop)]
+#[derive(Clone, Copy)]
 pub enum QualifierAt {
     Got {
         first: usize,
@@ -37,7 +37,7 @@ pub enum QualifierAt {
 }
 
 // How many qualifiers stand one after the other, the lengths of their texts, and the place after them.
-#[derive(Drop)]
+#[derive(Clone, Copy)]
 pub enum QualifiersAt {
     Got {
         count: usize,

@@ -16,7 +16,7 @@ use scan_bytes::Step;
 use scan_utf8::State;
 
 // What an escape stands for, a quote or a LF, and the place after it.
-#[derive(Drop)]
+#[derive(Clone, Copy)]
 enum Escape {
     Quote(usize),
     Feed(usize),
@@ -25,7 +25,7 @@ enum Escape {
 }
 
 // An escape, or the place after the value's end.
-#[derive(Drop)]
+#[derive(Clone, Copy)]
 enum Turn {
     Quote(usize),
     Feed(usize),
@@ -35,14 +35,14 @@ enum Turn {
 }
 
 // Where a run of ordinary bytes ends, and whether they are known to be ASCII.
-#[derive(Drop)]
+#[derive(Clone, Copy)]
 struct Run {
     end: usize,
     ascii: bool,
 }
 
 // The text's bytes up to `to`, then a LF where `feed` says so, and where the value goes on; or the last of its bytes, and how it ends. `ascii` where those bytes are known to be.
-#[derive(Drop)]
+#[derive(Clone, Copy)]
 enum Piece {
     On {
         to: usize,

@@ -14,7 +14,7 @@ use read_feature_names::Kind;
 use spec_format::Span;
 
 // Where reading goes on; where the next text goes; which row is the next; where the next qualifier's row goes; and how many qualifiers and location rows were put.
-#[derive(Drop)]
+#[derive(Clone, Copy)]
 pub struct Reached {
     pub at: usize,
     pub text: usize,
@@ -24,7 +24,7 @@ pub struct Reached {
     pub location: usize,
 }
 
-#[derive(Drop)]
+#[derive(Clone, Copy)]
 pub struct Made {
     pub row: Feature,
     pub reached: Reached,

@@ -10,7 +10,7 @@ use read_feature_names::Kind;
 use read_feature_qualifiers::QualifiersAt;
 
 // How many qualifiers and location rows a feature has, the lengths of all its texts, and the place after it.
-#[derive(Drop)]
+#[derive(Clone, Copy)]
 enum FeatureAt {
     Got {
         qualifiers: usize,
@@ -23,7 +23,7 @@ enum FeatureAt {
 }
 
 // How many features there are, how many qualifiers and location rows they have together, the lengths of all their texts, and the place after them.
-#[derive(Drop)]
+#[derive(Clone, Copy)]
 pub struct Features {
     pub count: usize,
     pub qualifiers: usize,

@@ -7,7 +7,7 @@ ghost use Rattle.read_feature_value.specs.Reads.{value_with, read_text, Placed, 
 use read_feature_joined::Value;
 
 // A value: whether it was read as a quoted one, its length, and the place after it.
-#[derive(Drop)]
+#[derive(Clone, Copy)]
 pub enum Read {
     Got {
         quoted: bool,

@@ -8,14 +8,14 @@ use read_field_any::{Field, FieldAt};
 use read_field_entry::Entry;
 use read_field_optional::MayEntry;
 
-#[derive(Drop)]
+#[derive(Clone, Copy)]
 pub enum MaySource {
     Absent,
     Is { text: Entry, organism: MayEntry },
 }
 
 // `twice`: a second DEFINITION was seen. `references` and `comments` are counts, with the bytes of their texts. `next` is the place after the header.
-#[derive(Drop)]
+#[derive(Clone, Copy)]
 pub struct Header {
     pub definition: MayEntry,
     pub accession: MayEntry,
@@ -32,7 +32,7 @@ pub struct Header {
 }
 
 // How many, and of how many bytes.
-#[derive(Drop)]
+#[derive(Clone, Copy)]
 struct Amount {
     count: usize,
     bytes: usize,

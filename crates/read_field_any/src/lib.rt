@@ -10,7 +10,7 @@ use read_field_optional::{MayEntry, SourceAt};
 use read_field_reference::{ReferenceAt, ReferenceEntries};
 use scan_bytes::Line;
 
-#[derive(Drop)]
+#[derive(Clone, Copy)]
 pub enum Field {
     Definition(Entry),
     Accession(Entry),
@@ -29,7 +29,7 @@ pub enum Field {
     Dropped,
 }
 
-#[derive(Drop)]
+#[derive(Clone, Copy)]
 pub enum FieldAt {
     Got { field: Field, next: usize },
     No,

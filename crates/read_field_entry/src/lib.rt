@@ -11,7 +11,7 @@ use scan_bytes::{Line, Step};
 use scan_utf8::State;
 
 // A further line: its text from `from` up to `end`.
-#[derive(Drop)]
+#[derive(Clone, Copy)]
 pub enum Piece {
     Got {
         from: usize,
@@ -23,7 +23,7 @@ pub enum Piece {
 }
 
 // A text of several lines, joined, and the state in which it leaves the test of UTF-8.
-#[derive(Drop)]
+#[derive(Clone, Copy)]
 enum Joined {
     Got {
         length: usize,
@@ -35,7 +35,7 @@ enum Joined {
 }
 
 // A text starts at `text`, its further lines stand `columns` in, joined it has `length` bytes, and `next` is the place after it.
-#[derive(Drop)]
+#[derive(Clone, Copy)]
 pub struct Entry {
     pub text: usize,
     pub columns: usize,
@@ -43,14 +43,14 @@ pub struct Entry {
     pub next: usize,
 }
 
-#[derive(Drop)]
+#[derive(Clone, Copy)]
 enum Found {
     Got(Entry, State),
     No,
     Cut,
 }
 
-#[derive(Drop)]
+#[derive(Clone, Copy)]
 pub enum EntryAt {
     Got(Entry),
     No,

@@ -11,20 +11,20 @@ use read_field_entry::{Entry, EntryAt};
 use scan_bytes::{Line, Step};
 
 // An entry that may be missing.
-#[derive(Drop)]
+#[derive(Clone, Copy)]
 pub enum MayEntry {
     Absent,
     Is(Entry),
 }
 
-#[derive(Drop)]
+#[derive(Clone, Copy)]
 pub enum MayEntryAt {
     Got { entry: MayEntry, next: usize },
     Cut,
 }
 
 // SOURCE, with ORGANISM where that follows.
-#[derive(Drop)]
+#[derive(Clone, Copy)]
 pub enum SourceAt {
     Got {
         text: Entry,

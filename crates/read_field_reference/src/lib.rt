@@ -8,7 +8,7 @@ ghost use Rattle.read_field_reference.specs.References.{References};
 use read_field_entry::{Entry, EntryAt};
 use read_field_optional::{MayEntry, MayEntryAt};
 
-#[derive(Drop)]
+#[derive(Clone, Copy)]
 pub struct ReferenceEntries {
     pub text: Entry,
     pub authors: MayEntry,
@@ -20,7 +20,7 @@ pub struct ReferenceEntries {
 }
 
 // `bytes` counts the texts.
-#[derive(Drop)]
+#[derive(Clone, Copy)]
 pub enum ReferenceAt {
     Got {
         entries: ReferenceEntries,
@@ -32,7 +32,7 @@ pub enum ReferenceAt {
 }
 
 // An entry, and one that may follow it.
-#[derive(Drop)]
+#[derive(Clone, Copy)]
 enum PairAt {
     Got {
         text: Entry,
@@ -45,14 +45,14 @@ enum PairAt {
 }
 
 // The entries up to CONSRTM.
-#[derive(Drop)]
+#[derive(Clone, Copy)]
 struct Front {
     text: Entry,
     authors: MayEntry,
     consrtm: MayEntry,
 }
 
-#[derive(Drop)]
+#[derive(Clone, Copy)]
 enum FrontAt {
     Got {
         front: Front,
@@ -64,7 +64,7 @@ enum FrontAt {
 }
 
 // The entries after JOURNAL.
-#[derive(Drop)]
+#[derive(Clone, Copy)]
 enum EndAt {
     Got {
         pubmed: MayEntry,
@@ -76,7 +76,7 @@ enum EndAt {
 }
 
 // The entries from TITLE on.
-#[derive(Drop)]
+#[derive(Clone, Copy)]
 struct Back {
     title: Entry,
     journal: MayEntry,
@@ -84,7 +84,7 @@ struct Back {
     remark: MayEntry,
 }
 
-#[derive(Drop)]
+#[derive(Clone, Copy)]
 enum BackAt {
     Got {
         back: Back,

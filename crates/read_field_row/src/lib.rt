@@ -10,7 +10,7 @@ use read_field_optional::MayEntry;
 use read_field_reference::ReferenceEntries;
 
 // Where the next text goes, and the next number.
-#[derive(Drop)]
+#[derive(Clone, Copy)]
 pub struct Pens {
     pub text: usize,
     pub row: usize,

@@ -12,7 +12,7 @@ ghost use Rattle.read_letters.specs.Runs.{taken, letters_by, tally, plus, Counts
 use base_arith::{both, either};
 
 // How many letters there are, and the place of the `/` that ends them; or the place of a byte that may not stand there, which with the strict switch may be a letter.
-#[derive(Drop)]
+#[derive(Clone, Copy)]
 pub enum Counted {
     AtSlash { count: usize, next: usize },
     AtEnd { count: usize },

@@ -15,7 +15,7 @@ use scan_location_usual::{Ranged, Usual};
 // ---- the cycle: a location, a word, its members
 
 // What was read: the spot behind it and the pen behind its rows. Or a fault, or a seventeenth word.
-#[derive(Drop)]
+#[derive(Clone, Copy)]
 enum RowsAt {
     Got { spot: Spot, pen: Pen },
     Fault,
@@ -228,7 +228,7 @@ fn members_in(
 // ---- the whole text
 
 // A location that was read, how many rows it has and whether they are those that are there; or none; or one with a seventeenth word.
-#[derive(Drop)]
+#[derive(Clone, Copy)]
 pub enum Location {
     Read { rows: usize, same: bool },
     None,

@@ -61,7 +61,7 @@ fn stands_seven(seen: &[usize], at: usize, row: Row) -> bool
 }
 
 // Where the next row goes, and whether all rows so far are those that are there.
-#[derive(Drop)]
+#[derive(Clone, Copy)]
 pub struct Pen {
     pub row: usize,
     pub same: bool,

@@ -9,7 +9,7 @@ use read_locus_tokens::Token;
 use spec_format::{Date, Dated, Length, Span, Text};
 
 // The values of a LOCUS line; texts are spans of the slice that was read.
-#[derive(Drop)]
+#[derive(Clone, Copy)]
 pub enum LocusPlan {
     Unknown,
     Known {

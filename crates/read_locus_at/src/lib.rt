@@ -8,7 +8,7 @@ use read_locus::LocusPlan;
 use scan_bytes::{Line, Step};
 
 // The values of a LOCUS line and the place after it; or no, or cut.
-#[derive(Drop)]
+#[derive(Clone, Copy)]
 pub enum LocusAt {
     Got { plan: LocusPlan, next: usize },
     No,

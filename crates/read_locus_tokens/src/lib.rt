@@ -9,13 +9,13 @@ ghost use Rattle.read_locus_tokens.specs.Parts.{cut, spanned, Ends, Scanned, Nex
 use spec_format::{Date, Dated, Length, Span};
 
 // What stands next between blanks, and where it ends.
-#[derive(Drop)]
+#[derive(Clone, Copy)]
 pub enum Token {
     At { text: Span, end: usize },
     None,
 }
 
-#[derive(Drop)]
+#[derive(Clone, Copy)]
 pub enum Decimal {
     Value(u64),
     Not,

@@ -16,7 +16,7 @@ use spec_format::{Length, Unread};
 
 // The letters stand at `letters_at` and are `letters` many, and the record ends at `place`; or why there is none. A record without ORIGIN has
 // its letters at the slice's end, where none are.
-#[derive(Drop)]
+#[derive(Clone, Copy)]
 pub enum EndAt {
     Got {
         letters_at: usize,

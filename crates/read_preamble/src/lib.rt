@@ -25,7 +25,7 @@ fn at_locus(s: &[u8], at: usize) -> bool
 }
 
 // Where the reader stands: before a line that is to be passed, or at an answer.
-#[derive(Drop)]
+#[derive(Clone, Copy)]
 pub struct Turn {
     pub more: bool,
     pub answer: Step,
@@ -89,7 +89,7 @@ pub fn preamble_at(s: &[u8], at: usize) -> Step
 // ---- where the search ended, found anew after a refusal
 
 // A turn of a search: what it passes ends at a place, or it goes no further.
-#[derive(Drop)]
+#[derive(Clone, Copy)]
 pub enum Onward {
     To(usize),
     Stop,

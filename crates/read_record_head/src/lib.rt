@@ -127,7 +127,7 @@ pub fn put_head(s: &[u8], locus: LocusPlan, header: Header, texts: &mut [u8]) ->
 // ---- how many bytes they take, and where each lies
 
 // Where the LOCUS texts lie, with the other values; `next` is the place after the texts.
-#[derive(Drop)]
+#[derive(Clone, Copy)]
 struct LocusHead {
     name: Text,
     length: Length,
@@ -138,7 +138,7 @@ struct LocusHead {
     next: usize,
 }
 
-#[derive(Drop)]
+#[derive(Clone, Copy)]
 struct HeaderTexts {
     definition: Text,
     accession: Text,

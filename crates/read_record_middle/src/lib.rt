@@ -13,7 +13,7 @@ use scan_bytes::Step;
 
 // The features from `features_at` on, CONTIG's text and how many rows it has, and the place after them all; or number 14. Without a feature table `features_at` is
 // the slice's end, where none are.
-#[derive(Drop)]
+#[derive(Clone, Copy)]
 pub enum MiddleAt {
     Got {
         features_at: usize,

@@ -17,7 +17,7 @@ use scan_bytes::Step;
 use spec_format::{Length, Unread};
 
 // What stands after the header, up to `place`.
-#[derive(Drop)]
+#[derive(Clone, Copy)]
 pub struct Rest {
     pub features_at: usize,
     pub features: Features,
@@ -28,14 +28,14 @@ pub struct Rest {
     pub place: usize,
 }
 
-#[derive(Drop)]
+#[derive(Clone, Copy)]
 pub enum RestAt {
     Got(Rest),
     Refused(Unread),
 }
 
 // A record: the values of LOCUS, the header at `header_at`, and what stands after it.
-#[derive(Drop)]
+#[derive(Clone, Copy)]
 pub struct Plan {
     pub locus: LocusPlan,
     pub header_at: usize,
@@ -43,7 +43,7 @@ pub struct Plan {
     pub rest: Rest,
 }
 
-#[derive(Drop)]
+#[derive(Clone, Copy)]
 pub enum PlanAt {
     Ready(Plan),
     Refused(Unread),

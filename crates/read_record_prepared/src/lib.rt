@@ -9,7 +9,7 @@ use read_record_plan::{Plan, PlanAt};
 use spec_format::{MOST, ReadAnswer, Unread};
 
 // The features that are still to be put, and the answer that holds with them: `count` of them, which are read from `at` on, and their texts put from `place` on.
-#[derive(Drop)]
+#[derive(Clone, Copy)]
 pub struct Prepared {
     pub at: usize,
     pub place: usize,

@@ -8,7 +8,7 @@ ghost use Rattle.read_slashes.specs.Later.{Sought};
 use scan_bytes::Step;
 
 // The place after a record, or why it does not end here.
-#[derive(Drop)]
+#[derive(Clone, Copy)]
 pub enum RecordEnd {
     At(usize),
     NoSlashes,
@@ -33,7 +33,7 @@ fn empty_lines(s: &[u8], at: usize) -> usize
 }
 
 // What was seen where a line begins: `//`, or neither that nor the end.
-#[derive(Drop)]
+#[derive(Clone, Copy)]
 pub struct Seen {
     pub more: bool,
     pub found: bool,

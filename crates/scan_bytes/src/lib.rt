@@ -10,7 +10,7 @@ ghost use Rattle.scan_bytes.specs.Views.{Stepped, Texted, Emptied, Lined};
 use base_arith::both;
 
 // The place after what was read; or no, or that the slice ended before that was clear.
-#[derive(Drop)]
+#[derive(Clone, Copy)]
 pub enum Step {
     Got(usize),
     No,
@@ -18,7 +18,7 @@ pub enum Step {
 }
 
 // A line's text ends at `end`, and the next line is at `next`.
-#[derive(Drop)]
+#[derive(Clone, Copy)]
 pub enum Line {
     Got { end: usize, next: usize },
     No,

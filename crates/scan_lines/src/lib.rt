@@ -6,7 +6,7 @@ ghost use Rattle.scan_lines.specs.Reached.{Fetched, NextLine, NextFeed, after_li
 use base_arith::both;
 use scan_bytes::Line;
 
-#[derive(Drop)]
+#[derive(Clone, Copy)]
 pub struct LineReader<'a> {
     pub input: &'a [u8],
     pub place: usize,
@@ -15,7 +15,7 @@ pub struct LineReader<'a> {
 // ---- the slice and the place
 
 // A line, and the place after it.
-#[derive(Drop)]
+#[derive(Clone, Copy)]
 pub struct Taken {
     pub line: Line,
     pub next: usize,

@@ -9,7 +9,7 @@ ghost use Rattle.scan_location.specs.Views.{Digited, Counted, Numbered, row_of, 
 use scan_location_bytes::{Class, Laid, Peek, Spot, Word, byte_at, mark_at, past_run, word_at};
 
 // A location row, by value.
-#[derive(Drop)]
+#[derive(Clone, Copy)]
 pub struct Row {
     pub form: usize,
     pub marks: usize,
@@ -22,7 +22,7 @@ pub struct Row {
 
 // ---- numbers
 
-#[derive(Drop)]
+#[derive(Clone, Copy)]
 enum Digit {
     Is { value: usize, spot: Spot },
     None,
@@ -49,7 +49,7 @@ fn digit_at(s: &[u8], laid: Laid, spot: Spot) -> Digit
     }
 }
 
-#[derive(Drop)]
+#[derive(Clone, Copy)]
 enum Number {
     Of { value: usize, spot: Spot },
     Fault,
@@ -97,14 +97,14 @@ fn number_at(s: &[u8], laid: Laid, spot: Spot) -> Number
 // ---- bases and ranges
 
 // A row and the spot behind it, or that none stands there.
-#[derive(Drop)]
+#[derive(Clone, Copy)]
 pub enum Plain {
     Row { row: Row, spot: Spot },
     Fault,
 }
 
 // Where an accession stands in the text, and its length: 0 and 0 where there is none.
-#[derive(Drop)]
+#[derive(Clone, Copy)]
 struct Name {
     start: usize,
     length: usize,
@@ -292,7 +292,7 @@ pub fn plain_at(s: &[u8], laid: Laid, gaps: bool, spot: Spot) -> Plain
 // ---- the three words
 
 // A word's form and the spot behind its bracket, or that none stands there.
-#[derive(Drop)]
+#[derive(Clone, Copy)]
 pub enum Begun {
     Word { form: usize, spot: Spot },
     Other,

@@ -9,7 +9,7 @@ ghost use Rattle.scan_location_bytes.specs.Views.{over_lines, view, line_further
 use scan_bytes::Step;
 
 // How a location's text lies in a slice: in one piece, or over lines with this indent, a feature's or CONTIG's.
-#[derive(Drop)]
+#[derive(Clone, Copy)]
 pub enum Laid {
     Piece,
     Feature(usize),
@@ -17,7 +17,7 @@ pub enum Laid {
 }
 
 // A place in the slice, and the place in the location's text that it stands for.
-#[derive(Drop)]
+#[derive(Clone, Copy)]
 pub struct Spot {
     pub at: usize,
     pub off: usize,
@@ -26,7 +26,7 @@ pub struct Spot {
 // ---- bytes
 
 // The next byte of the text and the place after it, or the text's end.
-#[derive(Drop)]
+#[derive(Clone, Copy)]
 pub enum Peek {
     End,
     Byte { byte: u8, next: usize },
@@ -139,7 +139,7 @@ pub fn byte_at(s: &[u8], laid: Laid, at: usize) -> Peek
 // ---- words and runs of bytes
 
 // The spot behind what was looked for, or that it does not stand there.
-#[derive(Drop)]
+#[derive(Clone, Copy)]
 pub enum Word {
     Past(Spot),
     Other,
@@ -190,7 +190,7 @@ pub fn word_at(s: &[u8], laid: Laid, spot: Spot, word: &[u8]) -> Word
 }
 
 // What a run of bytes is made of.
-#[derive(Drop)]
+#[derive(Clone, Copy)]
 pub enum Class {
     Digits,
     Accession,

@@ -17,7 +17,7 @@ fn value_of(digit: u8) -> usize
 }
 
 // The number that digits make, and the place after them.
-#[derive(Drop)]
+#[derive(Clone, Copy)]
 struct Run {
     value: usize,
     next: usize,
@@ -60,7 +60,7 @@ fn number_on(s: &[u8], at: usize) -> Run
 }
 
 // A range and the place after it, if no digit follows.
-#[derive(Drop)]
+#[derive(Clone, Copy)]
 enum Range {
     Is { from: usize, to: usize, next: usize },
     Other,
@@ -97,7 +97,7 @@ fn range_on(s: &[u8], at: usize) -> Range
 
 // ---- at a spot of any text
 
-#[derive(Drop)]
+#[derive(Clone, Copy)]
 pub enum Ranged {
     Is { from: usize, to: usize, spot: Spot },
     Other,
@@ -139,7 +139,7 @@ pub fn range_at(s: &[u8], laid: Laid, spot: Spot) -> Ranged
 
 // ---- a whole text
 
-#[derive(Drop)]
+#[derive(Clone, Copy)]
 pub enum Usual {
     Range { from: usize, to: usize },
     Complement { from: usize, to: usize },

@@ -7,7 +7,7 @@ ghost use Rattle.scan_spot.specs.Search.{first_line, Arrived, Turned};
 use spec_lines::Spot;
 
 // The line that the search has reached, and whether the place lies behind its first byte.
-#[derive(Drop)]
+#[derive(Clone, Copy)]
 pub struct Sought {
     pub more: bool,
     pub spot: Spot,

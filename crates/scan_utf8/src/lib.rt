@@ -12,7 +12,7 @@ use base_arith::both;
 use scan_bytes::Line;
 
 // What a text may go on with: `more` bytes of a character, the next of them `low` to `high`. No byte leads out of a state whose range is empty.
-#[derive(Drop)]
+#[derive(Clone, Copy)]
 pub struct State {
     pub more: u8,
     pub low: u8,

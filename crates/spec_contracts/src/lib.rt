@@ -5,7 +5,7 @@ use spec_format::{ReadAnswer, Sizes};
 use spec_lines::Spot;
 
 // What the reader returns: its answer, and the line that this tells.
-#[derive(Drop)]
+#[derive(Clone, Copy)]
 pub struct Reported {
     pub answer: ReadAnswer,
     pub spot: Spot,
@@ -14,7 +14,7 @@ pub struct Reported {
 // The reader's answer: its number, the place returned with it, the line that a refusal tells and the offset of its first byte (0 and 0 with 0, 1 and 3), with 0 the head as 33 numbers,
 // with 6 the exact sizes; else zeros.
 #[repr(C)]
-#[derive(Drop)]
+#[derive(Clone, Copy)]
 pub struct Reading {
     pub number: usize,
     pub place: usize,
@@ -26,7 +26,7 @@ pub struct Reading {
 
 // A writer's answer: its number, and how many bytes were written or are needed.
 #[repr(C)]
-#[derive(Drop)]
+#[derive(Clone, Copy)]
 pub struct Writing {
     pub number: usize,
     pub count: usize,

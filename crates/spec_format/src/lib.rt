@@ -8,48 +8,48 @@ pub const MOST: usize = 16777216;
 
 // A text in the store of texts: where it starts and how many bytes it has.
 #[repr(C)]
-#[derive(Drop)]
+#[derive(Clone, Copy)]
 pub struct Span {
     pub start: usize,
     pub length: usize,
 }
 
 // A text that may be absent.
-#[derive(Drop)]
+#[derive(Clone, Copy)]
 pub enum Text {
     Absent,
     At(Span),
 }
 
 // SOURCE, and ORGANISM only where SOURCE is.
-#[derive(Drop)]
+#[derive(Clone, Copy)]
 pub enum SourceText {
     Absent,
     At { text: Span, organism: Text },
 }
 
 // CONTIG: its text, the first of its location rows, and how many there are.
-#[derive(Drop)]
+#[derive(Clone, Copy)]
 pub enum ContigText {
     Absent,
     At { text: Span, row: usize, rows: usize },
 }
 
 // The length that a LOCUS line gives.
-#[derive(Drop)]
+#[derive(Clone, Copy)]
 pub enum Length {
     Absent,
     Bases(u32),
 }
 
-#[derive(Drop)]
+#[derive(Clone, Copy)]
 pub struct Date {
     pub day: u8,
     pub month: u8,
     pub year: u16,
 }
 
-#[derive(Drop)]
+#[derive(Clone, Copy)]
 pub enum Dated {
     Absent,
     On(Date),
@@ -108,7 +108,7 @@ pub fn printed_date(d: Dated) -> Date
 }
 
 // What a table holds outside the rooms: LOCUS values, where the single texts lie, how many rows and letters there are.
-#[derive(Drop)]
+#[derive(Clone, Copy)]
 pub struct Head {
     pub name: Text,
     pub length: Length,
@@ -131,7 +131,7 @@ pub struct Head {
 
 // How much of each room a table takes: bytes of text, rows, letters.
 #[repr(C)]
-#[derive(Drop)]
+#[derive(Clone, Copy)]
 pub struct Sizes {
     pub texts: usize,
     pub references: usize,
@@ -143,7 +143,7 @@ pub struct Sizes {
 }
 
 // Why no record was read.
-#[derive(Drop)]
+#[derive(Clone, Copy)]
 pub enum Unread {
     AtEnd,
     Unended,
@@ -158,7 +158,7 @@ pub enum Unread {
 }
 
 // What the reader answers.
-#[derive(Drop)]
+#[derive(Clone, Copy)]
 pub enum ReadAnswer {
     Done { head: Head, place: usize },
     Refused(Unread),
@@ -166,7 +166,7 @@ pub enum ReadAnswer {
 }
 
 // How a record is written: by the keeping rules or not, at what width, with what switches.
-#[derive(Drop)]
+#[derive(Clone, Copy)]
 pub struct How {
     pub keeping: bool,
     pub width: usize,
@@ -175,7 +175,7 @@ pub struct How {
 }
 
 // Why nothing was written.
-#[derive(Drop)]
+#[derive(Clone, Copy)]
 pub enum Unwritten {
     BadWidth,
     BadRooms,
@@ -184,7 +184,7 @@ pub enum Unwritten {
 }
 
 // What a writer answers: the bytes written, why not, or how many bytes it takes.
-#[derive(Drop)]
+#[derive(Clone, Copy)]
 pub enum WriteAnswer {
     Done(usize),
     Refused(Unwritten),

@@ -3,14 +3,14 @@ ghost use Rattle.std.specs.Prelude.{◌≤◌, ◌<◌, length, get_or, ◌≡�
 ghost use Rattle.test_stored_lines.specs.Compared.{Same};
 
 // Where the next field starts, and how many numbers or bytes this one has.
-#[derive(Drop)]
+#[derive(Clone, Copy)]
 pub struct Field {
     pub next: usize,
     pub count: usize,
 }
 
 // Where the line goes on, and whether all was as stored so far.
-#[derive(Drop)]
+#[derive(Clone, Copy)]
 pub struct Checked {
     pub next: usize,
     pub same: bool,
@@ -46,7 +46,7 @@ pub fn next_line(s: &[u8], at: usize) -> usize
 // ---- numbers
 
 // How far a list of numbers is read.
-#[derive(Drop)]
+#[derive(Clone, Copy)]
 struct Listing {
     count: usize,
     value: usize,
@@ -124,7 +124,7 @@ pub fn take_numbers(s: &[u8], at: usize, room: &mut [usize]) -> Field {
 // ---- texts
 
 // Where in a text a byte stands: before its first quote, in it, after `\`, after `\x`, after that and a digit, behind its last quote.
-#[derive(Drop)]
+#[derive(Clone, Copy)]
 enum Place {
     Before,
     Inside,
@@ -135,7 +135,7 @@ enum Place {
 }
 
 // The byte that a byte of the line adds to the text, if it adds one.
-#[derive(Drop)]
+#[derive(Clone, Copy)]
 enum Added {
     Byte(u8),
     Nothing,

@@ -104,7 +104,7 @@ fn shown_byte(w: usize, b: u8) -> u8
 }
 
 // Where a byte stands: before the first word, in a word, or after one.
-#[derive(Drop)]
+#[derive(Clone, Copy)]
 pub enum Place {
     Before,
     Inside,

@@ -25,7 +25,7 @@ use write_feature_row::{put_row_lines, row_kept, row_next, row_passes};
 use write_record_parts::{put_after, put_before, rest_head, rest_verdict};
 
 // How far the work has come.
-#[derive(Drop)]
+#[derive(Clone, Copy)]
 pub struct State {
     // There is more to do; where there is not, the answer stands.
     pub going: bool,

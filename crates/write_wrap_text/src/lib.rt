@@ -12,14 +12,14 @@ use base_arith::both;
 use base_pen::{put_byte, put_bytes, put_spaces};
 
 // Where a line ends in its text, and where the next one starts.
-#[derive(Drop)]
+#[derive(Clone, Copy)]
 pub struct Break {
     pub end: usize,
     pub next: usize,
 }
 
 // A line that was found, and whether it is known to hold neither LF nor quote.
-#[derive(Drop)]
+#[derive(Clone, Copy)]
 pub struct Found {
     pub at: Break,
     pub plain: bool,
