@@ -1,5 +1,6 @@
 // The line of a file that a refusal is about, and the message that says so: `plasmids.gb: line 4012 (record 3): 7, ..`, and then the line itself.
 #![tactic(auto)]
+
 ghost use Rattle.std.specs.Prelude.{◌≡◌, ◌≤◌, length, drop};
 ghost use Rattle.spec_lines.specs.Lines.{spot_of};
 ghost use Rattle.spec_lines.specs.Troubles.{searched};

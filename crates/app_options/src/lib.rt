@@ -1,5 +1,6 @@
 // The arguments of the programs: a width, `keep`, `truncate`, `escape`, `strict`, in any order; and two that the scripts pass on, `columns=` and `name=`, which say how a message is printed.
 #![tactic(auto)]
+
 ghost use Rattle.std.specs.Prelude.{◌≤◌};
 
 #[derive(Clone, Copy)]

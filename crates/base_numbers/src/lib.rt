@@ -1,5 +1,6 @@
 // Document 01's numbers and values for the answers, as the definitions of `spec_format` give them, and the words for each number.
 #![tactic(auto)]
+
 ghost use Rattle.std.specs.Prelude.{◌≡◌};
 ghost use Rattle.spec_format.specs.Numbers.{unread_number, unread_place, unwritten_number, write_number, write_value};
 

@@ -1,5 +1,6 @@
 // What a line of stored answers is made of, and what is counted of the answers.
 #![tactic(auto)]
+
 mod counts;
 mod fields;
 mod room;
