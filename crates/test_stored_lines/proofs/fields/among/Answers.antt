@@ -1,4 +1,3 @@
-use Rattle.std.proofs.Common.{◌-◌}
 use Rattle.test_stored_lines.proofs.fields.among.Goals as goal
 
 pub loop-i-init : goal.loop-i-init

@@ -1,4 +1,4 @@
-use Rattle.std.proofs.Common.{◌-◌, rules}
+use Rattle.std.proofs.Common.{rules}
 use Rattle.test_stored_lines.proofs.fields.next_line.Goals as goal
 
 pub loop-i-init : goal.loop-i-init

@@ -1,4 +1,4 @@
-use Rattle.std.proofs.Common.{◌-◌, refl, arith, rules}
+use Rattle.std.proofs.Common.{refl, arith, rules}
 use Rattle.test_stored_lines.specs.Compared.{no, one_more, all_of_them}
 use Rattle.test_stored_lines.proofs.fields.same_numbers.Goals as goal
 
