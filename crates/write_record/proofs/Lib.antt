@@ -1,2 +1,2 @@
--- What the writer's walk cites.
+-- What the writer's answers cite.
 pub mod Typed

@@ -1,5 +1,6 @@
 // The writer: one entry point, plain or keeping.
 #![tactic(auto)]
+
 ghost use Rattle.spec_contracts.specs.Lent.{lent};
 ghost use Rattle.spec_contracts.specs.Writes.{WriteAnswered};
 
