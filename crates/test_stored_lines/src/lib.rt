@@ -1,5 +1,6 @@
 // What a line of stored answers is made of, and what is counted of the answers.
 #![tactic(auto)]
+
 mod counts;
 mod fields;
 mod room;
@@ -12,4 +13,4 @@ pub use fields::{
     Checked, Field, among, byte_at, lent, next_line, number_at, same_numbers, take_numbers,
     take_text,
 };
-pub use room::number_room;
+pub use room::{byte_room, number_room};

@@ -1,0 +1,9 @@
+-- A turn for each byte.
+use Rattle.std.proofs.Common.{◌-◌, ◌≤◌, length}
+use Rattle.test_stored_lines.proofs.fields.next_line.Given as goal
+
+abbrev pub invariant-loop-i : goal.invariant-loop-i
+invariant-loop-i l = (l.at ≤ l.i) × (l.i ≤ length l.s)
+
+abbrev pub decreases-loop-i : goal.decreases-loop-i
+decreases-loop-i l = length l.s - l.i
