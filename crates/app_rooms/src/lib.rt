@@ -1,6 +1,7 @@
 // Rooms that a stack of 8 MiB holds: an input and a record of up to 524,288 bytes, 1,024 references and comments, 32,768 qualifiers, 16,384 location rows. Their
 // contracts say their lengths alone, so that a proof about a program does not write them out.
 #![tactic(auto)]
+
 ghost use Rattle.std.specs.Prelude.{length, ◌≡◌};
 
 // The input, and one byte by which a longer one is known.

@@ -1,5 +1,6 @@
 // Small things that many crates need: tests of two without a branch, and what is left of a number.
 #![tactic(auto)]
+
 ghost use Rattle.std.specs.Prelude.{◌&&◌, ◌||◌, ◌≡◌, ◌-◌};
 
 // Whether both hold. The compiler makes it a choice without a branch, so that a loop over a block of bytes tests many at once.

@@ -1,5 +1,6 @@
 // The keys of qualifiers that are written in a way of their own.
 #![tactic(auto)]
+
 ghost use Rattle.std.specs.Prelude.{◌≡◌, ◌||◌, [], ◌∷◌};
 ghost use Rattle.spec_format.specs.Bytes.{bytes, same, among};
 ghost use Rattle.spec_format.specs.Write.{comma_key, bare_key};

@@ -1,6 +1,7 @@
 // Total writes into lent room: a write past the room's end changes nothing and still moves the place, so that the same
 // call on an empty room measures. Bytes and rows of numbers go by the same laws (specs/Pen.antt).
 #![tactic(auto)]
+
 ghost use Rattle.std.specs.Prelude.{◌≡◌, [], ◌∷◌, ◌+◌, ◌-◌, ◌≤◌, length, take, drop, replicate};
 ghost use Rattle.base_pen.specs.Pen.{Wrote, Writes};
 

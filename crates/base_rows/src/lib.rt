@@ -1,5 +1,6 @@
 // Feature rows as structs in lent room, and the two thin functions that store and fetch one. An index outside the room is answered.
 #![tactic(auto)]
+
 ghost use Rattle.std.specs.Prelude.{◌≡◌};
 ghost use Rattle.base_rows.specs.Rows.{row_at, Stored};
 

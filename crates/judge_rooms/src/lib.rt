@@ -1,5 +1,6 @@
 // Number 10: whether each span and row of a table in lent rooms lies inside its room.
 #![tactic(auto)]
+
 ghost use Rattle.std.specs.Prelude.{◌≡◌, ◌&&◌, [], ◌+◌, ◌-◌, ◌*◌, ◌/◌, ◌≤◌, ◌<◌, length};
 ghost use Rattle.spec_format.specs.Rooms.{span_fine, text_fine, source_fine, row_text_fine, row_perhaps_fine, rows_fine, reference_row_fine, comment_row_fine, qualifier_row_fine, lengths_fine, head_fine, counts_fine, rooms_fine, rooms_in};
 ghost use Rattle.judge_rooms.specs.Parts.{reference_rooms, comment_rooms, qualifier_rooms, feature_rooms, feature_next, rest_head, Within};

@@ -1,5 +1,6 @@
 // The tests that numbers 11 and 13 make of a single text.
 #![tactic(auto)]
+
 ghost use Rattle.std.specs.Prelude.{◌≡◌, ◌&&◌, ◌+◌, ◌≤◌, ◌<◌, length, drop};
 ghost use Rattle.spec_format.specs.Bytes.{all, some, visible, printing, letter, but, starts};
 ghost use Rattle.spec_format.specs.Features.{kind_text};

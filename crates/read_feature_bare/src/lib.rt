@@ -1,5 +1,6 @@
 // Bare texts of feature_table.rs, which are the texts of locations and unquoted values: a line and the further lines with the indent and no slash, joined by nothing.
 #![tactic(auto)]
+
 ghost use Rattle.std.specs.Prelude.{◌≡◌, ◌≤◌, length, drop};
 ghost use Rattle.spec_format.specs.Bytes.{spaces};
 ghost use Rattle.spec_format.specs.Readers.{bind, tag, utf8_of};

@@ -121,7 +121,8 @@ qualifier_is indent s = go (tag (spaces indent) s)
     slash cut = refl
 
     go : (o : Ans Unit) →
-        (bind o λ _ s. bind (tag (bytes "/") s) λ _ s. bind (qualifier_key s) λ k s. bind (value_of indent k s) λ v s. got (record { key = k; value = v }) s) ≡ with_key indent (bind o λ _ s. key_slash s)
+        (bind o λ _ s. bind (tag (bytes "/") s) λ _ s. bind (qualifier_key s) λ k s. bind (value_of indent k s) λ v s. got (record { key = k; value = v }) s)
+        ≡ with_key indent (bind o λ _ s. key_slash s)
     go (got u r) = slash (tag (bytes "/") r)
     go no = refl
     go cut = refl

@@ -1,5 +1,6 @@
 // The heads of the feature table: its first line, a feature up to its location, a qualifier up to its value (feature_table.rs). Nothing is written.
 #![tactic(auto)]
+
 ghost use Rattle.std.specs.Prelude.{◌≡◌, ◌-◌, ◌≤◌, ◌<◌, length, drop};
 ghost use Rattle.spec_format.specs.Bytes.{all, visible};
 ghost use Rattle.spec_format.specs.Features.{features_header, qualifier_key, kind_text};

@@ -1,5 +1,6 @@
 // Quoted values of feature_table.rs: escapes are undone, lines are joined by LF, or by nothing in `translation`, and the joined text is UTF-8.
 #![tactic(auto)]
+
 ghost use Rattle.std.specs.Prelude.{◌≡◌, ◌+◌, ◌≤◌, ◌<◌, ◌||◌, eqb, ltb, ◌∷◌, [], length, drop};
 ghost use Rattle.spec_format.specs.Readers.{tag, utf8_of};
 ghost use Rattle.spec_format.specs.Features.{special, escape, quoted_turn, quoted};

@@ -1,5 +1,6 @@
 // The values of qualifiers of feature_table.rs: a quoted reading first, and else a bare one.
 #![tactic(auto)]
+
 ghost use Rattle.std.specs.Prelude.{◌≤◌, length, drop};
 ghost use Rattle.base_pen.specs.Pen.{Writes};
 ghost use Rattle.read_feature_value.specs.Reads.{value_with, read_text, Placed, ReadIs};

@@ -1,5 +1,6 @@
 // Header entries (field.rs): a word, spaces, a text, and further lines at the text's column. What is found is where the text stands; it is put later.
 #![tactic(auto)]
+
 ghost use Rattle.std.specs.Prelude.{◌≡◌, ◌+◌, ◌-◌, ◌≤◌, ◌<◌, length, drop};
 ghost use Rattle.spec_format.specs.Header.{line_after, further_line, field_text, field_bytes, field};
 ghost use Rattle.scan_bytes.specs.Places.{part};

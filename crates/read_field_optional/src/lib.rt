@@ -1,5 +1,6 @@
 // The header's fields (field.rs): entries that may be missing, and lines that are dropped.
 #![tactic(auto)]
+
 ghost use Rattle.std.specs.Prelude.{◌≡◌, ◌≤◌, ◌<◌, length, drop};
 ghost use Rattle.spec_format.specs.Bytes.{bytes};
 ghost use Rattle.spec_format.specs.Readers.{or_else, tag};

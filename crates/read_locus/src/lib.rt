@@ -1,5 +1,6 @@
 // The LOCUS line: locus.rs, with document 01's own tokens. The values are spans of the slice; nothing is written.
 #![tactic(auto)]
+
 ghost use Rattle.std.specs.Prelude.{◌-◌, ◌≤◌, length, take, drop};
 ghost use Rattle.spec_format.specs.Locus.{tokens, locus_of, locus_line};
 ghost use Rattle.read_locus_tokens.specs.Parts.{cut, Ends};

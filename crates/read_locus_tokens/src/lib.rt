@@ -1,5 +1,6 @@
 // The tokens of a LOCUS line: where each stands, and the tests that one may have to pass. Nothing is written.
 #![tactic(auto)]
+
 ghost use Rattle.std.specs.Prelude.{◌≡◌, ◌≤◌, length};
 ghost use Rattle.spec_format.specs.Bytes.{all, same, blank, not_blank, but};
 ghost use Rattle.spec_format.specs.Dates.{months};

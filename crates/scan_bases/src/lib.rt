@@ -1,5 +1,6 @@
 // Letters by their IUPAC codes, tested without a branch, so that the compiler makes loops over them of many bytes at once.
 #![tactic(auto)]
+
 ghost use Rattle.std.specs.Prelude.{◌≡◌};
 ghost use Rattle.spec_bases.specs.Bases.{coded};
 ghost use Rattle.scan_bases.specs.Common.{common};

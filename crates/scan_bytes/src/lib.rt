@@ -1,5 +1,6 @@
 // The scanners that every reader is made of: words, spaces, runs of bytes and lines. Each is given a slice and a place, and writes nothing.
 #![tactic(auto)]
+
 ghost use Rattle.std.specs.Prelude.{◌≡◌, ◌+◌, ◌≤◌, ◌<◌, ◌&&◌, ◌||◌, not, length, drop, ltb};
 ghost use Rattle.spec_format.specs.Bytes.{spaces, between, visible, digit, letter, blank, not_blank, space, but};
 ghost use Rattle.spec_format.specs.Readers.{tag, until, until1, spaces1, line, line_end};

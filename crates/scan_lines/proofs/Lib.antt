@@ -1,3 +1,2 @@
 pub mod Counts
 pub mod Feeds
-pub mod Lent

@@ -1,5 +1,6 @@
 // The line reader: it keeps the input and the place reached in it. Its functions are thin: each takes it apart and asks one that has the slice and the place.
 #![tactic(auto)]
+
 ghost use Rattle.std.specs.Prelude.{◌≡◌, not, ◌+◌, ◌≤◌, eqb, length, drop};
 ghost use Rattle.scan_lines.specs.Reached.{Fetched, NextLine, NextFeed, after_line, Feedless, Unfed, Fed};
 

@@ -1,5 +1,6 @@
 // What a location is made of but for its brackets: base numbers, ranges, accessions, gaps, and the words before brackets.
 #![tactic(auto)]
+
 ghost use Rattle.std.specs.Prelude.{◌≡◌, ◌≤◌};
 ghost use Rattle.spec_format.specs.Bytes.{bytes, is};
 ghost use Rattle.spec_format.specs.Location.{past, behind, base_number, leaf_row, range_from, after_first, after_less, bases, version_colon, accession, in_gap, gap_end, leaf, plain, begin};

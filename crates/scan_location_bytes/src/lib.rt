@@ -1,5 +1,6 @@
 // A location's text where it lies in a slice: its bytes, words and runs of bytes, in one piece or over lines with an indent.
 #![tactic(auto)]
+
 ghost use Rattle.std.specs.Prelude.{◌≡◌, ◌≤◌, ◌<◌, [], ◌∷◌, length, drop};
 ghost use Rattle.spec_format.specs.Location.{behind, in_accession, in_gap};
 ghost use Rattle.spec_format.specs.Deep.{in_line, further_start};

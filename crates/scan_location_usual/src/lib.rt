@@ -1,6 +1,7 @@
 // Most locations are a range or the complement of one, `n..m` or `complement(n..m)`, and most members of a join are ranges: these are known in one pass over their bytes, and of
 // any other text nothing is said. Who reads a location asks this first, since other readers look at each byte several times.
 #![tactic(auto)]
+
 ghost use Rattle.std.specs.Prelude.{◌≡◌, ◌-◌, ◌≤◌, length};
 ghost use Rattle.spec_format.specs.Bytes.{starts, digit};
 ghost use Rattle.scan_location_bytes.specs.Views.{view, Ready};

@@ -1,5 +1,6 @@
 // UTF-8, tested byte by byte with a state that can be carried from one piece of a text to the next.
 #![tactic(auto)]
+
 ghost use Rattle.std.specs.Prelude.{◌≡◌, ◌≤◌, ◌&&◌, ◌∷◌, [], length, drop, eqb};
 ghost use Rattle.spec_format.specs.Bytes.{all};
 ghost use Rattle.spec_format.specs.Readers.{line, utf8_of};

@@ -71,7 +71,8 @@ module _ (strict : Bool) (s : List ℕ) (at : ℕ) (old new : Rooms) (a : ReadAn
 abbrev pub report_due : Bool → List ℕ → ℕ → Rooms → Reported
 report_due strict s at old = record { answer = read_answer strict s at old; spot = read_spot s at (read_answer strict s at old) }
 
-pub reported_right : (strict : Bool) (s : List ℕ) (at : ℕ) (old new : Rooms) (r : Reported) → ReadReported strict s at old new r → (r ≡ report_due strict s at old) × (new ≡ rooms_after strict s at old)
+pub reported_right : (strict : Bool) (s : List ℕ) (at : ℕ) (old new : Rooms) (r : Reported) → ReadReported strict s at old new r →
+    (r ≡ report_due strict s at old) × (new ≡ rooms_after strict s at old)
 reported_right strict s at old new r call =
     let e = call.answered.is in (
       reported_equal r (report_due strict s at old) e (call.told ∙ ap (λ (x : ReadAnswer). read_spot s at x) e),

@@ -152,7 +152,8 @@ late_number : (s : List ℕ) (at : ℕ) (q : Rooms) → StrayThere s at → one_
 unfolding late
 late_number s at q k = go (read_by false s at) refl
   where
-    fitted : (t : Table) (rest : List ℕ) → read_by false s at ≡ was_read t rest → (b : Bool) → fits (sizes t) q ≡ b → one_of (0 ∷ 2 ∷ 6 ∷ 7 ∷ 8 ∷ 9 ∷ []) (read_number (read_answer false s at q)) ≡ true
+    fitted : (t : Table) (rest : List ℕ) → read_by false s at ≡ was_read t rest → (b : Bool) → fits (sizes t) q ≡ b →
+        one_of (0 ∷ 2 ∷ 6 ∷ 7 ∷ 8 ∷ 9 ∷ []) (read_number (read_answer false s at q)) ≡ true
     fitted t rest e true f = rw (answer_number false s at q t rest true e f)
     fitted t rest e false f = rw (answer_number false s at q t rest false e f)
 

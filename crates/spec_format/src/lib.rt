@@ -1,5 +1,6 @@
 // The types in which a table and the answers of a call are passed. What they mean is said in specs/.
 #![tactic(auto)]
+
 ghost use Rattle.std.specs.Prelude.{◌≡◌};
 ghost use Rattle.spec_format.specs.Dates.{made, first_date, printed_date};
 

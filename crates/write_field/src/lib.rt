@@ -1,5 +1,6 @@
 // `write_field` of writer.rs: a header word padded to 12 columns, and its text over lines.
 #![tactic(auto)]
+
 ghost use Rattle.std.specs.Prelude.{◌≡◌, ◌-◌, ◌≤◌, length};
 ghost use Rattle.spec_format.specs.Write.{padded, field_lines};
 ghost use Rattle.base_pen.specs.Pen.{Writes};

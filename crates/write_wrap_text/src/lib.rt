@@ -1,5 +1,6 @@
 // `wrap_text` and `wrap_get_line` of writer.rs: free text over lines, with quotes doubled where asked.
 #![tactic(auto)]
+
 ghost use Rattle.std.specs.Prelude.{◌≡◌, true, ◌&&◌, [], ◌∷◌, ◌++◌, ◌+◌, ◌≤◌, ◌<◌, ltb, length};
 ghost use Rattle.spec_format.specs.Bytes.{spaces};
 ghost use Rattle.spec_format.specs.Wrap.{wrapped};

@@ -1,0 +1,11 @@
+-- Rows are in order from row i on; the measure is how many are left.
+use Rattle.std.proofs.Common.{◌-◌, ◌≤◌, ◌≡◌}
+use Rattle.spec_format.specs.Rooms.{rows_fine, reference_row_fine}
+use Rattle.judge_rooms.specs.Parts.{reference_rooms}
+use Rattle.judge_rooms.proofs.references_fine.Given as goal
+
+abbrev pub invariant-loop-i : goal.invariant-loop-i
+invariant-loop-i l = (l.i ≤ l.n) × (rows_fine (reference_row_fine (reference_rooms l.texts l.references)) 14 0 l.n ≡ rows_fine (reference_row_fine (reference_rooms l.texts l.references)) 14 l.i (l.n - l.i))
+
+abbrev pub decreases-loop-i : goal.decreases-loop-i
+decreases-loop-i l = l.n - l.i

@@ -1,0 +1,17 @@
+use Rattle.std.proofs.Common.{◌-◌, arith, rules, refl, sym, ◌∙◌}
+use borrow.Author.Tests.{not-false}
+use Rattle.std.proofs.lemmas.Bool.{not_from_true}
+use Rattle.judge_text.proofs.without.Goals as goal
+
+pub loop-i-init : goal.loop-i-init
+loop-i-init c = (search rules, refl)
+
+pub returns-then-not-without_block : goal.returns-then-not-without_block
+returns-then-not-without_block c = c.without_from.ensures ∙ sym c.loop-i.invariant.1
+
+pub loop-i-preserved : goal.loop-i-preserved
+loop-i-preserved c =
+    (omega arith, c.loop-i.invariant.1 ∙ c.without_block.ensures.go (not-false _ (not_from_true _ c.if-not-without_block.false)))
+
+pub returns : goal.returns
+returns c = c.without_from-2.ensures ∙ sym c.loop-i.invariant.1

@@ -1,0 +1,15 @@
+use Rattle.std.proofs.Common.{◌-◌, ◌≡◌, refl, arith, rules}
+use Rattle.spec_format.specs.Bytes.{but}
+use Rattle.judge_text.proofs.Bytewise.{passed_none, passed_one}
+use Rattle.judge_text.proofs.without_block.Goals as goal
+
+pub loop-j-init : goal.loop-j-init
+loop-j-init c = (search rules, passed_none _ _ _)
+
+pub loop-j-preserved : goal.loop-j-preserved
+loop-j-preserved c =
+    let l = c.loop-j in
+    (omega arith, passed_one (but c.args.c) _ _ l.j l.ok _ c.both-ok.result (omega arith) l.invariant.1 refl c.both-ok.ensures)
+
+pub returns : goal.returns
+returns c = let e : c.loop-j.j ≡ 8 = omega arith in rw e at c.loop-j.invariant.1

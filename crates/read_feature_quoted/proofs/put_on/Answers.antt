@@ -1,0 +1,61 @@
+use Rattle.std.proofs.Common.{◌-◌, rules}
+use Rattle.scan_bytes.specs.Sequence.{sequence}
+use Rattle.read_feature_quoted.proofs.Values.{puttings, places}
+use Rattle.read_feature_quoted.proofs.put_on.Goals as goal
+
+pub loop-to-init : goal.loop-to-init
+loop-to-init c = search (puttings, places, sequence, rules)
+
+pub piece_at-requires : goal.piece_at-requires
+piece_at-requires c = search (puttings, places, sequence, rules)
+
+pub enum_known-to : goal.enum_known-to
+enum_known-to c = search (puttings, places, sequence, rules)
+
+pub put_part-q-requires : goal.put_part-q-requires
+put_part-q-requires c = search (puttings, places, sequence, rules)
+
+pub put_feed-p-requires : goal.put_feed-p-requires
+put_feed-p-requires c = search (puttings, places, sequence, rules)
+
+pub loop-to-smaller : goal.loop-to-smaller
+loop-to-smaller c = search (puttings, places, sequence, rules)
+
+pub loop-to-preserved : goal.loop-to-preserved
+loop-to-preserved c = search (puttings, places, sequence, rules)
+
+pub enum_known-to-in-Stop-1 : goal.enum_known-to-in-Stop-1
+enum_known-to-in-Stop-1 c = search (puttings, places, sequence, rules)
+
+pub put_part-requires : goal.put_part-requires
+put_part-requires c = search (puttings, places, sequence, rules)
+
+pub shape_of-room-in-Stop : goal.shape_of-room-in-Stop
+shape_of-room-in-Stop c = search (puttings, places, sequence, rules)
+
+pub returns-in-Stop : goal.returns-in-Stop
+returns-in-Stop c = search (puttings, places, sequence, rules)
+
+pub enum_known-to-in-No-1 : goal.enum_known-to-in-No-1
+enum_known-to-in-No-1 c = search (puttings, places, sequence, rules)
+
+pub put_part-requires-in-No : goal.put_part-requires-in-No
+put_part-requires-in-No c = search (puttings, places, sequence, rules)
+
+pub shape_of-room-in-No : goal.shape_of-room-in-No
+shape_of-room-in-No c = search (puttings, places, sequence, rules)
+
+pub returns-in-No : goal.returns-in-No
+returns-in-No c = search (puttings, places, sequence, rules)
+
+pub enum_known-to-in-Cut-1 : goal.enum_known-to-in-Cut-1
+enum_known-to-in-Cut-1 c = search (puttings, places, sequence, rules)
+
+pub put_part-requires-in-Cut : goal.put_part-requires-in-Cut
+put_part-requires-in-Cut c = search (puttings, places, sequence, rules)
+
+pub shape_of-room-in-Cut : goal.shape_of-room-in-Cut
+shape_of-room-in-Cut c = search (puttings, places, sequence, rules)
+
+pub returns-in-Cut : goal.returns-in-Cut
+returns-in-Cut c = search (puttings, places, sequence, rules)

@@ -1,0 +1,27 @@
+use Rattle.std.proofs.Common.{◌-◌, rules}
+use Rattle.scan_bytes.proofs.Scan.{scanning}
+use Rattle.scan_bytes.proofs.next_key_end.Goals as goal
+
+pub loop-i-init : goal.loop-i-init
+loop-i-init c = search (scanning, rules)
+
+pub bounds-s-i : goal.bounds-s-i
+bounds-s-i c = search (scanning, rules)
+
+pub is_key_end-requires : goal.is_key_end-requires
+is_key_end-requires c = search (scanning, rules)
+
+pub returns-then-is_key_end : goal.returns-then-is_key_end
+returns-then-is_key_end c = search (scanning, rules)
+
+pub overflow_add-i : goal.overflow_add-i
+overflow_add-i c = search (scanning, rules)
+
+pub loop-i-smaller : goal.loop-i-smaller
+loop-i-smaller c = search (scanning, rules)
+
+pub loop-i-preserved : goal.loop-i-preserved
+loop-i-preserved c = search (scanning, rules)
+
+pub returns : goal.returns
+returns c = search (scanning, rules)
