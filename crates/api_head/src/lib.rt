@@ -1,5 +1,6 @@
 // The head of a table as 33 numbers and back, for callers that pass numbers and slices only. specs/Numbers.antt of `spec_contracts` has the layout.
 #![tactic(auto)]
+
 ghost use Rattle.std.specs.Prelude.{◌≡◌, [], ◌∷◌, ◌≤◌, get_or};
 ghost use Rattle.base_pen.specs.Pen.{Writes};
 ghost use Rattle.spec_contracts.specs.Numbers.{above, flag, text_numbers, source_numbers, contig_numbers, length_numbers, date_numbers, locus_numbers, field_numbers, rest_numbers, head_numbers, lower, text_from};

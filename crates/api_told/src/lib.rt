@@ -1,5 +1,6 @@
 // Answers as numbers, by value: what the boundary for C and Rust returns.
 #![tactic(auto)]
+
 ghost use Rattle.std.specs.Prelude.{◌≡◌};
 ghost use Rattle.spec_contracts.specs.Told.{no_sizes, reported, reading, writing};
 

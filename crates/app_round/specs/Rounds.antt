@@ -41,12 +41,12 @@ module _ (strict : Bool) (s : List ℕ) (at : ℕ) (old : Rooms) (how : How) (t 
       record {
         is = a.is;
         told = x.told;
-        texts-are = a.texts;
-        references-are = a.references;
-        comments-are = a.comments;
-        qualifiers-are = a.qualifiers;
-        locations-are = a.locations;
-        letters-are = a.letters;
+        texts_are = a.texts;
+        references_are = a.references;
+        comments_are = a.comments;
+        qualifiers_are = a.qualifiers;
+        locations_are = a.locations;
+        letters_are = a.letters;
         wrote =
             subst (λ (rooms : Rooms). WriteAnswered (how_after r.answer how) rooms (head_of r.answer) before after w)
             (rooms_after_lem strict s at old (rooms_in t rf cm (flat rows) q n l) r.answer a) b;

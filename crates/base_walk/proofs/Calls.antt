@@ -1,7 +1,7 @@
 -- The entries of a context around a call. It says nothing of the crate.
 --     nest, splits         a nest of entries at the head, written in any way, is taken apart
 --     asks_nothing         a goal P ∗ emp, as what a callee asks that requires nothing:   P is left
---     lands-at             what the callee's result owns shows its relation, and the result that lands is the machine value that its type spells
+--     lands_at             what the callee's result owns shows its relation, and the result that lands is the machine value that its type spells
 -- Assumes `Logic`.
 use mathlib.Core.Path.{refl, ap, subst}
 use mathlib.Core.List.{List, [], ◌∷◌, ◌++◌}

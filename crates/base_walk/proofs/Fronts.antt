@@ -1,6 +1,6 @@
 -- Of m elements that lie side by side the first n are lent, and the lender keeps the rest. It says nothing of the crate.
 --     front, laid                          the first n of ys; and others in their place
---     front_long, front-room, laid-long    there are n, and room for them; and as many elements as before
+--     front_long, front_room, laid_long    there are n, and room for them; and as many elements as before
 --     Rest                                 what the lender keeps
 --     cut                                  ys lie at (b, 0)  ⊢ the first n lie there, and the rest behind them
 --     joined                               others, as many, and the rest  ⊢ all with these in their place lie at (b, 0)

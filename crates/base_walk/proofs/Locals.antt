@@ -1,7 +1,7 @@
 -- The locals of a function that a walk goes through. They stand in its context one by one, in their order, and behind them, as one entry, what is owed when they are freed. It says nothing of the crate.
 --     locals E cs Γ        each local of E holds what stands in cs at its number; one that is away, since it is lent, has no entry
 --     Dies E               what is owed of all locals
---     allocs-all           all locals are allocated.        frees_all        all are freed, whatever they hold, with Δ before them in the context
+--     allocs_all           all locals are allocated.        frees_all        all are freed, whatever they hold, with Δ before them in the context
 --     is_true, is_false    what a branch knows of its test
 -- Assumes `Logic`.
 use mathlib.Core.Path.{◌≡◌, refl}
@@ -10,7 +10,7 @@ use mathlib.Core.List.{List, [], ◌∷◌, ◌++◌}
 use lib.Dec.{T}
 use Prim.Native.Nat.{ℕ}
 use seplogic.Ra.Ura.{Ura}
-use seplogic.Ra.TreeShare.{full_share}
+use base.Fraction.{full_share}
 use mir.Syntax.{Local}
 use mir.Val.{Val}
 use base.Logic.{SProp, ent, sep, emp, via, assoc∗, assoc', mono_l, mono_r, mono∗, snd∗, emp∗, wand_i, all_i}

@@ -1,5 +1,6 @@
 // The tests that numbers 11 and 13 make of features and their qualifiers, of a table in rooms.
 #![tactic(auto)]
+
 ghost use Rattle.std.specs.Prelude.{◌≡◌, ◌+◌, ◌-◌, ◌*◌, ◌≤◌, ◌<◌, length};
 ghost use Rattle.spec_format.specs.Bytes.{all};
 ghost use Rattle.spec_format.specs.Rooms.{text_in, perhaps_in, rows_from, qualifier_in, feature_in};

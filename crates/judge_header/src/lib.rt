@@ -1,5 +1,6 @@
 // The tests that numbers 11 and 13 make of header texts, of a table in rooms.
 #![tactic(auto)]
+
 ghost use Rattle.std.specs.Prelude.{◌≡◌, ◌&&◌, [], ◌+◌, ◌-◌, ◌*◌, ◌≤◌, ◌<◌, length};
 ghost use Rattle.spec_format.specs.Bytes.{all, but};
 ghost use Rattle.spec_format.specs.Rooms.{cut, may_text, may_source, text_in, perhaps_in, rows_from, reference_in, comment_in, table_of, rooms_in};

@@ -1,5 +1,6 @@
 // Numbers 10 and 11 of a location: whether its rows lie in their room and are those of its text, and whether the text has a reading.
 #![tactic(auto)]
+
 ghost use Rattle.std.specs.Prelude.{◌≡◌, [], ◌+◌, ◌*◌, ◌/◌, ◌≤◌, length};
 ghost use Rattle.spec_format.specs.Location.{reading, locates};
 ghost use Rattle.spec_format.specs.Record.{most};

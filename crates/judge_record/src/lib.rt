@@ -1,5 +1,6 @@
 // Number 12; and numbers 11 and 13 of all but the features and CONTIG, of a table in rooms for which number 10 is not due.
 #![tactic(auto)]
+
 ghost use Rattle.std.specs.Prelude.{◌≡◌, [], ◌≤◌, length, take};
 ghost use Rattle.spec_format.specs.Dates.{is_date};
 ghost use Rattle.spec_format.specs.Record.{promised};

@@ -1,5 +1,6 @@
 // CONTIG (misc.rs): an entry whose text has a reading as a location (document 02, ticket 1), and how many rows that has; and number 14. Nothing is written.
 #![tactic(auto)]
+
 ghost use Rattle.std.specs.Prelude.{◌≡◌, false, ◌≤◌, length, drop};
 ghost use Rattle.spec_format.specs.Bytes.{bytes};
 ghost use Rattle.spec_format.specs.Readers.{optional};

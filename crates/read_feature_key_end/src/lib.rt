@@ -1,5 +1,6 @@
 // What follows a qualifier's key in feature_table.rs: `=` and a value, or a line's end.
 #![tactic(auto)]
+
 ghost use Rattle.std.specs.Prelude.{◌≤◌, ◌∷◌, [], length, drop};
 ghost use Rattle.spec_format.specs.Readers.{tag};
 ghost use Rattle.scan_bytes.specs.Views.{Stepped};

@@ -1,5 +1,6 @@
 // A feature's location: a bare text that has a reading (document 02, ticket 1), found where it stands, its rows put into lent room; and number 14.
 #![tactic(auto)]
+
 ghost use Rattle.std.specs.Prelude.{◌≡◌, false, ◌≤◌, length, drop};
 ghost use Rattle.spec_format.specs.Readers.{passing};
 ghost use Rattle.spec_format.specs.Features.{bare};

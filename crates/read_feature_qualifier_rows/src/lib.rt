@@ -1,5 +1,6 @@
 // The qualifiers of a feature of feature_table.rs put into lent rooms: their texts, and a row of four numbers for each.
 #![tactic(auto)]
+
 ghost use Rattle.std.specs.Prelude.{◌≤◌, length};
 ghost use Rattle.spec_format.specs.Rooms.{pieces_text, pieces_row, qualifier_pieces};
 ghost use Rattle.read_feature_qualifiers.specs.Reads.{qualifier_in};

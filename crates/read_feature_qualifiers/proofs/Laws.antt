@@ -26,7 +26,7 @@ use Rattle.read_feature_qualifiers.specs.declared.QualifierAt.TheVariants as one
 use Rattle.read_feature_qualifiers.specs.declared.QualifiersAt.TheVariants as all
 use Rattle.read_feature_qualifiers.specs.Reads.{qualifier_in, QualifierRead, QualifiersRead}
 use Rattle.read_feature_qualifiers.specs.Texts.{absent_text, with_text, texts_more, texts_none}
-use Rattle.read_feature_qualifiers.specs.Turns.{qualifiers_in, Reached, reached_none, known, one_more, reached_more, reached_less, count_fits, none_stop, reached_stop, reached_cut, all_stop, }
+use Rattle.read_feature_qualifiers.specs.Turns.{qualifiers_in, Reached, reached_none, known, one_more, reached_more, reached_less, count_fits, none_stop, reached_stop, reached_cut, all_stop}
 
 -- ---- the texts of a qualifier
 

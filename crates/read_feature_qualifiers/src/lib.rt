@@ -1,5 +1,6 @@
 // The qualifiers of feature_table.rs, scanned: where each one's texts stand and how long they are. Nothing is written.
 #![tactic(auto)]
+
 ghost use Rattle.std.specs.Prelude.{◌≤◌, ◌<◌, length, drop};
 ghost use Rattle.spec_format.specs.Readers.{got, fit_turn, members, many0};
 ghost use Rattle.spec_format.specs.Features.{qualifier};

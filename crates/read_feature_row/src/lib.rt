@@ -1,5 +1,6 @@
 // One feature of feature_table.rs put into lent rooms, its location's rows among them, but for its own row, which is made as a struct, by value: whoever stores it needs no flat numbers.
 #![tactic(auto)]
+
 ghost use Rattle.std.specs.Prelude.{◌≡◌, ◌+◌, ◌-◌, ◌≤◌, ◌<◌, ◌^◌, length, drop};
 ghost use Rattle.spec_format.specs.Features.{feature_from, feature};
 ghost use Rattle.scan_bytes.specs.Places.{part};

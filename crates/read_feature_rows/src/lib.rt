@@ -1,5 +1,6 @@
 // The features of a record put into lent rooms, one after the other, with their own rows as structs.
 #![tactic(auto)]
+
 ghost use Rattle.std.specs.Prelude.{drop};
 ghost use Rattle.read_feature_table.specs.Reads.{features_in};
 ghost use Rattle.read_feature_qualifier_rows.specs.Puts.{Fits, FeaturesPut};

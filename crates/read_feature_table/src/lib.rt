@@ -1,5 +1,6 @@
 // The features of feature_table.rs, scanned: how many there are, how many qualifiers and location rows they have, and how long their texts are. Nothing is written.
 #![tactic(auto)]
+
 ghost use Rattle.std.specs.Prelude.{◌-◌, ◌≤◌, ◌<◌, length, drop};
 ghost use Rattle.spec_format.specs.Features.{feature_from, feature};
 ghost use Rattle.scan_bytes.specs.Places.{part};

@@ -146,9 +146,9 @@ module _ (Ended : Type 0) (s : List ℕ) (at : ℕ) (pre : List format.Field) (h
       let little = adds_little s h.next next x f k l in
       record {
         references = omega (arith, g.few);
-        reference-bytes = omega (arith, g.small);
+        reference_bytes = omega (arith, g.small);
         comments = omega (arith, g.few);
-        comment-bytes = omega (arith, g.small);
+        comment_bytes = omega (arith, g.small);
       }
 
   found_here : (n : ℕ) (word : List ℕ) → Numbered n word → MayStand s at true (text_in word x) (entry_in n f)
@@ -175,9 +175,9 @@ module _ (Ended : Type 0) (s : List ℕ) (at : ℕ) (pre : List format.Field) (h
             twice_more s at (text_in (bytes "DEFINITION")) pre x h.twice h.definition (entry_in 0 f) g.twice g.definition
             (found_here 0 (bytes "DEFINITION") (refl, refl, refl, refl, refl, refl));
         references = omega (arith, g.references, (reference_adds s h.next next x f k).0, count_one_more reference_in x pre);
-        reference-bytes = omega (arith, g.reference_bytes, (reference_adds s h.next next x f k).1, bytes_one_more reference_in x pre reference_pieces);
+        reference_bytes = omega (arith, g.reference_bytes, (reference_adds s h.next next x f k).1, bytes_one_more reference_in x pre reference_pieces);
         comments = omega (arith, g.comments, entry_count s at (text_in (bytes "COMMENT") x) (entry_in 5 f) comment, count_one_more (text_in (bytes "COMMENT")) x pre);
-        comment-bytes =
+        comment_bytes =
             omega (arith, g.comment_bytes, entry_size s at (text_in (bytes "COMMENT") x) (entry_in 5 f) comment, bytes_one_more (text_in (bytes "COMMENT")) x pre comment_pieces);
         from = omega (arith, g.from);
         within = b;

@@ -1,5 +1,6 @@
 // The header's loop (`fields` and `fill_seq_fields` of field.rs): where each entry stands that counts, and how many references and comments there are.
 #![tactic(auto)]
+
 ghost use Rattle.std.specs.Prelude.{◌≡◌, ◌+◌, ◌≤◌, length, drop};
 ghost use Rattle.read_field_all.specs.Notes.{chosen, entry_in, later, later_source, twice_by, reference_amount, entry_amount, unseen, noting, Fitting};
 ghost use Rattle.read_field_all.specs.Gathered.{fields_at, Gathered};

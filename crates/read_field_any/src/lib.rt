@@ -1,5 +1,6 @@
 // `field` of field.rs: one field of the header, tried word by word in the Rust's order, or a line that is dropped.
 #![tactic(auto)]
+
 ghost use Rattle.std.specs.Prelude.{◌≤◌, length, drop};
 ghost use Rattle.spec_format.specs.Header.{header_field};
 ghost use Rattle.read_field_any.specs.Fields.{FieldRead};

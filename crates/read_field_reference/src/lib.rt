@@ -1,5 +1,6 @@
 // `reference` of field.rs: REFERENCE with the entries under it, where each text stands, and how many bytes they have together.
 #![tactic(auto)]
+
 ghost use Rattle.std.specs.Prelude.{◌≡◌, ◌≤◌, ◌<◌, length, drop};
 ghost use Rattle.spec_format.specs.Header.{reference};
 ghost use Rattle.read_field_reference.specs.Parts.{pair_of, up_to_consrtm, after_journal, from_title, Pairs, Fronts, Ends, Backs, joined_entries};

@@ -1,5 +1,6 @@
 // A reference or a comment put into lent rooms: its texts, and the row that says where those are.
 #![tactic(auto)]
+
 ghost use Rattle.std.specs.Prelude.{true, [], ◌∷◌};
 ghost use Rattle.spec_format.specs.Rooms.{reference_pieces};
 ghost use Rattle.read_field_row.specs.Pieces.{entry_text, always_piece, may_piece, front_pieces, back_pieces, reference_of, comment_found, Ready, MayReady, ReferenceReady};

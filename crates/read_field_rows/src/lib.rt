@@ -1,5 +1,6 @@
 // References and comments put into lent rooms by a second walk over the header: their texts, and the rows that say where those are.
 #![tactic(auto)]
+
 ghost use Rattle.std.specs.Prelude.{◌+◌, ◌≤◌, ◌<◌, ◌^◌, length, drop};
 ghost use Rattle.spec_format.specs.Bytes.{bytes};
 ghost use Rattle.spec_format.specs.Header.{every, text_in, reference_in};

@@ -1,5 +1,6 @@
 // The text of an entry that was found, put into lent room: its first line, and its further lines with or without LF before them.
 #![tactic(auto)]
+
 ghost use Rattle.std.specs.Prelude.{◌≡◌, ◌≤◌, length, drop};
 ghost use Rattle.spec_format.specs.Header.{line_after, field_text};
 ghost use Rattle.scan_bytes.specs.Places.{part};

@@ -1,6 +1,7 @@
 // The letters of ORIGIN: `parse_seq_data` of stream_parser.rs, counted first and then put into the lent room. A line of the usual layout
 // (nine columns of number, six times a space and ten letters, a line end) is tested at once and taken whole.
 #![tactic(auto)]
+
 ghost use Rattle.std.specs.Prelude.{◌≡◌, [], ◌++◌, ◌+◌, ◌-◌, ◌≤◌, length, drop};
 ghost use Rattle.spec_format.specs.Bytes.{letter};
 ghost use Rattle.spec_bases.specs.Bases.{coded};

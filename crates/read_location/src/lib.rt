@@ -1,5 +1,6 @@
 // A location's text (document 02, ticket 1) read into rows: the reader calls itself on the inner text, and the nesting left falls.
 #![tactic(auto)]
+
 ghost use Rattle.std.specs.Prelude.{[], ◌∷◌, suc, ◌≤◌, length};
 ghost use Rattle.spec_format.specs.Location.{word, comma_in, single, plain, word_row, members_in, location_from, location, reading};
 ghost use Rattle.scan_location_bytes.specs.Views.{view, total, Ready, Reached};

@@ -1,5 +1,6 @@
 // Rows of a location put into lent room, and compared at once with rows that are there.
 #![tactic(auto)]
+
 ghost use Rattle.std.specs.Prelude.{◌≡◌, [], ◌∷◌, ◌≤◌};
 ghost use Rattle.std.proofs.lemmas.List.Edits.{sets};
 ghost use Rattle.spec_format.specs.Rooms.{row_numbers};

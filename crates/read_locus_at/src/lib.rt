@@ -1,5 +1,6 @@
 // `locus` of locus.rs: the word, blanks, and the rest of the line, whose values `locus` takes apart.
 #![tactic(auto)]
+
 ghost use Rattle.std.specs.Prelude.{◌≡◌, ◌≤◌, length, drop};
 ghost use Rattle.spec_format.specs.Locus.{locus};
 ghost use Rattle.read_locus_at.specs.Reads.{locus_rest, locus_gap, LocusRead};

@@ -1,5 +1,6 @@
 // From ORIGIN on: `origin_tag` of misc.rs, the letters and the record's end of stream_parser.rs. Nothing is written.
 #![tactic(auto)]
+
 ghost use Rattle.std.specs.Prelude.{◌≡◌, ◌≤◌, ◌<◌, length, drop};
 ghost use Rattle.spec_format.specs.Readers.{line, utf8_of};
 ghost use Rattle.spec_format.specs.Origin.{origin_tag};

@@ -19,7 +19,7 @@ use Rattle.scan_bytes.specs.declared.Step.TheVariants as step
 use Rattle.scan_bytes.specs.declared.Line.{Line}
 use Rattle.scan_bytes.specs.declared.Line.TheVariants as lines
 use Rattle.scan_lines.specs.Reached.{after_line}
-use Rattle.scan_lines.proofs.Lent.{true_false}
+use mathlib.Core.Bool.{true≢false}
 use Rattle.read_preamble.specs.declared.Turn.{Turn}
 use Rattle.read_preamble.specs.Skips.{is_got, stopped, Before, Gone, Read, Passed}
 use Rattle.spec_format.specs.Impossible.{impossible}
@@ -52,7 +52,7 @@ there s cut e = impossible cc
 
 module _ (s : List ℕ) (at p : ℕ) (r : Step) (t : Turn) (e : t ≡ stopped r) where
   no_more : t.more ≡ true → ⊥
-  no_more q = true_false (sym q ∙ ap (λ (x : Turn). x.more) e)
+  no_more q = true≢false (sym q ∙ ap (λ (x : Turn). x.more) e)
 
   -- at an answer
   gone_done : Stepped s at (end preamble_turn (drop at s)) r → Gone s at p t
@@ -68,7 +68,7 @@ module _ (s : List ℕ) (at : ℕ) (b : Bool) (f : b ≡ is_got (tag (bytes "LOC
       (record { is = sym (end_stop preamble_turn (drop at s) (drop at s) (there (drop at s) (tag (bytes "LOCUS") (drop at s)) (sym y ∙ f))); place = (omega arith, w) })
 
   pub turn_before : b ≡ false → Gone s at at (record { more = true; answer = step.No })
-  turn_before y = record { before = λ _. record { same = refl; stands_not = sym y ∙ f; from = omega arith; within = w }; done = λ q. absurd (true_false q) }
+  turn_before y = record { before = λ _. record { same = refl; stands_not = sym y ∙ f; from = omega arith; within = w }; done = λ q. absurd (true≢false q) }
 
 pub ruleset turning = (turn_there, turn_before)
 

@@ -1,5 +1,6 @@
 // The lines before LOCUS: `skip_preamble` of misc.rs.
 #![tactic(auto)]
+
 ghost use Rattle.std.specs.Prelude.{◌≡◌, ◌≤◌, length, drop};
 ghost use Rattle.spec_format.specs.Bytes.{bytes};
 ghost use Rattle.spec_format.specs.Readers.{tag};

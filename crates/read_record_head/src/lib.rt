@@ -1,5 +1,6 @@
 // The head of a table: LOCUS texts and the single texts of the header, put into the store; how many bytes they take; and where each lies.
 #![tactic(auto)]
+
 ghost use Rattle.std.specs.Prelude.{◌≡◌, ◌+◌, ◌<◌, ◌^◌, ◌++◌, length};
 ghost use Rattle.read_locus_tokens.specs.Parts.{spanned, Ends};
 ghost use Rattle.read_locus.specs.Plans.{TextEnds, PlanEnds};

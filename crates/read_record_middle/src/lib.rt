@@ -1,5 +1,6 @@
 // What stands between the header and ORIGIN, each part of which may be missing: the feature table, BASE COUNT, which is dropped, and CONTIG. Nothing is written.
 #![tactic(auto)]
+
 ghost use Rattle.std.specs.Prelude.{◌≤◌, length, drop};
 ghost use Rattle.spec_format.specs.Record.{deep_in, middle};
 ghost use Rattle.read_feature_table.specs.Reads.{features_in, FeaturesRead};

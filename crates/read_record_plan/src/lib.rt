@@ -1,5 +1,6 @@
 // `read_one_record` of stream_parser.rs without rooms: where the parts of a record stand and how long they are, or why there is no record. Nothing is written.
 #![tactic(auto)]
+
 ghost use Rattle.std.specs.Prelude.{◌≡◌, ◌≤◌, length, drop};
 ghost use Rattle.spec_format.specs.Record.{most};
 ghost use Rattle.spec_format.specs.Strict.{record_by};

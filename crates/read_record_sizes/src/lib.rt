@@ -1,5 +1,6 @@
 // What a planned record takes of the lent rooms, whether rooms hold it, and its head.
 #![tactic(auto)]
+
 ghost use Rattle.std.specs.Prelude.{◌≡◌, ◌<◌, ◌^◌};
 ghost use Rattle.read_record_sizes.specs.Sizing.{contig_place, texts_plan, locations_plan, sizes_in, contig_entry, head_plan, fits_in};
 

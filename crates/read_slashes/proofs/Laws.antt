@@ -17,7 +17,7 @@ use Rattle.scan_bytes.specs.declared.Step.{Step}
 use Rattle.scan_bytes.specs.declared.Step.TheVariants as step
 use Rattle.read_slashes.specs.declared.RecordEnd.TheVariants as ended
 use Rattle.scan_lines.specs.Reached.{after_feed, Fed}
-use Rattle.scan_lines.proofs.Lent.{true_false}
+use mathlib.Core.Bool.{true≢false}
 use Rattle.read_slashes.specs.declared.Seen.{Seen}
 use Rattle.read_slashes.specs.Ends.{EmptyPassed, Ended}
 use Rattle.read_slashes.specs.Later.{slashes_first, NotHere, Sought}
@@ -44,14 +44,14 @@ first_short (a ∷ b ∷ l) h = absurd (omega arith)
 
 module _ (l : List ℕ) where
   pub seen_short : length l < 2 → Sought l (record { more = false; found = false })
-  seen_short h = record { on = λ q. absurd (true_false (sym q)); done = λ _. rw (first_short l h, short l (omega arith)) }
+  seen_short h = record { on = λ q. absurd (true≢false (sym q)); done = λ _. rw (first_short l h, short l (omega arith)) }
 
   module _ (b : Bool) (h : 2 ≤ length l) (e : b ≡ (eqb (get_or l 0 0) 47 && eqb (get_or l 1 0) 47)) where
     pub seen_slashes : b ≡ true → Sought l (record { more = false; found = true })
-    seen_slashes y = record { on = λ q. absurd (true_false (sym q)); done = λ _. rw (first_two l h, ← e, y) }
+    seen_slashes y = record { on = λ q. absurd (true≢false (sym q)); done = λ _. rw (first_two l h, ← e, y) }
 
     pub seen_other : b ≡ false → Sought l (record { more = true; found = false })
-    seen_other y = record { on = λ _. record { none = first_two l h ∙ sym e ∙ y; some = omega arith }; done = λ q. absurd (true_false q) }
+    seen_other y = record { on = λ _. record { none = first_two l h ∙ sym e ∙ y; some = omega arith }; done = λ q. absurd (true≢false q) }
 
 pub ruleset seeing = (seen_short, seen_slashes, seen_other)
 
@@ -85,7 +85,7 @@ pub record Later (s : List ℕ) (at p : ℕ) (t : Seen) : Type 0 where
   pub done : t.more ≡ false → t.found ≡ slashes_later (drop at s)
 
 pub later_start : (s : List ℕ) (at : ℕ) → Later s at at (record { more = true; found = false })
-later_start s at = record { on = λ _. refl; done = λ q. absurd (true_false q) }
+later_start s at = record { on = λ _. refl; done = λ q. absurd (true≢false q) }
 
 -- how far it is to the end, and nothing more where the answer is clear
 abbrev pub left : List ℕ → ℕ → Seen → ℕ

@@ -1,5 +1,6 @@
 // Where a record ends: `//` with the empty lines after it, or whether `//` stands on a later line.
 #![tactic(auto)]
+
 ghost use Rattle.std.specs.Prelude.{◌≡◌, ◌&&◌, ◌≤◌, length, get_or, drop, eqb};
 ghost use Rattle.spec_format.specs.Record.{slashes_later};
 ghost use Rattle.read_slashes.specs.Ends.{EmptyPassed, Ended};

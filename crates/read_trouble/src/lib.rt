@@ -1,5 +1,6 @@
 // Where the trouble lies for which a record was not read: after a refusal it is found anew, by the scanners that refused, and its line counted.
 #![tactic(auto)]
+
 ghost use Rattle.std.specs.Prelude.{◌≡◌, ◌≤◌, length, drop};
 ghost use Rattle.spec_format.specs.Record.{most, left_by, base_count, middle, deep_in};
 ghost use Rattle.spec_format.specs.declared.ReadAnswer.TheVariants as answers;

@@ -1,5 +1,6 @@
 // Where a record's header begins and ends, and its second DEFINITION: found anew after a refusal.
 #![tactic(auto)]
+
 ghost use Rattle.std.specs.Prelude.{◌≤◌, length, drop};
 ghost use Rattle.spec_format.specs.Header.{header_field};
 ghost use Rattle.spec_format.specs.Record.{left_by};

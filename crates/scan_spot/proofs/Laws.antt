@@ -13,7 +13,7 @@ use Rattle.scan_bytes.specs.Places.{part}
 use Rattle.scan_bytes.specs.Parts.{length_part, part_none, part_snoc, part_append}
 use Rattle.scan_lines.specs.Reached.{Fed, ended, feed_more, one_of}
 use Rattle.scan_lines.proofs.Counts.{feeds_append, ended_rest, ended_more}
-use Rattle.scan_lines.proofs.Lent.{true_false}
+use mathlib.Core.Bool.{true≢false}
 use Rattle.scan_spot.specs.declared.Sought.{Sought}
 use Rattle.scan_spot.specs.Search.{first_line, Begun, Standing, Arrived, Turned}
 use borrow.Author.Tests.{ltb-true, ltb-false, ne_eqb}
@@ -91,7 +91,7 @@ none_of (suc n) e = absurd (omega arith)
 first_begun : (s : List ℕ) (at : ℕ) → Begun s at at (record { line = 1; offset = at })
 first_begun s at =
     let z = part_none s at at (omega arith) in
-    record { line-is = rw (z, none_at_all.0); offset-is = refl; begins = rw (z, none_at_all.1) (omega arith); from = omega arith }
+    record { line_is = rw (z, none_at_all.0); offset_is = refl; begins = rw (z, none_at_all.1) (omega arith); from = omega arith }
 
 -- a line that was reached is passed, if it begins before the place, and else found
 standing : (s : List ℕ) (at p place : ℕ) (x : Spot) → Begun s at p x → p ≤ place → place ≤ length s → Standing s at place p (record { more = ltb p place; spot = x })
@@ -111,7 +111,7 @@ module _ (s : List ℕ) (place : ℕ) (x : Spot) (next : ℕ) (a : Arrived s pla
 
   -- no LF stands from the line's beginning to the place
   stays : feeds (part x.offset place s) ≡ 0 → Turned s place x next (record { more = false; spot = x })
-  stays z = record { go = λ at b. record { on = λ q. absurd (true_false (sym q)); before = λ q. absurd (true_false (sym q)); done = λ q. let w = a.before in found s at x.offset place x b (omega arith) a.within z } }
+  stays z = record { go = λ at b. record { on = λ q. absurd (true≢false (sym q)); before = λ q. absurd (true≢false (sym q)); done = λ q. let w = a.before in found s at x.offset place x b (omega arith) a.within z } }
 
   -- the line ends behind the place
   pub turn_past : place < next → Turned s place x next (record { more = false; spot = x })
@@ -164,7 +164,7 @@ module _ (s : List ℕ) (place : ℕ) (x : Spot) (next : ℕ) (a : Arrived s pla
           let v = b.line_is in
           let g : line_start (part at next s) ≡ suc (length (part at (next - 1) s)) = ap line_start e ∙ start_after (part at (next - 1) s) in
           let m = length_part s at (next - 1) (omega arith) (omega arith) in
-          record { line-is = omega arith; offset-is = refl; begins = omega arith; from = omega arith }
+          record { line_is = omega arith; offset_is = refl; begins = omega arith; from = omega arith }
 
 pub ruleset turning = (next_some, turn_past, turn_none, turn_on)
 

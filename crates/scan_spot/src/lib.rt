@@ -1,5 +1,6 @@
 // The line that a place lies in, counted from another place on, and where it begins: a walk with the line reader.
 #![tactic(auto)]
+
 ghost use Rattle.std.specs.Prelude.{◌≡◌, ◌≤◌, length, drop};
 ghost use Rattle.spec_lines.specs.Lines.{spot_of};
 ghost use Rattle.scan_spot.specs.Search.{first_line, Arrived, Turned};

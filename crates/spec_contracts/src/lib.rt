@@ -1,6 +1,7 @@
 // What the reader returns, and the answers as numbers, which the boundary for C and Rust returns by value. Nothing runs here: specs/ says what the entry points promise, as records that
 // their contracts cite.
 #![tactic(auto)]
+
 use spec_format::{ReadAnswer, Sizes};
 use spec_lines::Spot;
 

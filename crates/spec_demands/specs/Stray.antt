@@ -214,11 +214,11 @@ module _ (s : List ℕ) (at : ℕ) (same : read_by true s at ≡ read_by false s
       record {
         is = call.is ∙ answer_off old;
         told = call.told;
-        texts-are = call.texts_are ∙ ap (λ (x : Rooms). x.texts) e;
-        references-are = call.references_are ∙ ap (λ (x : Rooms). x.references) e;
-        comments-are = call.comments_are ∙ ap (λ (x : Rooms). x.comments) e;
-        qualifiers-are = call.qualifiers_are ∙ ap (λ (x : Rooms). x.qualifiers) e;
-        locations-are = call.locations_are ∙ ap (λ (x : Rooms). x.locations) e;
-        letters-are = call.letters_are ∙ ap (λ (x : Rooms). x.letters) e;
+        texts_are = call.texts_are ∙ ap (λ (x : Rooms). x.texts) e;
+        references_are = call.references_are ∙ ap (λ (x : Rooms). x.references) e;
+        comments_are = call.comments_are ∙ ap (λ (x : Rooms). x.comments) e;
+        qualifiers_are = call.qualifiers_are ∙ ap (λ (x : Rooms). x.qualifiers) e;
+        locations_are = call.locations_are ∙ ap (λ (x : Rooms). x.locations) e;
+        letters_are = call.letters_are ∙ ap (λ (x : Rooms). x.letters) e;
         wrote = subst (λ (x : Rooms). WriteAnswered (how_after r.answer how) x (head_of r.answer) before after w) e call.wrote;
       }

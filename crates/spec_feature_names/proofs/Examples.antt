@@ -17,7 +17,7 @@ pub record Example : Type 0 where
   pub should : Ans (List ℕ)
 
 reads : Ans (List ℕ) → Ans (List ℕ) → Example
-reads got should = record { got = got; should = should }
+reads it should = record { got = it; should = should }
 
 -- two words, before no rule at all: what the list itself takes
 words : List (List ℕ)

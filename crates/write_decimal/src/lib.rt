@@ -1,5 +1,6 @@
 // Numbers in decimal, as they are and right-aligned.
 #![tactic(auto)]
+
 ghost use Rattle.std.specs.Prelude.{◌≡◌, ◌-◌};
 ghost use Rattle.spec_format.specs.Bytes.{digits, decimal};
 ghost use Rattle.spec_format.specs.Write.{right_aligned};

@@ -1,5 +1,6 @@
 // A feature's lines of writer.rs: its first line, its qualifiers, and CONTIG.
 #![tactic(auto)]
+
 ghost use Rattle.std.specs.Prelude.{[], ◌∷◌, ◌++◌, ◌≡◌, ◌≤◌, length};
 ghost use Rattle.spec_format.specs.Bytes.{bytes};
 ghost use Rattle.spec_format.specs.Wrap.{wrap_location};

@@ -1,6 +1,7 @@
 // What the writer does with one feature row: numbers 10, 11 and 13 of it but for its location, and its lines. Each makes the row's eight numbers and calls the function
 // on flat numbers.
 #![tactic(auto)]
+
 ghost use Rattle.std.specs.Prelude.{◌≡◌, ◌||◌, not, ◌+◌, ◌-◌, ◌≤◌};
 ghost use Rattle.judge_feature.specs.Rules.{width_of, feature_of, QualifierKnown, QualifiersKnown, FeatureKnown};
 ghost use Rattle.spec_format.specs.Bytes.{each};

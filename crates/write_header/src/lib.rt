@@ -1,5 +1,6 @@
 // The header's lines of writer.rs, of a table in rooms: single texts, SOURCE, references, comments.
 #![tactic(auto)]
+
 ghost use Rattle.std.specs.Prelude.{[], ◌+◌, ◌≤◌, ◌<◌, length};
 ghost use Rattle.spec_format.specs.Bytes.{bytes, each};
 ghost use Rattle.spec_format.specs.Rooms.{cut, may_text, may_source, text_in, perhaps_in, rows_from, reference_in, comment_in, table_of, rooms_in};

@@ -1,5 +1,6 @@
 // `locus_line` of writer.rs: the whole line of a table in rooms, and number 11's test of the name that it prints.
 #![tactic(auto)]
+
 ghost use Rattle.std.specs.Prelude.{◌≡◌, [], ◌≤◌, length};
 ghost use Rattle.spec_format.specs.Bytes.{decimal, is};
 ghost use Rattle.spec_format.specs.Rooms.{span_text, may_text, may_length, table_of};

@@ -1,5 +1,6 @@
 // The name that a LOCUS line prints, and which it is: `truncate_locus` and `escape_locus` of writer.rs.
 #![tactic(auto)]
+
 ghost use Rattle.std.specs.Prelude.{◌≡◌, suc, ◌+◌, ◌-◌, ◌≤◌, length};
 ghost use Rattle.spec_format.specs.Bytes.{decimal};
 ghost use Rattle.spec_format.specs.Write.{escaped_name, name_and_length};

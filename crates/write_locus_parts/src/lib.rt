@@ -1,5 +1,6 @@
 // Parts of the LOCUS line: the molecule type, the topology and the date, each in its columns.
 #![tactic(auto)]
+
 ghost use Rattle.spec_format.specs.Bytes.{is};
 ghost use Rattle.spec_format.specs.Dates.{month_name, date_text};
 ghost use Rattle.spec_format.specs.Write.{padded, molecule_text, topology_text};

@@ -1,5 +1,6 @@
 // The words of a name, parted by white space: `escape_locus` of writer.rs joins them.
 #![tactic(auto)]
+
 ghost use Rattle.std.specs.Prelude.{◌≡◌, ◌&&◌, ◌||◌, ◌≤◌, ◌<◌, length, get_or, drop, eqb, ltb};
 ghost use Rattle.spec_format.specs.Bytes.{all, between, printing};
 ghost use Rattle.spec_format.specs.Write.{white, words, joined};

@@ -1,6 +1,7 @@
 // The ORIGIN block of writer.rs: 60 letters a line, written ten at a time. A whole line that fits the room is written under one test for room,
 // and a block for which no room is left is measured by a formula.
 #![tactic(auto)]
+
 ghost use Rattle.std.specs.Prelude.{◌≡◌, [], ◌∷◌, ◌++◌, ◌+◌, ◌*◌, ◌%◌, ◌≤◌, ◌<◌, length, take, drop};
 ghost use Rattle.spec_format.specs.Bytes.{decimal};
 ghost use Rattle.spec_format.specs.Write.{right_aligned, line_start, ten_start, letter_lines, origin_lines};

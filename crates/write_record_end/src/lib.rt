@@ -1,5 +1,6 @@
 // The last lines of a record, of a table in rooms: CONTIG, ORIGIN and the end.
 #![tactic(auto)]
+
 ghost use Rattle.std.specs.Prelude.{[], ◌++◌, ◌≤◌, length, take};
 ghost use Rattle.spec_format.specs.Bytes.{bytes};
 ghost use Rattle.spec_format.specs.Rooms.{may_contig};

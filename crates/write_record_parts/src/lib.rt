@@ -1,5 +1,6 @@
 // What the writer does with a table but for its features.
 #![tactic(auto)]
+
 ghost use Rattle.std.specs.Prelude.{◌≡◌};
 ghost use Rattle.base_pen.specs.Pen.{Writes};
 ghost use Rattle.judge_rooms.specs.Parts.{rest_head};

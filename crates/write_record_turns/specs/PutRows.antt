@@ -47,7 +47,7 @@ module _ (t q : List ℕ) (how : How) (s : State) (out : List ℕ) where
                     asked = k.asked;
                     order = omega arith;
                     rooms = k.rooms;
-                    is-due = k.is_due;
+                    is_due = k.is_due;
                     fits = k.fits;
                     left = left_step (left_as (text_more a rows s.row less) k.left) (rw v at wr);
                   };

@@ -1,5 +1,6 @@
 // `wrap_location` of writer.rs: a text over lines that break after the last comma that fits, else at the width.
 #![tactic(auto)]
+
 ghost use Rattle.std.specs.Prelude.{◌≡◌, [], ◌∷◌, ◌++◌, ◌+◌, ◌-◌, ◌≤◌, length};
 ghost use Rattle.spec_format.specs.Bytes.{spaces};
 ghost use Rattle.spec_format.specs.Wrap.{comma_lines};

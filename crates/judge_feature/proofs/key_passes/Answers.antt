@@ -1,0 +1,12 @@
+-- By the rule.
+use Rattle.std.proofs.Common.{arith}
+use Rattle.judge_feature.proofs.key_passes.Goals as goal
+
+pub key_fine-requires : goal.key_fine-requires
+key_fine-requires c = let w = rw c.in-Fine.is at c.requires in omega arith
+
+pub returns-in-Fine : goal.returns-in-Fine
+returns-in-Fine c = rw c.in-Fine.is c.key_fine.ensures
+
+pub returns-in-Kept : goal.returns-in-Kept
+returns-in-Kept c = rw c.in-Kept.is

@@ -1,0 +1,7 @@
+-- `read_record_head::text_from` meets its contract. Assumes nothing.
+use Rattle.std.proofs.Common.{rules}
+use Rattle.read_record_head.proofs.Laws.{placing}
+use Rattle.read_record_head.proofs.text_from.Goals as goal
+
+pub returns-in-At : goal.returns-in-At
+returns-in-At c = search (placing, rules)

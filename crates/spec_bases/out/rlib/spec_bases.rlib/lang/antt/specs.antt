@@ -1,2 +1,0 @@
-pub mod Bases
-pub mod Tests

@@ -1,0 +1,6 @@
+-- `write_decimal::put_nine` meets its contract.
+use Rattle.base_pen.specs.Pen.{writes_append, writes_as}
+use Rattle.write_decimal.proofs.put_nine.Goals as goal
+
+pub returns : goal.returns
+returns c = writes_as (rw (c.left_of.ensures, c.width.ensures.is)) (writes_append c.put_spaces-p.ensures c.put_decimal.ensures)
