@@ -3,6 +3,7 @@
 Each statement is closed by `refl`, so antt accepts it exactly if the definition computes to the answer. The statements stand in
 throw-away crates above a copy of both, in a temporary folder.
 """
+import concurrent.futures
 import os
 import pathlib
 import re
@@ -14,64 +15,62 @@ import tables
 REPOSITORY = pathlib.Path(__file__).resolve().parent.parent.parent
 SIZE = 400  # statements in one crate
 
-LIBRARY = """ghost use mathlib.Core.Path.{_≡_};
+LIBRARY = """#![tactic(auto)]
+
+ghost use Rattle.std.specs.Prelude.{◌≡◌};
 
 pub fn one() -> u8
-    ensures { λ r. ⌜ r ≡ 1 ⌝ }
+    ensures { result ≡ 1 }
 {
     1
 }
 """
 
 OPENING = """-- Answers that the definitions must compute.
-use Prim.Native.Nat.{ℕ}
-use mathlib.Core.Bool.{Bool, true, false}
-use mathlib.Core.Path.{_≡_, refl}
-use mathlib.Core.List.{List, [], _∷_}
-use lib.Dec.{eqb}
-use Rattle·spec_format.specs.Bytes.{bytes, May, absent, is, pick, same, among}
-use Rattle·spec_format.specs.Table.{Locus, Source, Reference, Qualifier, LocationRow, Feature, Contig, Table}
-use Rattle·spec_format.specs.Record.{Outcome, Read, Not}
-use Rattle·spec_format.specs.Numbers.{unreadNumber, unreadPlace}
-use Rattle·spec_format.specs.declared.Dated.the-variants as dated
-use Rattle·spec_format.specs.declared.ReadAnswer.the-variants as answer
-use Rattle·spec_format.specs.declared.Sizes.{Sizes}
-use Rattle·spec_lines.specs.declared.Spot.{Spot}
+use Rattle.std.specs.Prelude.{ℕ, Bool, true, false, ◌≡◌, refl, List, [], ◌∷◌, eqb}
+use Rattle.spec_format.specs.Bytes.{bytes, May, absent, is, pick, same, among}
+use Rattle.spec_format.specs.Table.{Locus, Source, Reference, Qualifier, LocationRow, Feature, Contig, Table}
+use Rattle.spec_format.specs.Record.{Outcome, was_read, not_read}
+use Rattle.spec_format.specs.Numbers.{unread_number, unread_place}
+use Rattle.spec_format.specs.declared.Dated.TheVariants as dated
+use Rattle.spec_format.specs.declared.ReadAnswer.TheVariants as answer
+use Rattle.spec_format.specs.declared.Sizes.{Sizes}
+use Rattle.spec_lines.specs.declared.Spot.{Spot}
 %s
 -- a refusal: its number and what is returned with it
 abbrev refusal : ℕ → Outcome → List ℕ
-refusal at (Read t r) = []
-refusal at (Not u) = unreadNumber u ∷ unreadPlace u at ∷ []
+refusal at (was_read t r) = []
+refusal at (not_read u) = unread_number u ∷ unread_place u at ∷ []
 
 -- the same with the line and the offset of its first byte; of a record that is read it is 6, with the sizes
 abbrev spotted : Spot → List ℕ → List ℕ
-spotted p more = p .line ∷ p .offset ∷ more
+spotted p more = p.line ∷ p.offset ∷ more
 
 abbrev sized : Sizes → List ℕ
-sized n = n .texts ∷ n .references ∷ n .comments ∷ n .features ∷ n .qualifiers ∷ n .locations ∷ n .letters ∷ []
+sized n = n.texts ∷ n.references ∷ n.comments ∷ n.features ∷ n.qualifiers ∷ n.locations ∷ n.letters ∷ []
 
 abbrev lined : List ℕ → ℕ → Outcome → List ℕ
-lined s at (Read t r) = 6 ∷ at ∷ spotted (Troubles.readSpot s at (answer.Room (Rooms.sizes t))) (sized (Rooms.sizes t))
-lined s at (Not u) = unreadNumber u ∷ unreadPlace u at ∷ spotted (Troubles.readSpot s at (answer.Refused u)) []
+lined s at (was_read t r) = 6 ∷ at ∷ spotted (Troubles.read_spot s at (answer.Room (Rooms.sizes t))) (sized (Rooms.sizes t))
+lined s at (not_read u) = unread_number u ∷ unread_place u at ∷ spotted (Troubles.read_spot s at (answer.Refused u)) []
 
 -- refused with one of these numbers and the place given
-abbrev refusedBy : List (List ℕ) → ℕ → Outcome → Bool
-refusedBy numbers at (Read t r) = false
-refusedBy numbers at (Not u) = pick (eqb (unreadPlace u at) at) (among (unreadNumber u ∷ []) numbers) false
+abbrev refused_by : List (List ℕ) → ℕ → Outcome → Bool
+refused_by numbers at (was_read t r) = false
+refused_by numbers at (not_read u) = pick (eqb (unread_place u at) at) (among (unread_number u ∷ []) numbers) false
 
--- both writers' numbers and the bytes, for a table that lies in rooms, its location rows right or wrong: `plainAnswer` and `keepingAnswer` with room enough
+-- both writers' numbers and the bytes, for a table that lies in rooms, its location rows right or wrong: `plain_answer` and `keeping_answer` with room enough
 pub data Written : Type 0 where
-  Refused : ℕ → Written
-  Wrote : ℕ → List ℕ → Written
+  refused : ℕ → Written
+  wrote : ℕ → List ℕ → Written
 
-abbrev writtenFrom : ℕ → Bool → Bool → Table → Written
-writtenFrom w truncate escape t =
-  pick (WellFormed.wellFormed w truncate escape t)
-  (Wrote (pick (Keeping.keeps w truncate escape t) 0 13) (Write.written w truncate escape t)) (Refused 11)
+abbrev written_from : ℕ → Bool → Bool → Table → Written
+written_from w truncate escape t =
+  pick (WellFormed.well_formed w truncate escape t)
+  (wrote (pick (Keeping.keeps w truncate escape t) 0 13) (Write.written w truncate escape t)) (refused 11)
 
 abbrev writing : ℕ → Bool → Bool → Table → Written
 writing w truncate escape t =
-  pick (Rooms.roomsFine (Rooms.layout t) (Rooms.headOf t)) (writtenFrom w truncate escape (Rooms.tableOf (Rooms.layout t) (Rooms.headOf t))) (Refused 10)
+  pick (Rooms.rooms_fine (Rooms.layout t) (Rooms.head_of t)) (written_from w truncate escape (Rooms.table_of (Rooms.layout t) (Rooms.head_of t))) (refused 10)
 """
 
 
@@ -79,16 +78,16 @@ writing w truncate escape t =
 
 def location(contig, text, found):
     """The reading of a location's text: rows, or "none", or "deep"."""
-    answer = {"none": "Location.none", "deep": "Location.tooDeep"}[found] if isinstance(found, str) else "Location.one %s" % tables.antt_rows(found)
+    answer = {"none": "Location.none", "deep": "Location.too_deep"}[found] if isinstance(found, str) else "Location.one %s" % tables.antt_rows(found)
     return "Location.reading %s %s ≡ %s" % (tables.antt_bool(contig), tables.antt_bytes(text), answer)
 
 
 def _reading(strict, data, at):
-    return "(Strict.readBy %s %s %d)" % (tables.antt_bool(strict), tables.antt_bytes(data), at)
+    return "(Strict.read_by %s %s %d)" % (tables.antt_bool(strict), tables.antt_bytes(data), at)
 
 
 def reads(strict, data, at, table, place):
-    return "%s ≡ Read %s %s" % (_reading(strict, data, at), tables.antt_table(table), tables.antt_bytes(data[place:]))
+    return "%s ≡ was_read %s %s" % (_reading(strict, data, at), tables.antt_table(table), tables.antt_bytes(data[place:]))
 
 
 def refuses(strict, data, at, number, place):
@@ -103,7 +102,7 @@ def refuses_in(strict, data, at, number, place, line, offset, sizes=()):
 
 def refuses_by(strict, data, at, numbers):
     listed = "".join("(%d ∷ []) ∷ " % n for n in numbers)
-    return "refusedBy (%s[]) %d %s ≡ true" % (listed, at, _reading(strict, data, at))
+    return "refused_by (%s[]) %d %s ≡ true" % (listed, at, _reading(strict, data, at))
 
 
 def _writing(width, truncate, escape, table):
@@ -111,11 +110,11 @@ def _writing(width, truncate, escape, table):
 
 
 def writes(width, truncate, escape, table, keeping, data):
-    return "%s ≡ Wrote %d %s" % (_writing(width, truncate, escape, table), keeping, tables.antt_bytes(data))
+    return "%s ≡ wrote %d %s" % (_writing(width, truncate, escape, table), keeping, tables.antt_bytes(data))
 
 
 def writes_not(width, truncate, escape, table, number):
-    return "%s ≡ Refused %d" % (_writing(width, truncate, escape, table), number)
+    return "%s ≡ refused %d" % (_writing(width, truncate, escape, table), number)
 
 
 # ---- the definitions
@@ -144,7 +143,7 @@ def _unfoldable():
         path = REPOSITORY / "crates" / crate / "specs" / (module + ".antt")
         if (crate, module) not in texts and path.exists():
             texts[crate, module] = path.read_text()
-            wanted += re.findall(r"^use Rattle·(\w+)(?:·specs)?\.specs\.(\w+)", texts[crate, module], re.M)
+            wanted += re.findall(r"^use Rattle\.(\w+)\.specs\.(\w+)", texts[crate, module], re.M)
     return [(c, "%s.%s" % (m, n)) for (c, m), text in sorted(texts.items()) for n in re.findall(r"^\s*unfoldable pub (\S+)", text, re.M)]
 
 
@@ -160,8 +159,7 @@ class Prover:
         self.needed = _needed()
         self.names = _unfoldable()
         for name in self.needed:
-            shutil.copytree(REPOSITORY / "crates" / name, self.folder / "crates" / name)
-        subprocess.run(["git", "init", "-q", str(self.folder)], check=True)
+            shutil.copytree(REPOSITORY / "crates" / name, self.folder / "crates" / name, ignore=shutil.ignore_patterns("out"))
         self.made = 0
 
     def _write_crate(self, name, statements):
@@ -172,18 +170,26 @@ class Prover:
         (crate / "src" / "lib.rt").write_text(LIBRARY)
         (crate / "specs" / "Lib.antt").write_text("pub mod Held\n")
         modules = sorted({(c, n.split(".")[0]) for c, n in self.names})
-        text = [OPENING % "".join("use Rattle·%s.specs.%s as %s\n" % (c, m, m) for c, m in modules)]
+        text = [OPENING % "".join("use Rattle.%s.specs.%s as %s\n" % (c, m, m) for c, m in modules)]
         names = " ".join(n for _, n in self.names)
         for i, statement in statements:
             text.append("case%d : %s\nunfolding %s\ncase%d = refl\n" % (i, statement, names, i))
         (crate / "specs" / "Held.antt").write_text("\n".join(text))
 
+    def _said(self, name):
+        """What `rt check` says of a crate."""
+        return subprocess.run(["rt", "check"], cwd=self.folder / "crates" / name, stdout=subprocess.PIPE, stderr=subprocess.STDOUT, text=True).stdout
+
     def _check(self, crates):
+        """What it says of each of these. The first is checked by itself, since that proves what they stand on."""
         below = " ".join(sorted({c for c, _ in self.names}))
         listed = ["%s:%s" % item for item in self.needed.items()] + ["%s: %s" % (name, below) for name in crates]
         (self.folder / "crates.txt").write_text("\n".join(listed) + "\n")
-        return subprocess.run(["rt", "check"] + list(crates), cwd=self.folder, env=dict(os.environ, RT_CUT="0"),
-                              stdout=subprocess.PIPE, stderr=subprocess.STDOUT, text=True)
+        first, *others = crates
+        said = {first: self._said(first)}
+        with concurrent.futures.ThreadPoolExecutor(max(1, len(os.sched_getaffinity(0)) // 2)) as pool:
+            said.update(zip(others, pool.map(self._said, others)))
+        return said
 
     def wrong(self, statements):
         """The statements that do not hold: number and what antt says."""
@@ -196,16 +202,15 @@ class Prover:
                 crates["held%d" % self.made] = todo[start:start + SIZE]
             for name, part in crates.items():
                 self._write_crate(name, part)
-            done = self._check(crates)
-            new = {int(m[1]): _short(m[2]) for m in re.finditer(r"error: `case(\d+)`: (.*(?:\n  .*)*)", done.stdout)}
+            said = self._check(crates)
             again = []
             for name, part in crates.items():
-                failed = any(i in new for i, _ in part)
-                if not failed and not re.search(r"^rt: %s proved" % name, done.stdout, re.M):
-                    raise RuntimeError("antt did not check the statements:\n" + done.stdout[-3000:])
-                if failed:  # once more without them, until all that is left is proved
+                new = {int(m[1]): _short(m[2]) for m in re.finditer(r"error: `case(\d+)`: (.*(?:\n  .*)*)", said[name])}
+                if not new and not re.search(r"^logic=proved", said[name], re.M):
+                    raise RuntimeError("antt did not check the statements:\n" + said[name][-3000:])
+                if new:  # once more without them, until all that is left is proved
                     again += [(i, s) for i, s in part if i not in new]
+                found.update(new)
                 shutil.rmtree(self.folder / "crates" / name)
-            found.update(new)
             todo = again
         return found

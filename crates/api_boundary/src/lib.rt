@@ -24,7 +24,7 @@ pub fn vilggodan_read(
     locations: &mut [usize],
     letters: &mut [u8],
 ) -> Reading
-    ensures { ReadTold strict s.now at (lent texts references comments features qualifiers locations letters) (left texts references comments features qualifiers locations letters) result }
+    ensures { ReadTold strict s.now at (lent texts.old references.old comments.old features.old qualifiers.old locations.old letters.old) (left texts.new references.new comments.new features.new qualifiers.new locations.new letters.new) result }
 {
     let answer = read_record::read(
         s, at, strict, texts, references, comments, features, qualifiers, locations, letters,
@@ -48,7 +48,7 @@ pub fn vilggodan_write(
     truncate: bool,
     escape: bool,
 ) -> Writing
-    ensures { WriteTold (how_of keep width truncate escape) (lent texts references comments features qualifiers locations letters) head.now out.old out.new result }
+    ensures { WriteTold (how_of keep width truncate escape) (lent texts.now references.now comments.now features.now qualifiers.now locations.now letters.now) head.now out.old out.new result }
 {
     let answer = write_record::write(
         out,

@@ -22,7 +22,7 @@ pub extern "C" fn vilggodan_read(
     locations: &mut [usize],
     letters: &mut [u8],
 ) -> Reading
-    ensures { ReadTold strict s.now at (lent texts references comments features qualifiers locations letters) (left texts references comments features qualifiers locations letters) result }
+    ensures { ReadTold strict s.now at (lent texts.old references.old comments.old features.old qualifiers.old locations.old letters.old) (left texts.new references.new comments.new features.new qualifiers.new locations.new letters.new) result }
 {
     api_boundary::vilggodan_read(
         s, at, strict, texts, references, comments, features, qualifiers, locations, letters,
@@ -46,7 +46,7 @@ pub extern "C" fn vilggodan_write(
     truncate: bool,
     escape: bool,
 ) -> Writing
-    ensures { WriteTold (how_of keep width truncate escape) (lent texts references comments features qualifiers locations letters) head.now out.old out.new result }
+    ensures { WriteTold (how_of keep width truncate escape) (lent texts.now references.now comments.now features.now qualifiers.now locations.now letters.now) head.now out.old out.new result }
 {
     api_boundary::vilggodan_write(
         out, texts, references, comments, features, qualifiers, locations, letters, head, width,

@@ -1,5 +1,6 @@
 // The reader's entry point with the features' rows as structs: all but the features is prepared, and then they are put in one pass, row by row.
 #![tactic(auto)]
+
 ghost use Rattle.spec_contracts.specs.Lent.{lent, left};
 ghost use Rattle.spec_contracts.specs.Reads.{ReadReported};
 
@@ -20,7 +21,7 @@ pub fn read(
     locations: &mut [usize],
     letters: &mut [u8],
 ) -> Reported
-    ensures { ReadReported strict s.now at (lent texts references comments rows qualifiers locations letters) (left texts references comments rows qualifiers locations letters) result }
+    ensures { ReadReported strict s.now at (lent texts.old references.old comments.old rows.old qualifiers.old locations.old letters.old) (left texts.new references.new comments.new rows.new qualifiers.new locations.new letters.new) result }
 {
     let p = read_record_prepared::prepare(
         s,

@@ -1,5 +1,6 @@
 // All of a planned record but its features, put into the lent rooms: texts, rows and letters, each in the table's own order.
 #![tactic(auto)]
+
 ghost use Rattle.std.specs.Prelude.{◌≡◌, ◌*◌, ◌≤◌, length};
 ghost use Rattle.std.proofs.lemmas.List.Edits.{sets};
 ghost use Rattle.spec_format.specs.Record.{most};

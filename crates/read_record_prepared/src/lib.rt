@@ -1,5 +1,6 @@
 // All of reading a record into rooms but its features: the answer, what else the rooms hold, and from where on how many features are still to be put.
 #![tactic(auto)]
+
 ghost use Rattle.std.specs.Prelude.{◌≡◌, ◌*◌, ◌<◌, ◌^◌, length};
 ghost use Rattle.read_record_plan.specs.Plans.{Ready};
 ghost use Rattle.read_record_sizes.specs.Sizing.{contig_place};

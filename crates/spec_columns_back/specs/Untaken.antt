@@ -41,20 +41,20 @@ unfolding sample day locus_tests number month_name date_text
 sample_read =
     locus_read sample.values day sample.line [] refl
     (record {
-      nameSome = refl;
-      nameSeen = refl;
-      nameColonless = refl;
-      countSome = refl;
-      countDigits = refl;
-      countTen = refl;
-      countFits = refl;
+      name_some = refl;
+      name_seen = refl;
+      name_colonless = refl;
+      count_some = refl;
+      count_digits = refl;
+      count_ten = refl;
+      count_fits = refl;
       strand = refl;
       molecule = refl;
       topology = refl;
-      divisionSome = refl;
-      divisionSeen = refl;
+      division_some = refl;
+      division_seen = refl;
       date = refl;
-      dateRange = refl;
+      date_range = refl;
     })
 
 -- in the public columns, but a name with `:`, a length of 11 digits, a length over 4,294,967,295

@@ -20,7 +20,7 @@ pub fn write(
     head: Head,
     how: How,
 ) -> WriteAnswer
-    ensures { WriteAnswered how (lent texts references comments rows qualifiers locations letters) head out.old out.new result }
+    ensures { WriteAnswered how (lent texts.now references.now comments.now rows.now qualifiers.now locations.now letters.now) head out.old out.new result }
 {
     let mut s = start(
         rows.len(),

@@ -1,5 +1,5 @@
 -- A turn does what its part does, and keeps what a state says.
-use Rattle.std.specs.Prelude.{ℕ, ◌-◌, ◌≤◌, ◌<◌, ◌≡◌, refl, Bool, true, false, List}
+use Rattle.std.specs.Prelude.{ℕ, ◌≤◌, ◌<◌, ◌≡◌, refl, Bool, true, false, List}
 use Rattle.std.proofs.Common.{sym, subst, ◌∙◌, arith}
 use Rattle.write_feature_row.specs.Flat.{row_known}
 use Rattle.spec_format.specs.Rooms.{features_fine}

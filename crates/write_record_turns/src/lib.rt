@@ -1,6 +1,7 @@
 // The turns of the writer. The feature rows are gone through twice, in one loop: first each is judged and measured, then,
 // where the record is to be written, each is put. What a turn does is decided by a state that is passed by value, so the loop itself only fetches rows.
 #![tactic(auto)]
+
 ghost use Rattle.std.specs.Prelude.{◌≡◌, [], ◌≤◌};
 ghost use Rattle.judge_feature.specs.Rules.{FeatureKnown};
 ghost use Rattle.base_rows.specs.Rows.{numbers};

@@ -1,5 +1,4 @@
 -- CONTIG, and the letters with the end.
-use Rattle.std.proofs.Common.{◌-◌}
 use Rattle.base_pen.specs.Pen.{writes_append}
 use Rattle.write_record_parts.specs.Parts.{after_parts}
 use Rattle.write_record_parts.proofs.put_after.Goals as goal

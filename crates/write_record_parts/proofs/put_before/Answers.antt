@@ -1,5 +1,4 @@
 -- The LOCUS line, the header, the line of FEATURES.
-use Rattle.std.proofs.Common.{◌-◌}
 use Rattle.base_pen.specs.Pen.{writes_append}
 use Rattle.write_record_parts.specs.Parts.{before_parts}
 use Rattle.write_record_parts.proofs.put_before.Goals as goal

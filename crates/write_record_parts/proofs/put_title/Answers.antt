@@ -1,5 +1,4 @@
 -- By whether there is a feature.
-use Rattle.std.proofs.Common.{◌-◌}
 use Rattle.base_pen.specs.Pen.{writes_nil, writes_as}
 use Rattle.write_record_parts.specs.Parts.{title_none, title_some}
 use Rattle.write_record_parts.proofs.put_title.Goals as goal
