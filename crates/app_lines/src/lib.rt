@@ -7,6 +7,9 @@ ghost use Rattle.spec_lines.specs.Troubles.{searched};
 
 use scan_bytes::Step;
 use spec_lines::Spot;
+use std::env::Env;
+use std::io;
+use std::io::Write;
 
 // ---- the line
 
@@ -59,40 +62,32 @@ fn columns_of(b: u8) -> usize {
     4
 }
 
-fn show_hidden(fd: i32, b: u8) {
+fn show_hidden<W: Write>(out: &mut W, b: u8) -> io::Result<()> {
     if b == b'\t' {
-        io::write_all(fd, b"\\t");
-        return;
+        return out.write_all(b"\\t");
     }
     if b == b'\n' {
-        io::write_all(fd, b"\\n");
-        return;
+        return out.write_all(b"\\n");
     }
     if b == b'\r' {
-        io::write_all(fd, b"\\r");
-        return;
+        return out.write_all(b"\\r");
     }
-    io::write_all(fd, b"\\x");
-    io::print_hex(fd, b as u64, 2);
+    write!(out, "\\x{b:02x}")
 }
 
-fn show_byte(fd: i32, b: u8) {
+fn show_byte<W: Write>(out: &mut W, b: u8) -> io::Result<()> {
     if scan_bytes::is_between(b' ', b'~', b) {
-        let cell = [b];
-        io::write_all(fd, &cell);
-        return;
+        return out.write_all(&[b]);
     }
-    show_hidden(fd, b);
+    show_hidden(out, b)
 }
 
 // In a file's name bytes above 127 stay as they are: whoever gave it can read it.
-fn show_name_byte(fd: i32, b: u8) {
+fn show_name_byte<W: Write>(out: &mut W, b: u8) -> io::Result<()> {
     if 127 < b {
-        let cell = [b];
-        io::write_all(fd, &cell);
-        return;
+        return out.write_all(&[b]);
     }
-    show_byte(fd, b);
+    show_byte(out, b)
 }
 
 // ---- the line itself
@@ -109,118 +104,122 @@ fn ends_line(input: &[u8], at: usize) -> bool
 }
 
 // A line from a place on, without its end, as far as the columns go; a byte that does not fit whole is left out.
-fn show_cut(fd: i32, input: &[u8], from: usize, columns: usize) {
-    let mut i = from;
+fn show_cut<W: Write>(out: &mut W, input: &[u8], from: usize, columns: usize) -> io::Result<()> {
     let mut left = columns;
-    while i < input.len() {
+    for i in from..input.len() {
         if ends_line(input, i) {
-            return;
+            break;
         }
         let b = input[i];
         let n = columns_of(b);
         if left < n {
-            return;
+            break;
         }
         left -= n;
-        show_byte(fd, b);
-        i += 1;
+        show_byte(out, b)?;
     }
+    Ok(())
 }
 
 // The line that begins at a place; where it has no byte, a word for that.
-fn show_line(fd: i32, input: &[u8], from: usize, columns: usize) {
+fn show_line<W: Write>(out: &mut W, input: &[u8], from: usize, columns: usize) -> io::Result<()> {
     if input.len() <= from {
-        io::write_all(fd, b"(the end of the input)\n");
-        return;
+        return out.write_all(b"(the end of the input)\n");
     }
     if ends_line(input, from) {
-        io::write_all(fd, b"(an empty line)\n");
-        return;
+        return out.write_all(b"(an empty line)\n");
     }
-    show_cut(fd, input, from, columns);
-    io::write_all(fd, b"\n");
+    show_cut(out, input, from, columns)?;
+    out.write_all(b"\n")
 }
 
 // ---- the message
 
-// What is refused, and how that is said: the record's ordinal and the number; the descriptor, the columns that the line may take, and the argument with the input's name (0: it has none).
+// What is refused, and how that is said: the record's ordinal and the number; the columns that the line may take, and the argument with the input's name (0: it has none).
 #[derive(Clone, Copy)]
 pub struct Message {
     pub ordinal: usize,
     pub number: usize,
-    pub fd: i32,
     pub columns: usize,
     pub name: usize,
 }
 
 // The bytes of an argument after `name=`.
-fn show_after_equals(fd: i32, word: &[u8]) {
-    let mut i = 5;
-    while i < word.len() {
-        show_name_byte(fd, word[i]);
-        i += 1;
+fn show_after_equals<W: Write>(out: &mut W, word: &[u8]) -> io::Result<()> {
+    for i in 5..word.len() {
+        show_name_byte(out, word[i])?;
     }
-    io::write_all(fd, b": ");
+    out.write_all(b": ")
 }
 
 // The input's name, if it has one; one of more than 4,091 bytes is left out.
-fn show_name(fd: i32, name: usize) {
+fn show_name<E: Env, W: Write>(env: &E, out: &mut W, name: usize) -> io::Result<()> {
     if name == 0 {
-        return;
+        return Ok(());
     }
-    let mut word = io::buffer();
-    let n = os::arg(name, &mut word);
-    if os::errno() == 0 {
-        show_after_equals(fd, &word[..n]);
+    let mut word = [0u8; 4096];
+    match env.arg(name, &mut word) {
+        Ok(n) => show_after_equals(out, &word[..n]),
+        Err(_) => Ok(()),
     }
 }
 
-fn show_ordinal(fd: i32, ordinal: usize) {
-    io::write_all(fd, b"record ");
-    io::print_decimal(fd, ordinal as u64);
+fn show_ordinal<W: Write>(out: &mut W, ordinal: usize) -> io::Result<()> {
+    write!(out, "record {ordinal}")
 }
 
-fn show_number(fd: i32, number: usize) {
-    io::write_all(fd, b": ");
-    io::print_decimal(fd, number as u64);
-    io::write_all(fd, b", ");
-    base_numbers::tell(fd, number);
-    io::write_all(fd, b"\n");
+fn show_number<W: Write>(out: &mut W, number: usize) -> io::Result<()> {
+    write!(out, ": {number}, ")?;
+    base_numbers::tell(out, number)?;
+    out.write_all(b"\n")
 }
 
 // A message about the line that begins at an offset.
-fn tell_line(input: &[u8], offset: usize, message: Message) {
-    let fd = message.fd;
+fn tell_line<E: Env, W: Write>(
+    env: &E,
+    out: &mut W,
+    input: &[u8],
+    offset: usize,
+    message: Message,
+) -> io::Result<()> {
     let line = file_line(input, offset);
-    show_name(fd, message.name);
-    io::write_all(fd, b"line ");
-    io::print_decimal(fd, line as u64);
-    io::write_all(fd, b" (");
-    show_ordinal(fd, message.ordinal);
-    io::write_all(fd, b")");
-    show_number(fd, message.number);
-    show_line(fd, input, offset, message.columns);
+    show_name(env, out, message.name)?;
+    write!(out, "line {line} (")?;
+    show_ordinal(out, message.ordinal)?;
+    out.write_all(b")")?;
+    show_number(out, message.number)?;
+    show_line(out, input, offset, message.columns)
 }
 
 // A message about no line.
-fn tell_record(message: Message) {
-    let fd = message.fd;
-    show_name(fd, message.name);
-    show_ordinal(fd, message.ordinal);
-    show_number(fd, message.number);
+fn tell_record<E: Env, W: Write>(env: &E, out: &mut W, message: Message) -> io::Result<()> {
+    show_name(env, out, message.name)?;
+    show_ordinal(out, message.ordinal)?;
+    show_number(out, message.number)
 }
 
 // A record was not read: the message, with the line that the answer tells, if it tells one.
-pub fn tell_unread(input: &[u8], spot: Spot, message: Message) {
+pub fn tell_unread<E: Env, W: Write>(
+    env: &E,
+    out: &mut W,
+    input: &[u8],
+    spot: Spot,
+    message: Message,
+) -> io::Result<()> {
     if spot.line == 0 {
-        tell_record(message);
-        return;
+        return tell_record(env, out, message);
     }
-    tell_line(input, spot.offset, message);
+    tell_line(env, out, input, spot.offset, message)
 }
 
 // The record that was read at a place was not written: the message, with its LOCUS line.
-pub fn tell_unwritten(input: &[u8], at: usize, message: Message) {
+pub fn tell_unwritten<E: Env, W: Write>(
+    env: &E,
+    out: &mut W,
+    input: &[u8],
+    at: usize,
+    message: Message,
+) -> io::Result<()> {
     let offset = locus_place(input, at);
-    tell_line(input, offset, message);
+    tell_line(env, out, input, offset, message)
 }

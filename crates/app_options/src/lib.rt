@@ -3,6 +3,8 @@
 
 ghost use Rattle.std.specs.Prelude.{◌≤◌};
 
+use std::env::{Env, FillError};
+
 #[derive(Clone, Copy)]
 pub struct Options {
     pub width: usize,
@@ -120,24 +122,30 @@ fn is_name(word: &[u8]) -> bool {
     false
 }
 
-// The options with the argument of that number. Sixteen bytes are enough for each word that is known; of a name they hold the start, which is all that is asked here.
-fn with_argument(so_far: Options, i: usize) -> Asked {
+// The options with the argument of that number. Sixteen bytes are enough for each word that is known; of a longer argument, as a name, they hold the start, which is all
+// that is asked here.
+fn with_argument<E: Env>(env: &E, so_far: Options, i: usize) -> Asked {
     let mut options = so_far;
     let mut word = [0u8; 16];
-    let n = os::arg(i, &mut word);
-    let error = os::errno();
+    let length = env.arg(i, &mut word);
     if is_name(&word) {
         options.name = i;
         return Asked::Options(options);
     }
-    if error != 0 {
-        return Asked::Nothing;
+    match length {
+        Ok(n) => with_word(so_far, &word[..n]),
+        Err(_) => Asked::Nothing,
     }
-    with_word(so_far, &word[..n])
+}
+
+// Whether there is an argument of that number.
+fn has_argument<E: Env>(env: &E, i: usize) -> bool {
+    let mut start = [0u8; 16];
+    !matches!(env.arg(i, &mut start), Err(FillError::NotPresent))
 }
 
 // What the program's arguments ask for; with none, width 80, all switches off, and messages of 80 columns without a name.
-pub fn options_asked() -> Asked {
+pub fn options_asked<E: Env>(env: &E) -> Asked {
     let mut options = Options {
         width: 80,
         keep: false,
@@ -147,15 +155,13 @@ pub fn options_asked() -> Asked {
         columns: 80,
         name: 0,
     };
-    let n = os::arg_count();
-    let mut i = 1;
-    while i < n {
-        match with_argument(options, i) {
+    for i in 1..usize::MAX {
+        if !has_argument(env, i) {
+            break;
+        }
+        match with_argument(env, options, i) {
             Asked::Nothing => return Asked::Nothing,
-            Asked::Options(more) => {
-                options = more;
-                i += 1;
-            }
+            Asked::Options(more) => options = more,
         }
     }
     Asked::Options(options)

@@ -1,10 +1,13 @@
-// Record after record out of an input: each is read, written again and put out. A refusal ends it with a message on standard error: which line of the input, which record,
-// which number, and why; and then that line. The rooms are lent.
+// Record after record out of an input: each is read, written again and put out. A refusal ends it with a message: which line of the input, which record, which number, and
+// why; and then that line. The rooms are lent, and so are the writers for the records and for the message.
 use app_lines::Message;
 use app_options::Options;
 use app_round::Round;
 use spec_format::{How, ReadAnswer, WriteAnswer};
 use spec_lines::Spot;
+use std::env::Env;
+use std::io;
+use std::io::Write;
 
 // How a record went.
 #[derive(Clone, Copy)]
@@ -19,69 +22,98 @@ fn refusal(options: Options, ordinal: usize, number: usize) -> Message {
     Message {
         ordinal: ordinal,
         number: number,
-        fd: 2,
         columns: options.columns,
         name: options.name,
     }
 }
 
 // Puts out the first n bytes.
-fn put_out(out: &[u8], n: usize) {
+fn put_out<O: Write>(output: &mut O, out: &[u8], n: usize) -> io::Result<()> {
     if n <= out.len() {
-        io::write_all(1, &out[0..n]);
+        output.write_all(&out[0..n])?;
     }
+    Ok(())
 }
 
 // Puts out what was written; 0, or the number of the refusal.
-fn put_written(answer: WriteAnswer, out: &[u8]) -> usize {
+fn put_written<O: Write>(output: &mut O, answer: WriteAnswer, out: &[u8]) -> io::Result<usize> {
     match answer {
-        WriteAnswer::Done(n) => put_out(out, n),
+        WriteAnswer::Done(n) => put_out(output, out, n)?,
         WriteAnswer::Refused(_) => {}
         WriteAnswer::Room(_) => {}
     }
-    base_numbers::write_number(answer)
+    Ok(base_numbers::write_number(answer))
 }
 
 // No record was read: the input is at its end, or that is told.
-fn unread(input: &[u8], spot: Spot, refusal: Message) -> Rewritten {
+fn unread<E: Env, M: Write>(
+    env: &E,
+    messages: &mut M,
+    input: &[u8],
+    spot: Spot,
+    refusal: Message,
+) -> io::Result<Rewritten> {
     if refusal.number == 1 {
-        return Rewritten::Ended;
+        return Ok(Rewritten::Ended);
     }
-    app_lines::tell_unread(input, spot, refusal);
-    Rewritten::Ended
+    app_lines::tell_unread(env, messages, input, spot, refusal)?;
+    Ok(Rewritten::Ended)
 }
 
 // A record was read at a place, and written by that number; the next one starts there.
-fn put_again(input: &[u8], at: usize, next: usize, refusal: Message) -> Rewritten {
+fn put_again<E: Env, M: Write>(
+    env: &E,
+    messages: &mut M,
+    input: &[u8],
+    at: usize,
+    next: usize,
+    refusal: Message,
+) -> io::Result<Rewritten> {
     if refusal.number == 0 {
-        return Rewritten::On(next);
+        return Ok(Rewritten::On(next));
     }
-    app_lines::tell_unwritten(input, at, refusal);
-    Rewritten::Ended
+    app_lines::tell_unwritten(env, messages, input, at, refusal)?;
+    Ok(Rewritten::Ended)
 }
 
 // What becomes of a record that was read and written, or not.
-fn after_round(
+fn after_round<E: Env, O: Write, M: Write>(
+    env: &E,
+    output: &mut O,
+    messages: &mut M,
     round: Round,
     input: &[u8],
     at: usize,
     out: &[u8],
     options: Options,
     ordinal: usize,
-) -> Rewritten {
+) -> io::Result<Rewritten> {
     let reported = round.read;
     let answer = reported.answer;
     let spot = reported.spot;
     let wrote = round.wrote;
     match answer {
-        ReadAnswer::Room(_) => unread(input, spot, refusal(options, ordinal, 6)),
+        ReadAnswer::Room(_) => unread(env, messages, input, spot, refusal(options, ordinal, 6)),
         ReadAnswer::Refused(why) => {
             let number = base_numbers::unread_number(why);
-            unread(input, spot, refusal(options, ordinal, number))
+            unread(
+                env,
+                messages,
+                input,
+                spot,
+                refusal(options, ordinal, number),
+            )
         }
         ReadAnswer::Done { head: _, place } => {
-            let number = put_written(wrote, out);
-            put_again(input, at, place, refusal(options, ordinal, number))
+            let number = put_written(output, wrote, out)?;
+            put_again(
+                env,
+                messages,
+                input,
+                at,
+                place,
+                refusal(options, ordinal, number),
+            )
         }
     }
 }
@@ -97,7 +129,10 @@ fn how_asked(options: Options) -> How {
 }
 
 // One record.
-fn rewrite_at(
+fn rewrite_at<E: Env, O: Write, M: Write>(
+    env: &E,
+    output: &mut O,
+    messages: &mut M,
     input: &[u8],
     at: usize,
     texts: &mut [u8],
@@ -109,7 +144,7 @@ fn rewrite_at(
     out: &mut [u8],
     options: Options,
     ordinal: usize,
-) -> Rewritten {
+) -> io::Result<Rewritten> {
     let round = app_round::read_and_write(
         input,
         at,
@@ -123,11 +158,16 @@ fn rewrite_at(
         out,
         how_asked(options),
     );
-    after_round(round, input, at, out, options, ordinal)
+    after_round(
+        env, output, messages, round, input, at, out, options, ordinal,
+    )
 }
 
 // All records of the input. A record takes a byte at least, so there are no more records than bytes.
-pub fn rewrite_all(
+pub fn rewrite_all<E: Env, O: Write, M: Write>(
+    env: &E,
+    output: &mut O,
+    messages: &mut M,
     input: &[u8],
     texts: &mut [u8],
     references: &mut [usize],
@@ -137,19 +177,16 @@ pub fn rewrite_all(
     letters: &mut [u8],
     out: &mut [u8],
     options: Options,
-) {
+) -> io::Result<()> {
     let mut at = 0;
-    let mut ordinal = 1;
-    while ordinal <= input.len() {
+    for ordinal in 1..=input.len() {
         match rewrite_at(
-            input, at, texts, references, comments, qualifiers, locations, letters, out, options,
-            ordinal,
-        ) {
-            Rewritten::Ended => return,
-            Rewritten::On(next) => {
-                at = next;
-                ordinal += 1;
-            }
+            env, output, messages, input, at, texts, references, comments, qualifiers, locations,
+            letters, out, options, ordinal,
+        )? {
+            Rewritten::Ended => break,
+            Rewritten::On(next) => at = next,
         }
     }
+    Ok(())
 }

@@ -2,7 +2,10 @@
 // contracts say their lengths alone, so that a proof about a program does not write them out.
 #![tactic(auto)]
 
-ghost use Rattle.std.specs.Prelude.{length, ◌≡◌};
+ghost use Rattle.std.specs.Prelude.{length, ◌≡◌, ◌≤◌, IfOk};
+
+use std::io;
+use std::io::Read;
 
 // The input, and one byte by which a longer one is known.
 pub fn input_room() -> [u8; 524289]
@@ -51,4 +54,19 @@ pub fn out_room() -> [u8; 2097152]
     ensures { 2097152 ≡ length result }
 {
     [0u8; 2097152]
+}
+
+// Reads until the room is full or the input ends; how many bytes then stand at the room's start.
+pub fn fill<R: Read>(input: &mut R, room: &mut [u8]) -> io::Result<usize>
+    ensures { IfOk result (λ n. n ≤ length room.new) }
+{
+    let mut done = 0;
+    while done < room.len() {
+        let n = input.read(&mut room[done..])?;
+        if n == 0 {
+            break;
+        }
+        done += n;
+    }
+    Ok(done)
 }

@@ -5,6 +5,8 @@ ghost use Rattle.std.specs.Prelude.{◌≡◌};
 ghost use Rattle.spec_format.specs.Numbers.{unread_number, unread_place, unwritten_number, write_number, write_value};
 
 use spec_format::{Unread, Unwritten, WriteAnswer};
+use std::io;
+use std::io::Write;
 
 // The number of a refusal to read.
 pub fn unread_number(why: Unread) -> usize
@@ -77,82 +79,78 @@ pub fn write_value(answer: WriteAnswer) -> usize
 }
 
 // The words for the numbers that are about an input and a place in it.
-fn tell_input(fd: i32, number: usize) {
+fn tell_input<W: Write>(out: &mut W, number: usize) -> io::Result<()> {
     if number == 1 {
-        io::write_all(fd, b"the place is the end of the input: no more records");
+        out.write_all(b"the place is the end of the input: no more records")?;
     }
     if number == 2 {
-        io::write_all(fd, b"the input ends inside the record");
+        out.write_all(b"the input ends inside the record")?;
     }
     if number == 3 {
-        io::write_all(
-            fd,
+        out.write_all(
             b"the place is beyond the input, or the input is longer than 16,777,216 bytes",
-        );
+        )?;
     }
+    Ok(())
 }
 
 // The words for the numbers that are about a record's lines.
-fn tell_record(fd: i32, number: usize) {
+fn tell_record<W: Write>(out: &mut W, number: usize) -> io::Result<()> {
     if number == 4 {
-        io::write_all(fd, b"no LOCUS line");
+        out.write_all(b"no LOCUS line")?;
     }
     if number == 5 {
-        io::write_all(fd, b"a second DEFINITION");
+        out.write_all(b"a second DEFINITION")?;
     }
     if number == 7 {
-        io::write_all(fd, b"this line is no feature, qualifier, section or //");
+        out.write_all(b"this line is no feature, qualifier, section or //")?;
     }
     if number == 14 {
-        io::write_all(
-            fd,
-            b"a location opens more than 16 words of complement, join and order",
-        );
+        out.write_all(b"a location opens more than 16 words of complement, join and order")?;
     }
+    Ok(())
 }
 
 // The words for the numbers that are about its letters.
-fn tell_letters(fd: i32, number: usize) {
+fn tell_letters<W: Write>(out: &mut W, number: usize) -> io::Result<()> {
     if number == 8 {
-        io::write_all(fd, b"the letters are not as many as LOCUS says");
+        out.write_all(b"the letters are not as many as LOCUS says")?;
     }
     if number == 9 {
-        io::write_all(fd, b"a byte that cannot stand among the letters");
+        out.write_all(b"a byte that cannot stand among the letters")?;
     }
     if number == 16 {
-        io::write_all(fd, b"a letter that is no IUPAC code for bases");
+        out.write_all(b"a letter that is no IUPAC code for bases")?;
     }
+    Ok(())
 }
 
 // The words for the numbers that are about rooms, and a table in them.
-fn tell_table(fd: i32, number: usize) {
+fn tell_table<W: Write>(out: &mut W, number: usize) -> io::Result<()> {
     if number == 6 {
-        io::write_all(fd, b"the room is too small");
+        out.write_all(b"the room is too small")?;
     }
     if number == 10 {
-        io::write_all(
-            fd,
+        out.write_all(
             b"a text or row of the table lies outside its room, or location rows are not those of their text",
-        );
+        )?;
     }
     if number == 11 {
-        io::write_all(fd, b"a text, date or sequence that cannot be laid out");
+        out.write_all(b"a text, date or sequence that cannot be laid out")?;
     }
     if number == 12 {
-        io::write_all(fd, b"the width is not 60 to 132");
+        out.write_all(b"the width is not 60 to 132")?;
     }
     if number == 13 {
-        io::write_all(
-            fd,
-            b"a keeping rule is broken: it may not read back the same",
-        );
+        out.write_all(b"a keeping rule is broken: it may not read back the same")?;
     }
+    Ok(())
 }
 
-// Why, in words, on the descriptor `fd`. They stand in api/rust, api/vilggodan.h and README.md too, and tools/reasons compares them.
-pub fn tell(fd: i32, number: usize) {
-    tell_input(fd, number);
-    tell_record(fd, number);
-    tell_letters(fd, number);
-    tell_table(fd, number);
+// Why, in words, to the writer `out`. They stand in api/rust, api/vilggodan.h and README.md too, and tools/reasons compares them.
+pub fn tell<W: Write>(out: &mut W, number: usize) -> io::Result<()> {
+    tell_input(out, number)?;
+    tell_record(out, number)?;
+    tell_letters(out, number)?;
+    tell_table(out, number)
 }

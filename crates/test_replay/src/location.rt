@@ -2,7 +2,7 @@
 use read_location::Location;
 use scan_location_bytes::Laid;
 use test_stored_lines::{
-    Checked, count_answer, number_at, number_room, same_numbers, take_numbers, take_text,
+    Checked, byte_room, count_answer, number_at, number_room, same_numbers, take_numbers, take_text,
 };
 
 // What the text is read as, by the number that is due for it: 0 a reading, 11 none (in writing), 14 a seventeenth word.
@@ -51,7 +51,7 @@ fn part_as_stored(text: &[u8], n: usize, gaps: bool, number: usize, rows: &[usiz
 
 // The location whose fields start there.
 pub fn replay_location(s: &[u8], at: usize, counts: &mut [usize]) -> Checked {
-    let mut text = io::buffer();
+    let mut text = byte_room();
     let mut gaps = number_room();
     let mut number = number_room();
     let mut rows = number_room();

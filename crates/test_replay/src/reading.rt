@@ -3,8 +3,8 @@ use api_told::reading_of;
 use spec_contracts::Reading;
 use spec_format::Sizes;
 use test_stored_lines::{
-    Checked, LINES, among, byte_at, count_answer, count_one, lent, number_at, number_room,
-    same_numbers, take_numbers, take_text,
+    Checked, LINES, among, byte_at, byte_room, count_answer, count_one, lent, number_at,
+    number_room, same_numbers, take_numbers, take_text,
 };
 
 fn and_then(so_far: Checked, next: usize, same: bool) -> Checked {
@@ -22,7 +22,7 @@ fn and_then(so_far: Checked, next: usize, same: bool) -> Checked {
 
 // The whole room holds the text that the next field says, and nothing else.
 fn text_as_stored(s: &[u8], so_far: Checked, room: &[u8]) -> Checked {
-    let mut stored = io::buffer();
+    let mut stored = byte_room();
     let field = take_text(s, so_far.next, &mut stored);
     and_then(so_far, field.next, base_keys::same_text(&stored, room))
 }
@@ -187,13 +187,13 @@ fn read_input(
     strict: bool,
     counts: &mut [usize],
 ) -> Checked {
-    let mut texts = io::buffer();
+    let mut texts = byte_room();
     let mut references = number_room();
     let mut comments = number_room();
     let mut features = number_room();
     let mut qualifiers = number_room();
     let mut locations = number_room();
-    let mut letters = io::buffer();
+    let mut letters = byte_room();
     let answer = read_lent(
         input,
         call,
@@ -244,7 +244,7 @@ fn read_part(
 
 // The reading whose fields start there, with the strict switch on or off.
 pub fn replay_reading(s: &[u8], at: usize, strict: bool, counts: &mut [usize]) -> Checked {
-    let mut input = io::buffer();
+    let mut input = byte_room();
     let mut call = number_room();
     let slice = take_text(s, at, &mut input);
     let asked = take_numbers(s, slice.next, &mut call);

@@ -5,6 +5,8 @@ ghost use Rattle.std.specs.Prelude.{length, ◌<◌};
 use crate::location::replay_location;
 use crate::reading::replay_reading;
 use crate::writing::replay_writing;
+use std::io;
+use std::io::Write;
 use test_stored_lines::{
     Checked, DIFFER, LOCATIONS, NOT_UNDERSTOOD, READINGS, STRICT, WRITINGS, byte_at,
     count_departures, count_one, next_line, number_at, number_room, take_numbers,
@@ -48,36 +50,47 @@ fn replay_answer(s: &[u8], at: usize, kind: u8, counts: &mut [usize]) -> bool {
 }
 
 // Says which line differs, the first few times.
-fn tell(name: &[u8], line: usize, counts: &mut [usize]) {
+fn tell<W: Write>(out: &mut W, name: &[u8], line: usize, counts: &mut [usize]) -> io::Result<()> {
     count_one(counts, DIFFER);
     if 5 < number_at(counts, DIFFER) {
-        return;
+        return Ok(());
     }
-    io::write_all(1, name);
-    io::write_all(1, b", line ");
-    io::print_decimal(1, line as u64);
-    io::write_all(1, b": differs\n");
+    out.write_all(name)?;
+    write!(out, ", line {line}: differs\n")
 }
 
-fn replay_line(name: &[u8], s: &[u8], at: usize, line: usize, counts: &mut [usize])
+fn replay_line<W: Write>(
+    out: &mut W,
+    name: &[u8],
+    s: &[u8],
+    at: usize,
+    line: usize,
+    counts: &mut [usize],
+) -> io::Result<()>
     requires { at < length s.now }
 {
     if s[at] == b'#' {
-        return;
+        return Ok(());
     }
     if replay_answer(s, at + 1, s[at], counts) {
-        return;
+        return Ok(());
     }
-    tell(name, line, counts);
+    tell(out, name, line, counts)
 }
 
 // All lines of the file of that name.
-pub fn replay_all(name: &[u8], s: &[u8], counts: &mut [usize]) {
+pub fn replay_all<W: Write>(
+    out: &mut W,
+    name: &[u8],
+    s: &[u8],
+    counts: &mut [usize],
+) -> io::Result<()> {
     let mut at = 0;
     let mut line = 1;
     while at < s.len() {
-        replay_line(name, s, at, line, counts);
+        replay_line(out, name, s, at, line, counts)?;
         at = next_line(s, at);
         line += 1;
     }
+    Ok(())
 }

@@ -4,7 +4,7 @@ use api_told::writing_of;
 use spec_contracts::Writing;
 use spec_format::{Head, How};
 use test_stored_lines::{
-    Checked, count_answer, lent, number_at, number_room, take_numbers, take_text,
+    Checked, byte_room, count_answer, lent, number_at, number_room, take_numbers, take_text,
 };
 
 // One of the two writers, as the call says: width, truncation, escaping.
@@ -22,7 +22,7 @@ fn slice_as_stored(number: usize, out: &[u8], bytes: &[u8]) -> bool {
     if number == 0 {
         return base_keys::same_text(out, bytes);
     }
-    let untouched = io::buffer();
+    let untouched = byte_room();
     base_keys::same_text(out, &untouched)
 }
 
@@ -94,7 +94,7 @@ fn written_as_stored(
     stored: &[usize],
     bytes: &[u8],
 ) -> bool {
-    let mut out = io::buffer();
+    let mut out = byte_room();
     let answer = write_lent(
         keeping, &mut out, texts, references, comments, features, qualifiers, locations, letters,
         head, call, n,
@@ -182,7 +182,7 @@ fn write_table(
     let mut head = number_room();
     let mut call = number_room();
     let mut stored = number_room();
-    let mut bytes = io::buffer();
+    let mut bytes = byte_room();
     let heads = take_numbers(s, at, &mut head);
     let asked = take_numbers(s, heads.next, &mut call);
     let numbers = take_numbers(s, asked.next, &mut stored);
@@ -221,7 +221,7 @@ fn write_rest(
 ) -> Checked {
     let mut qualifiers = number_room();
     let mut locations = number_room();
-    let mut letters = io::buffer();
+    let mut letters = byte_room();
     let a = take_numbers(s, at, &mut qualifiers);
     let b = take_numbers(s, a.next, &mut locations);
     let c = take_text(s, b.next, &mut letters);
@@ -241,7 +241,7 @@ fn write_rest(
 
 // The writing whose fields start there.
 pub fn replay_writing(s: &[u8], at: usize, counts: &mut [usize]) -> Checked {
-    let mut texts = io::buffer();
+    let mut texts = byte_room();
     let mut references = number_room();
     let mut comments = number_room();
     let mut features = number_room();

@@ -1,3 +1,6 @@
+use std::io;
+use std::io::Write;
+
 // What is counted: 0 to 14 and 16 are answers by their number (15 is no answer of a reader or a writer), and these.
 pub const TWO_OR_FOUR: usize = 17;
 
@@ -68,14 +71,14 @@ pub fn count_answer(counts: &mut [usize], first: usize, n: usize) {
     }
 }
 
-fn say(word: &[u8], n: usize) {
-    io::write_all(1, word);
-    io::print_decimal(1, n as u64);
+fn say<W: Write>(out: &mut W, word: &[u8], n: usize) -> io::Result<()> {
+    out.write_all(word)?;
+    write!(out, "{n}")
 }
 
-fn say_line(word: &[u8], n: usize) {
-    say(word, n);
-    io::write_all(1, b"\n");
+fn say_line<W: Write>(out: &mut W, word: &[u8], n: usize) -> io::Result<()> {
+    say(out, word, n)?;
+    out.write_all(b"\n")
 }
 
 // None at that place, if there is such a place.
@@ -86,55 +89,54 @@ fn clear(counts: &mut [usize], i: usize) {
 }
 
 // How many cases of a source there were; the next source is counted from 0.
-pub fn say_source(title: &[u8], counts: &mut [usize]) {
-    io::write_all(1, title);
+pub fn say_source<W: Write>(out: &mut W, title: &[u8], counts: &mut [usize]) -> io::Result<()> {
+    out.write_all(title)?;
     if LOCATIONS < counts.len() {
-        say(b": ", counts[READINGS]);
-        say(b" readings, ", counts[WRITINGS]);
-        say(b" writings, ", counts[LOCATIONS]);
-        io::write_all(1, b" locations\n");
+        say(out, b": ", counts[READINGS])?;
+        say(out, b" readings, ", counts[WRITINGS])?;
+        say(out, b" writings, ", counts[LOCATIONS])?;
+        out.write_all(b" locations\n")?;
         clear(counts, READINGS);
         clear(counts, WRITINGS);
         clear(counts, LOCATIONS);
     }
+    Ok(())
 }
 
-fn say_numbers(counts: &[usize]) {
-    let mut n = 0;
-    while n < 15 {
+fn say_numbers<W: Write>(out: &mut W, counts: &[usize]) -> io::Result<()> {
+    for n in 0..15 {
         if counts.len() <= n {
-            return;
+            break;
         }
-        say(b"number ", n);
-        say_line(b": ", counts[n]);
-        n += 1;
+        say(out, b"number ", n)?;
+        say_line(out, b": ", counts[n])?;
     }
+    Ok(())
 }
 
-fn say_departures(counts: &[usize]) {
-    let mut d = 1;
-    while d < 8 {
+fn say_departures<W: Write>(out: &mut W, counts: &[usize]) -> io::Result<()> {
+    for d in 1..8 {
         if counts.len() <= DEPARTURES + d {
-            return;
+            break;
         }
-        say(b"departure ", d);
-        say_line(b": ", counts[DEPARTURES + d]);
-        d += 1;
+        say(out, b"departure ", d)?;
+        say_line(out, b": ", counts[DEPARTURES + d])?;
     }
+    Ok(())
 }
 
-pub fn say_counts(counts: &[usize]) {
+pub fn say_counts<W: Write>(out: &mut W, counts: &[usize]) -> io::Result<()> {
     if counts.len() <= DIFFER {
-        return;
+        return Ok(());
     }
-    say_numbers(counts);
-    say_line(b"number 16: ", counts[16]);
-    say_line(b"2 or 4: ", counts[TWO_OR_FOUR]);
-    say_line(b"2, 4, 5, 7, 8 or 9: ", counts[REFUSED]);
-    say_departures(counts);
-    say_line(b"no departure: ", counts[DEPARTURES]);
-    say_line(b"with line and offset: ", counts[LINES]);
-    say_line(b"strict readings: ", counts[STRICT]);
-    say_line(b"not understood: ", counts[NOT_UNDERSTOOD]);
-    say_line(b"differ: ", counts[DIFFER]);
+    say_numbers(out, counts)?;
+    say_line(out, b"number 16: ", counts[16])?;
+    say_line(out, b"2 or 4: ", counts[TWO_OR_FOUR])?;
+    say_line(out, b"2, 4, 5, 7, 8 or 9: ", counts[REFUSED])?;
+    say_departures(out, counts)?;
+    say_line(out, b"no departure: ", counts[DEPARTURES])?;
+    say_line(out, b"with line and offset: ", counts[LINES])?;
+    say_line(out, b"strict readings: ", counts[STRICT])?;
+    say_line(out, b"not understood: ", counts[NOT_UNDERSTOOD])?;
+    say_line(out, b"differ: ", counts[DIFFER])
 }

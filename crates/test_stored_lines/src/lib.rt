@@ -13,4 +13,4 @@ pub use fields::{
     Checked, Field, among, byte_at, lent, next_line, number_at, same_numbers, take_numbers,
     take_text,
 };
-pub use room::number_room;
+pub use room::{byte_room, number_room};

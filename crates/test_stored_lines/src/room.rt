@@ -1,6 +1,14 @@
-// Rooms for the small tables of stored answers. Texts, letters and slices take `io::buffer()`, of 4,096 bytes; rows and other numbers this one.
+// Rooms for the small tables of stored answers.
 ghost use Rattle.std.specs.Prelude.{length, ◌≡◌};
 
+// For texts, letters and slices.
+pub fn byte_room() -> [u8; 4096]
+    ensures { 4096 ≡ length result }
+{
+    [0u8; 4096]
+}
+
+// For rows and other numbers.
 pub fn number_room() -> [usize; 264]
     ensures { 264 ≡ length result }
 {

@@ -2,8 +2,5 @@
 use Rattle.std.proofs.Common.{◌-◌}
 use Rattle.test_stored_lines.proofs.fields.among.Given as goal
 
-abbrev pub invariant-loop-i : goal.invariant-loop-i
-invariant-loop-i l = Unit
-
 abbrev pub decreases-loop-i : goal.decreases-loop-i
 decreases-loop-i l = l.n - l.i

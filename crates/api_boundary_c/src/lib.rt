@@ -1,0 +1,55 @@
+// The names that programs in other languages call: each is the function of `api_boundary` of that name, with the same promise. api/vilggodan.h says how the arguments are
+// passed.
+#![tactic(auto)]
+
+ghost use Rattle.spec_contracts.specs.Lent.{lent, left};
+ghost use Rattle.spec_contracts.specs.Told.{ReadTold, WriteTold, how_of};
+
+use base_rows::Feature;
+use spec_contracts::{Reading, Writing};
+
+// Reads the record at a place of `s` into the rooms, strictly or not.
+#[unsafe(no_mangle)]
+pub extern "C" fn vilggodan_read(
+    s: &[u8],
+    at: usize,
+    strict: bool,
+    texts: &mut [u8],
+    references: &mut [usize],
+    comments: &mut [usize],
+    features: &mut [Feature],
+    qualifiers: &mut [usize],
+    locations: &mut [usize],
+    letters: &mut [u8],
+) -> Reading
+    ensures { ReadTold strict s.now at (lent texts.old references.old comments.old features.old qualifiers.old locations.old letters.old) (left texts.new references.new comments.new features.new qualifiers.new locations.new letters.new) result }
+{
+    api_boundary::vilggodan_read(
+        s, at, strict, texts, references, comments, features, qualifiers, locations, letters,
+    )
+}
+
+// Writes the table in the rooms by the keeping rules or plainly.
+#[unsafe(no_mangle)]
+pub extern "C" fn vilggodan_write(
+    out: &mut [u8],
+    texts: &[u8],
+    references: &[usize],
+    comments: &[usize],
+    features: &[Feature],
+    qualifiers: &[usize],
+    locations: &[usize],
+    letters: &[u8],
+    head: &[usize],
+    width: usize,
+    keep: bool,
+    truncate: bool,
+    escape: bool,
+) -> Writing
+    ensures { WriteTold (how_of keep width truncate escape) (lent texts.now references.now comments.now features.now qualifiers.now locations.now letters.now) head.now out.old out.new result }
+{
+    api_boundary::vilggodan_write(
+        out, texts, references, comments, features, qualifiers, locations, letters, head, width,
+        keep, truncate, escape,
+    )
+}

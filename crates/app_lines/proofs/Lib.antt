@@ -1,2 +1,0 @@
--- Laws of the line that a message tells.
-pub mod Laws

@@ -1,9 +1,0 @@
--- A turn for each argument.
-use Rattle.std.proofs.Common.{◌-◌}
-use Rattle.app_options.proofs.options_asked.Given as goal
-
-abbrev pub invariant-loop-i : goal.invariant-loop-i
-invariant-loop-i l = Unit
-
-abbrev pub decreases-loop-i : goal.decreases-loop-i
-decreases-loop-i l = l.n - l.i

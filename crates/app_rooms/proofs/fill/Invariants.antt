@@ -1,0 +1,9 @@
+-- Each turn but the last reads a byte at least.
+use Rattle.std.proofs.Common.{◌-◌, ◌≤◌, length}
+use Rattle.app_rooms.proofs.fill.Given as goal
+
+abbrev pub invariant-loop-done : goal.invariant-loop-done
+invariant-loop-done g l = l.done ≤ length l.room
+
+abbrev pub decreases-loop-done : goal.decreases-loop-done
+decreases-loop-done g l = length l.room - l.done

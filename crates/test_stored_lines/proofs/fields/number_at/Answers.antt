@@ -1,7 +1,0 @@
--- Past the end of a list stands 0.
-use Rattle.std.proofs.Common.{rules}
-use Rattle.test_stored_lines.specs.Compared.{past_end}
-use Rattle.test_stored_lines.proofs.fields.number_at.Goals as goal
-
-pub returns : goal.returns
-returns c = search (past_end, rules)
