@@ -1,5 +1,6 @@
 // A record read into rows of features that are structs, and written again from them. The rows are its own, so whoever calls it has plain parameters.
 #![tactic(auto)]
+
 ghost use Rattle.std.specs.Prelude.{◌≡◌};
 ghost use Rattle.base_rows.specs.Rows.{flat};
 ghost use Rattle.spec_contracts.specs.Rounds.{empty_head, empty_rows, head_of, how_after, Rounds};

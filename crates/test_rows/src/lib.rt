@@ -1,6 +1,7 @@
 // The entry points that ship, as the tests call them: with a feature's row as eight numbers of a flat room, so that stored answers and cases say what they lend and expect in numbers. The numbers are
 // made rows of structs, exactly as many rows are lent as the flat room has, and what they hold afterwards is put back as numbers.
 #![tactic(auto)]
+
 ghost use Rattle.std.specs.Prelude.{◌*◌, ◌+◌, ◌/◌, ◌<◌, ◌≤◌, length, take, drop, ◌≡◌};
 ghost use Rattle.std.proofs.lemmas.List.Edits.{sets};
 ghost use Rattle.base_pen.specs.Pen.{Writes};
