@@ -10,7 +10,7 @@ use Rattle.spec_format.specs.Bytes.{concat}
 use Rattle.spec_format.specs.Utf8.{utf8}
 use Rattle.spec_format.specs.Readers.{Ans, got, no, cut, bind, mapped, passing, utf8_of, line, loop, end}
 use Rattle.spec_format.specs.Features.{bare_more, bare}
-use Rattle.spec_loops.specs.Shrinks.{bare_more_small}
+use Rattle.spec_loops.proofs.Shrinks.{bare_more_small}
 use Rattle.scan_bytes.specs.Places.{part}
 use Rattle.scan_bytes.specs.Parts.{length_part}
 use Rattle.scan_bytes.specs.Views.{Lined}

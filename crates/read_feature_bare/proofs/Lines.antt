@@ -11,8 +11,9 @@ use lib.Dec.{eqb}
 use Rattle.spec_format.specs.Bytes.{spaces}
 use Rattle.spec_format.specs.Readers.{Ans, got, no, bind, tag, line, Turn, end}
 use Rattle.spec_format.specs.Features.{not_slash, bare_turn, bare_more}
-use Rattle.spec_loops.specs.Loops.{end_on, end_stops, end_noes, end_cuts}
-use Rattle.spec_loops.specs.Shrinks.{bare_more_small}
+use Rattle.spec_loops.specs.Loops.{end_stops, end_noes, end_cuts}
+use Rattle.spec_loops.proofs.Loops.{end_on}
+use Rattle.spec_loops.proofs.Shrinks.{bare_more_small}
 use Rattle.scan_bytes.specs.Places.{part}
 use Rattle.scan_bytes.specs.Views.{Stepped, Lined}
 use Rattle.scan_bytes.specs.Sequence.{step_places, step_is, line_places, line_is}

@@ -3,7 +3,8 @@ use Rattle.std.specs.Prelude.{ℕ, ◌+◌, ◌-◌, ◌≤◌, ◌<◌, ◌≡�
 use Rattle.std.proofs.Common.{subst, arith, length-drop}
 use Rattle.spec_format.specs.Readers.{Ans, got, no, cut, Turn, more, stop, line}
 use Rattle.spec_format.specs.Features.{bare_more, bare}
-use Rattle.spec_loops.specs.Shrinks.{bare_takes, leaves_length}
+use Rattle.spec_loops.specs.Shrinks.{leaves_length}
+use Rattle.spec_loops.proofs.Shrinks.{bare_takes}
 use Rattle.scan_bytes.specs.Places.{part}
 use Rattle.read_feature_joined.specs.Taken.{taken}
 use Rattle.read_feature_joined.specs.Views.{Span}

@@ -3,7 +3,8 @@ use Rattle.std.specs.Prelude.{ℕ, ◌+◌, ◌≡◌, List, [], ◌++◌, lengt
 use Rattle.std.proofs.Common.{ap, ◌∙◌, arith, length-append}
 use Rattle.spec_format.specs.Bytes.{concat}
 use Rattle.spec_format.specs.Readers.{Ans, got, no, cut, bind, Turn, more, stop, members, end, loop}
-use Rattle.spec_loops.specs.Loops.{Shrinks, members_more, members_stop, members_no, members_cut}
+use Rattle.spec_loops.specs.Loops.{Shrinks, members_stop, members_no, members_cut}
+use Rattle.spec_loops.proofs.Loops.{members_more}
 use Rattle.scan_utf8.specs.declared.State.{State}
 use Rattle.scan_utf8.specs.States.{Ran, ran_none, ran_append}
 use Rattle.base_pen.specs.Pen.{Writes, Left, left_step, left_as, left_end}

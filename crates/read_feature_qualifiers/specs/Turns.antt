@@ -4,8 +4,9 @@ use Rattle.std.proofs.Common.{ap, subst, ◌∙◌, arith}
 use Rattle.spec_format.specs.Table.{Qualifier}
 use Rattle.spec_format.specs.Readers.{got, cut, fit_turn, members, end}
 use Rattle.spec_format.specs.Features.{qualifier}
-use Rattle.spec_loops.specs.Loops.{fit_members_more, fit_members_stop, fit_members_cut, fit_end_more, fit_end_stop, fit_end_cut}
-use Rattle.spec_loops.specs.Shrinks.{qualifier_small}
+use Rattle.spec_loops.specs.Loops.{fit_members_stop, fit_members_cut, fit_end_stop, fit_end_cut}
+use Rattle.spec_loops.proofs.Loops.{fit_members_more, fit_end_more}
+use Rattle.spec_loops.proofs.Shrinks.{qualifier_small}
 use Rattle.read_feature_qualifiers.specs.declared.ValueAt.{ValueAt}
 use Rattle.read_feature_qualifiers.specs.declared.QualifierAt.{QualifierAt}
 use Rattle.read_feature_qualifiers.specs.declared.QualifierAt.TheVariants as one

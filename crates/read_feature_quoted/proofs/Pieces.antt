@@ -7,8 +7,9 @@ use native.Mathlib.Omega.{arith}
 use lib.ListN.{length, drop}
 use Rattle.spec_format.specs.Readers.{got, tag, line_end, more}
 use Rattle.spec_format.specs.Features.{escape, escaped, quoted_turn}
-use Rattle.spec_loops.specs.Loops.{end_on, end_stops, end_noes, end_cuts}
-use Rattle.spec_loops.specs.Shrinks.{quoted_turn_small}
+use Rattle.spec_loops.specs.Loops.{end_stops, end_noes, end_cuts}
+use Rattle.spec_loops.proofs.Loops.{end_on}
+use Rattle.spec_loops.proofs.Shrinks.{quoted_turn_small}
 use Rattle.scan_bytes.specs.Places.{part}
 use Rattle.scan_bytes.specs.Parts.{part_snoc}
 use Rattle.scan_bytes.specs.Views.{Emptied}

@@ -12,8 +12,8 @@ use lib.ListN.{length, get_or, drop, drop_of_length-le}
 use lib.Seq.{drop-cons}
 use Rattle.spec_format.specs.Readers.{got, tag, more, end}
 use Rattle.spec_format.specs.Features.{special, escape, quoted_turn}
-use Rattle.spec_loops.specs.Loops.{end_more}
-use Rattle.spec_loops.specs.Shrinks.{quoted_turn_small}
+use Rattle.spec_loops.proofs.Loops.{end_more}
+use Rattle.spec_loops.proofs.Shrinks.{quoted_turn_small}
 use Rattle.scan_bytes.specs.Parts.{part_none, part_snoc, part_append}
 use Rattle.scan_utf8.specs.States.{ascii}
 use Rattle.scan_utf8.specs.Every.{all_on}

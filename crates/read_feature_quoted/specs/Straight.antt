@@ -12,9 +12,11 @@ use Rattle.spec_format.specs.Bytes.{pick, bytes, spaces}
 use Rattle.spec_format.specs.Readers.{Ans, got, no, cut, bind, mapped, or_else, passing, utf8_of, tag, line_feed, line_end, Turn, more, stop, end}
 use Rattle.spec_format.specs.Utf8.{utf8}
 use Rattle.spec_format.specs.Features.{special, escape, escaped, quoted_end, quoted_turn, quoted}
-use Rattle.spec_loops.specs.Loops.{end_more, end_stop, end_no, end_cut}
+use Rattle.spec_loops.specs.Loops.{end_stop, end_no, end_cut}
+use Rattle.spec_loops.proofs.Loops.{end_more}
 use Rattle.spec_loops.specs.Shrinks.{past_here, past_byte, past_then, past_drop}
-use Rattle.spec_loops.specs.Shrinks.{Leaves, leaves_got, leaves_no, leaves_cut, leaves_first, leaves_mapped, leaves_pick, leaves_length, tag_leaves, tag_loose, end_takes, quoted_turn_small}
+use Rattle.spec_loops.specs.Shrinks.{Leaves, leaves_got, leaves_no, leaves_cut, leaves_first, leaves_mapped, leaves_pick, leaves_length}
+use Rattle.spec_loops.proofs.Shrinks.{tag_leaves, tag_loose, end_takes, quoted_turn_small}
 use Rattle.read_feature_joined.specs.Taken.{taken, taken_more, taken_stop}
 use Rattle.read_feature_quoted.specs.Escapes.{closing, quoted_text}
 use Rattle.spec_format.specs.Impossible.{impossible}

@@ -10,8 +10,9 @@ use Rattle.spec_format.specs.Table as table
 use Rattle.spec_format.specs.Readers.{Ans, got, no, cut}
 use Rattle.spec_format.specs.Features.{feature}
 use Rattle.spec_format.specs.Rooms.{pieces_row, feature_text, feature_rows, qualifier_rows, feature_locations}
-use Rattle.spec_loops.specs.Loops.{try_members_more, try_members_no, try_members_cut}
-use Rattle.spec_loops.specs.Shrinks.{feature_small}
+use Rattle.spec_loops.specs.Loops.{try_members_no, try_members_cut}
+use Rattle.spec_loops.proofs.Loops.{try_members_more}
+use Rattle.spec_loops.proofs.Shrinks.{feature_small}
 use Rattle.base_pen.specs.Pen.{Wrote}
 use Rattle.base_pen.specs.Filling.{Filling, filling_start, filling_as, filling_step, filling_end, filling_bound}
 use Rattle.base_rows.specs.declared.Feature.{Feature}

@@ -11,8 +11,9 @@ use Rattle.spec_format.specs.Readers.{got, no, cut, passing, fit_turn, try_turn,
 use Rattle.spec_format.specs.Features.{qualifier, bare, feature_from, feature}
 use Rattle.spec_format.specs.Location.{locates, rows_in}
 use Rattle.spec_format.specs.Rooms.{feature_text, qualifier_count, location_count}
-use Rattle.spec_loops.specs.Loops.{try_members_more, try_members_no, try_members_cut, try_end_more, try_end_no, try_end_cut}
-use Rattle.spec_loops.specs.Shrinks.{feature_small}
+use Rattle.spec_loops.specs.Loops.{try_members_no, try_members_cut, try_end_no, try_end_cut}
+use Rattle.spec_loops.proofs.Loops.{try_members_more, try_end_more}
+use Rattle.spec_loops.proofs.Shrinks.{feature_small}
 use Rattle.scan_bytes.specs.Places.{part}
 use Rattle.scan_bytes.specs.Parts.{length_part}
 use Rattle.read_feature_location.specs.Places.{LocationFound}

@@ -8,8 +8,9 @@ use Rattle.spec_format.specs.Readers.{Ans, got, no, cut, bind, mapped, end, try_
 use Rattle.spec_format.specs.Header as format
 use Rattle.spec_format.specs.Header.{header_field, latest, every}
 use Rattle.spec_format.specs.Rooms.{texts_of}
-use Rattle.spec_loops.specs.Loops.{tries_more, tries_no, tries_cut}
-use Rattle.spec_loops.specs.Shrinks.{header_small}
+use Rattle.spec_loops.specs.Loops.{tries_no, tries_cut}
+use Rattle.spec_loops.proofs.Loops.{tries_more}
+use Rattle.spec_loops.proofs.Shrinks.{header_small}
 use Rattle.read_field_any.specs.declared.Field.{Field}
 use Rattle.read_field_any.specs.declared.FieldAt.{FieldAt}
 use Rattle.read_field_any.specs.declared.FieldAt.TheVariants as read

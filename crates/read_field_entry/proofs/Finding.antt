@@ -9,7 +9,8 @@ use lib.ListN.{length, drop, length-drop}
 use Rattle.spec_format.specs.Utf8.{utf8}
 use Rattle.spec_format.specs.Readers.{Ans, got, no, cut, bind, passing}
 use Rattle.spec_format.specs.Header.{field_text}
-use Rattle.spec_loops.specs.Shrinks.{leaves_length, text_takes}
+use Rattle.spec_loops.specs.Shrinks.{leaves_length}
+use Rattle.spec_loops.proofs.Shrinks.{text_takes}
 use Rattle.scan_bytes.specs.declared.Step.{Step}
 use Rattle.scan_bytes.specs.declared.Step.TheVariants as step
 use Rattle.scan_bytes.specs.Places.{part}

@@ -4,8 +4,9 @@ use Rattle.std.proofs.Common.{ap, ◌∙◌, subst}
 use Rattle.spec_format.specs.Bytes.{each}
 use Rattle.spec_format.specs.Readers.{Ans, got, no, cut, bind, mapped, line, many0}
 use Rattle.spec_format.specs.Header.{line_after, concat_lines, further_line, field_text}
-use Rattle.spec_loops.specs.Loops.{many0_more, many0_stop, many0_cut}
-use Rattle.spec_loops.specs.Shrinks.{further_small}
+use Rattle.spec_loops.specs.Loops.{many0_stop, many0_cut}
+use Rattle.spec_loops.proofs.Loops.{many0_more}
+use Rattle.spec_loops.proofs.Shrinks.{further_small}
 use Rattle.scan_bytes.specs.Places.{part}
 use Rattle.read_field_entry.specs.declared.Piece.{Piece}
 use Rattle.read_field_entry.specs.declared.Piece.TheVariants as piece

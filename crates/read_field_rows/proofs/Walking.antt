@@ -10,8 +10,9 @@ use Rattle.spec_format.specs.Table.{Reference}
 use Rattle.spec_format.specs.Header as format
 use Rattle.spec_format.specs.Header.{header_field, every}
 use Rattle.spec_format.specs.Rooms.{Piece, pieces_text, pieces_row, reference_pieces, comment_pieces, texts_of, rows_of}
-use Rattle.spec_loops.specs.Loops.{try_members_more, try_members_no, try_members_cut}
-use Rattle.spec_loops.specs.Shrinks.{header_small}
+use Rattle.spec_loops.specs.Loops.{try_members_no, try_members_cut}
+use Rattle.spec_loops.proofs.Loops.{try_members_more}
+use Rattle.spec_loops.proofs.Shrinks.{header_small}
 use Rattle.read_field_entry.specs.declared.Entry.{Entry}
 use Rattle.read_field_optional.specs.declared.MayEntry.{MayEntry}
 use Rattle.read_field_optional.specs.declared.MayEntry.TheVariants as may

@@ -2,7 +2,7 @@
 use Rattle.std.specs.Prelude.{ℕ, Bool, true, false, List, [], ◌∷◌, ◌≡◌, refl, T, eqb, length}
 use Rattle.std.proofs.Common.{sym, ap, subst, ◌∙◌, eqb-true}
 use Rattle.spec_bases.specs.Bases.{set_of, coded}
-use Rattle.spec_bases.specs.Tests.{of_coded}
+use Rattle.spec_bases.proofs.Tests.{of_coded}
 use Rattle.spec_format.specs.Bytes.{absent, is, letter, starts}
 use Rattle.spec_format.specs.Impossible.{impossible}
 use Rattle.spec_format.specs.Origin.{Letters, At_slash, At_end, bad_byte, keep, skipped, letters}

@@ -9,8 +9,9 @@ use Rattle.spec_format.specs.Bytes.{bytes, pick}
 use Rattle.spec_format.specs.Utf8.{utf8}
 use Rattle.spec_format.specs.Readers.{Ans, got, no, cut, mapped, tag, line, utf8_of, more, stop, end}
 use Rattle.spec_format.specs.Locus.{skipping, preamble_turn, preamble}
-use Rattle.spec_loops.specs.Loops.{end_more, end_stop, end_no, end_cut}
-use Rattle.spec_loops.specs.Shrinks.{preamble_small}
+use Rattle.spec_loops.specs.Loops.{end_stop, end_no, end_cut}
+use Rattle.spec_loops.proofs.Loops.{end_more}
+use Rattle.spec_loops.proofs.Shrinks.{preamble_small}
 use Rattle.scan_bytes.specs.Places.{part}
 use Rattle.scan_bytes.specs.Views.{Stepped}
 use Rattle.scan_bytes.specs.Sequence.{line_places, line_is}

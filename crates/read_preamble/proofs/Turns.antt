@@ -10,8 +10,9 @@ use Rattle.spec_format.specs.Bytes.{bytes}
 use Rattle.spec_format.specs.Utf8.{utf8}
 use Rattle.spec_format.specs.Readers.{got, mapped, tag, line, utf8_of, more}
 use Rattle.spec_format.specs.Locus.{preamble_turn}
-use Rattle.spec_loops.specs.Stopped.{stopped_more, stopped_stop, stopped_no, stopped_cut}
-use Rattle.spec_loops.specs.Shrinks.{preamble_small}
+use Rattle.spec_loops.specs.Stopped.{stopped_stop, stopped_no, stopped_cut}
+use Rattle.spec_loops.proofs.Stopped.{stopped_more}
+use Rattle.spec_loops.proofs.Shrinks.{preamble_small}
 use Rattle.scan_bytes.specs.Places.{part}
 use Rattle.scan_bytes.specs.Views.{Lined}
 use Rattle.scan_bytes.specs.Sequence.{line_places, line_is}

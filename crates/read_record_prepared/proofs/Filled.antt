@@ -14,7 +14,8 @@ use Rattle.spec_format.specs.Rooms.{Rooms, perhaps, piece_text, contig_text, con
 use Rattle.spec_format.specs.declared.Sizes.{Sizes}
 use Rattle.spec_format.specs.declared.ReadAnswer.TheVariants as answer
 use Rattle.spec_rooms.specs.LayoutBack.{locations_long}
-use Rattle.spec_rooms.specs.LayoutLengths.{Lengths, layout_lengths, SameLengths, layout_keeps}
+use Rattle.spec_rooms.specs.LayoutLengths.{Lengths, layout_lengths, SameLengths}
+use Rattle.spec_rooms.proofs.LayoutKept.{layout_keeps}
 use Rattle.spec_contracts.specs.Equal.{rooms_equal}
 use Rattle.base_pen.specs.Pen.{sets_append}
 use Rattle.read_feature_table.specs.Reads.{features_in}

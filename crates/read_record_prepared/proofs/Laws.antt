@@ -18,7 +18,7 @@ use Rattle.spec_format.specs.declared.Unread.TheVariants as unread
 use Rattle.spec_format.specs.declared.ReadAnswer.{ReadAnswer}
 use Rattle.spec_format.specs.declared.ReadAnswer.TheVariants as answer
 use Rattle.spec_loops.specs.Loops.{try_members_no, try_members_cut}
-use Rattle.spec_loops.specs.Shrinks.{feature_small}
+use Rattle.spec_loops.proofs.Shrinks.{feature_small}
 use Rattle.read_feature_table.specs.Reads.{features_in}
 use Rattle.read_feature_qualifier_rows.specs.Puts.{Fits, FeaturesPut}
 use Rattle.read_record_plan.specs.declared.Plan.{Plan}

@@ -9,8 +9,9 @@ use lib.Dec.{eqb}
 use Rattle.spec_format.specs.Bytes.{bytes, pick}
 use Rattle.spec_format.specs.Readers.{Ans, got, tag, line_end, try_turn, end, while_fits}
 use Rattle.spec_format.specs.Record.{left_by, slashes_later}
-use Rattle.spec_loops.specs.Loops.{try_end_more, try_end_no, try_end_cut}
-use Rattle.spec_loops.specs.Shrinks.{line_end_small}
+use Rattle.spec_loops.specs.Loops.{try_end_no, try_end_cut}
+use Rattle.spec_loops.proofs.Loops.{try_end_more}
+use Rattle.spec_loops.proofs.Shrinks.{line_end_small}
 use Rattle.scan_bytes.specs.Views.{Stepped, Emptied}
 use Rattle.scan_bytes.specs.Sequence.{step_places, empty_places, step_within}
 use Rattle.scan_bytes.specs.declared.Step.{Step}

@@ -14,7 +14,8 @@ use Rattle.spec_format.specs.Origin.{Letters, At_slash, At_end, bad_byte, origin
 use Rattle.spec_format.specs.Record.{features, base_count, left_by, middle, deep_in}
 use Rattle.spec_lines.specs.Stands.{Stands}
 use Rattle.spec_lines.specs.Troubles.{letters_end, deep_place}
-use Rattle.spec_loops.specs.Shrinks.{leaves_length, middle_leaves}
+use Rattle.spec_loops.specs.Shrinks.{leaves_length}
+use Rattle.spec_loops.proofs.Shrinks.{middle_leaves}
 use Rattle.scan_bytes.specs.Views.{Past, Emptied}
 use Rattle.scan_bytes.specs.Sequence.{empty_places}
 use Rattle.scan_bytes.specs.declared.Step.{Step}

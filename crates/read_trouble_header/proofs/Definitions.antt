@@ -12,8 +12,9 @@ use Rattle.spec_format.specs.Impossible.{impossible}
 use Rattle.spec_format.specs.Record.{is_there}
 use Rattle.spec_lines.specs.Troubles.{up_to, to_definition}
 use Rattle.spec_loops.specs.Loops.{Shrinks}
-use Rattle.spec_loops.specs.Stopped.{stopped_more, stopped_stop}
-use Rattle.spec_loops.specs.Shrinks.{header_small}
+use Rattle.spec_loops.specs.Stopped.{stopped_stop}
+use Rattle.spec_loops.proofs.Stopped.{stopped_more}
+use Rattle.spec_loops.proofs.Shrinks.{header_small}
 use Rattle.read_preamble.specs.Onwards.{Onwards}
 use Rattle.read_preamble.specs.declared.Onward.TheVariants as onward
 use Rattle.read_field_entry.specs.declared.Entry.{Entry}

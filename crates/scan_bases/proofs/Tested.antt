@@ -5,7 +5,8 @@ use mathlib.Core.Path.{◌≡◌, refl}
 use lib.Bits.{bit_or}
 use lib.Dec.{T, eqb}
 use Rattle.spec_bases.specs.Bases.{coded}
-use Rattle.spec_bases.specs.Tests.{below, at_each}
+use Rattle.spec_bases.specs.Tests.{below}
+use Rattle.spec_bases.proofs.Tests.{at_each}
 use Rattle.spec_format.specs.Bytes.{between}
 use Rattle.scan_bases.specs.Common.{common}
 

@@ -11,5 +11,4 @@ pub mod QualifierLines
 pub mod OriginLines
 pub mod RecordEnd
 pub mod Width
-pub mod RecordWidth
 pub mod Outside

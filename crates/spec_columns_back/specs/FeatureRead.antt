@@ -1,89 +1,41 @@
--- EVERY FEATURE with the public columns, its location over any number of lines, is read as its key, the joined location with its rows, and its qualifiers.
-use Rattle.std.specs.Prelude.{ℕ, suc, ◌-◌, ◌≤◌, true, false, not, ◌≡◌, refl, List, [], ◌∷◌, ◌++◌, length, drop}
-use Rattle.std.proofs.Common.{arith, ap, ◌∙◌, append_assoc}
-use Rattle.std.proofs.lemmas.List.{length-replicate}
-use Rattle.spec_format.specs.Bytes.{bytes, spaces, some, starts, all, each, concat, visible, slash, but}
-use Rattle.spec_format.specs.Readers.{got, tag, until, line_end, many0, while_fits}
-use Rattle.spec_format.specs.Features.{features_header, bare, qualifier, kind_text, feature_from, feature}
-use Rattle.spec_format.specs.Location.{locates, rows_in}
+-- The feature table: what may follow a feature with the public columns, and how the features are read after one another. Each is read in proofs/FeatureRead.antt.
+use Rattle.std.specs.Prelude.{ℕ, suc, ◌-◌, true, false, ◌≡◌, List, [], ◌∷◌, ◌++◌, length}
+use Rattle.std.proofs.Common.{ap, ◌∙◌, append_assoc}
+use Rattle.spec_format.specs.Bytes.{bytes, spaces, some, starts, all, visible, but}
+use Rattle.spec_format.specs.Readers.{got, tag, until, line_end, while_fits}
+use Rattle.spec_format.specs.Features.{features_header, kind_text, feature}
+use Rattle.spec_format.specs.Location.{rows_in}
 use Rattle.spec_format.specs.Record.{features}
 use Rattle.spec_format.specs.Table.{Qualifier, Feature}
-use Rattle.spec_public.specs.Public.{from_left, blank_at, features_columns, feature_columns, continued}
-use Rattle.spec_loops.specs.Loops.{tries_more, tries_no}
-use Rattle.spec_loops.specs.Shrinks.{feature_small}
-use Rattle.spec_location.specs.Bytes.{locates_visible, locates_slash}
-use Rattle.spec_texts_back.specs.Tests.{and_left, and_right, and_both, all_head, all_left, all_right, all_imp, all_first, starts_more}
-use Rattle.spec_texts_back.specs.Pieces.{spaces_back, no_end, visible_no_end, visible_but}
-use Rattle.spec_texts_back.specs.FieldBack.{line_starts}
-use Rattle.spec_texts_back.specs.BareBack.{ends}
+use Rattle.spec_public.specs.Public.{features_columns, feature_columns}
+use Rattle.spec_loops.specs.Loops.{tries_no}
+use Rattle.spec_loops.proofs.Loops.{tries_more}
+use Rattle.spec_loops.proofs.Shrinks.{feature_small}
+use Rattle.spec_texts_back.specs.Tests.{and_left, and_right, all_imp, all_first, starts_more}
+use Rattle.spec_texts_back.specs.Pieces.{visible_but}
 use Rattle.spec_record_back.specs.QualifierBack.{outside, starts_outside}
-use Rattle.spec_feature_names.specs.Taken.{any_kind}
-use Rattle.spec_record_back.specs.FeatureBack.{spaces_last, feature_steps, no_feature}
-use Rattle.spec_columns_back.specs.Cells.{cell, last_cell, cell_short}
-use Rattle.spec_columns_back.specs.Further.{ended, goes_on, bare_read}
+use Rattle.spec_record_back.specs.FeatureBack.{spaces_last, no_feature}
+use Rattle.spec_columns_back.specs.Cells.{cell, last_cell}
+use Rattle.spec_columns_back.specs.Further.{ended}
 
 -- ---- a feature
-
--- further lines of a location
-parts_go : (ms : List (List ℕ)) → all visible (concat ms) ≡ true → all (but 47) (concat ms) ≡ true → all goes_on ms ≡ true
-parts_go [] h k = refl
-parts_go (m ∷ ms) h k =
-    and_both (goes_on m) (all goes_on ms)
-    (and_both (not (starts slash m)) (all no_end m) (no_slash m (all_left (but 47) m (concat ms) k)) (all_imp visible no_end visible_no_end m (all_left visible m (concat ms) h)))
-    (parts_go ms (all_right visible m (concat ms) h) (all_right (but 47) m (concat ms) k))
-  where
-    no_slash : (m : List ℕ) → all (but 47) m ≡ true → not (starts slash m) ≡ true
-    no_slash [] h = refl
-    no_slash (b ∷ m) h = all_head (but 47) b m h
 
 regroup : (a k g s l : List ℕ) → a ++ ((k ++ g) ++ (s ++ l)) ≡ a ++ (k ++ (g ++ (s ++ l)))
 regroup a k g s l = simp append_assoc
 
-line_is :
+pub line_is :
     (key l line : List ℕ) → feature_columns key l line ≡ true → line ≡ spaces 5 ++ (key ++ (spaces (suc (15 - length key)) ++ l))
 line_is key l line h =
     let e : line ≡ spaces 5 ++ ((key ++ spaces (15 - length key)) ++ (spaces 1 ++ l)) =
     cell line 0 5 (spaces 5) _ _ h (λ h. cell line 5 15 (key ++ spaces (15 - length key)) _ _ h (λ h. cell line 20 1 (spaces 1) l _ h (λ h. last_cell line 21 l h))) in
     e ∙ regroup (spaces 5) key (spaces (15 - length key)) (spaces 1) l ∙ ap (λ (x : List ℕ). spaces 5 ++ (key ++ x)) (spaces_last (15 - length key) l)
 
-key_short : (key l line : List ℕ) → feature_columns key l line ≡ true → length key ≤ 15
-key_short key l line h = cell_short 15 (drop 5 line) key (spaces (15 - length key)) (and_left (from_left 6 20 key line) _ (and_right (blank_at 1 5 line) _ h))
-
-lines_group : (a k g l e m s : List ℕ) → ((a ++ (k ++ (g ++ l))) ++ e) ++ m ++ s ≡ a ++ (k ++ (g ++ ((l ++ e) ++ (m ++ s))))
-lines_group a k g l e m s = simp append_assoc
-
-seen_starts : (l : List ℕ) → some l ≡ true → all visible l ≡ true → starts (but 32) l ≡ true
+pub seen_starts : (l : List ℕ) → some l ≡ true → all visible l ≡ true → starts (but 32) l ≡ true
 seen_starts l s h = all_first (but 32) l s (all_imp visible (but 32) visible_but l h)
 
 -- with the rows of its location
 abbrev pub feature_of : List ℕ → List ℕ → List Qualifier → Feature
 feature_of key l qs = record { kind = key; location = l; qualifiers = qs; rows = rows_in false l }
-
--- A FEATURE WITH THE PUBLIC COLUMNS is read; s is what stands after its location, of which qs are read
-pub feature_read_lem :
-    (key l line : List ℕ) (ms lines : List (List ℕ)) (s rest : List ℕ) (qs : List Qualifier) → feature_columns key l line ≡ true →
-    continued 22 ms lines ≡ true → kind_text key ≡ true → locates false (l ++ concat ms) ≡ true → ends 21 s ≡ true →
-    many0 (qualifier 21) s ≡ got qs rest →
-    feature (each ended (line ∷ lines) ++ s) ≡ got (feature_of key (l ++ concat ms) qs) rest
-unfolding feature_from
-feature_read_lem key l line ms lines s rest qs h c k t e q =
-    let n : length key ≤ 15 = key_short key l line h in
-    let gap : List ℕ = spaces (suc (15 - length key)) in
-    let x₃ : List ℕ = ended l ++ (each ended lines ++ s) in
-    let v : all visible (l ++ concat ms) ≡ true = locates_visible false (l ++ concat ms) t in
-    let o : all (but 47) (l ++ concat ms) ≡ true = locates_slash (l ++ concat ms) t in
-    let lv : all visible l ≡ true = all_left visible l (concat ms) v in
-    let g : all goes_on ms ≡ true = parts_go ms (all_right visible l (concat ms) v) (all_right (but 47) l (concat ms) o) in
-    let kv : all visible key ≡ true = and_left (all visible key) _ (and_right (some key) _ k) in
-    let b : bare 21 x₃ ≡ got (l ++ concat ms) s = bare_read 21 s e l ms lines c (all_imp visible no_end visible_no_end l lv) g in
-    rw (line_is key l line h, lines_group (spaces 5) key gap l (10 ∷ []) (each ended lines) s)
-    (feature_steps (spaces 5 ++ (key ++ (gap ++ x₃))) (key ++ (gap ++ x₃)) (gap ++ x₃) x₃ (spaces 5) key gap
-    (feature_of key (l ++ concat ms) qs) rest
-    (spaces_back 4 (key ++ (gap ++ x₃)) (starts_more (but 32) key (gap ++ x₃) (seen_starts key (and_left (some key) _ k) kv)))
-    (any_kind key (gap ++ x₃) k refl)
-    (spaces_back (15 - length key) x₃ (starts_more (but 32) (ended l) (each ended lines ++ s) (line_starts l [] lv)))
-    (rw length-replicate (omega (arith, length-replicate {A = ℕ} (15 - length key) 32)))
-    (rw (b, t, q)))
 
 -- ---- the feature table
 

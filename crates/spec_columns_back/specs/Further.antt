@@ -1,13 +1,10 @@
--- Lines that go on with a text, each alone from the column where the text began; a location or a bare value over such lines is read as their join.
+-- Lines that go on with a text, each alone from the column where the text began. That a location or a bare value is read as their join: proofs/Further.antt.
 use Rattle.std.specs.Prelude.{ℕ, suc, ◌+◌, ◌-◌, Bool, true, ◌&&◌, not, ◌≡◌, refl, List, [], ◌∷◌, ◌++◌}
-use Rattle.std.proofs.Common.{arith, append_assoc, append-nil}
-use Rattle.spec_format.specs.Bytes.{spaces, starts, all, each, concat, slash, but}
-use Rattle.spec_format.specs.Readers.{got}
-use Rattle.spec_format.specs.Features.{bare}
+use Rattle.std.proofs.Common.{arith, append_assoc}
+use Rattle.spec_format.specs.Bytes.{spaces, starts, all, each, slash}
 use Rattle.spec_public.specs.Public.{continues, continued}
-use Rattle.spec_texts_back.specs.Tests.{and_left, and_right, all_head, all_tail}
+use Rattle.spec_texts_back.specs.Tests.{and_left, and_right}
 use Rattle.spec_texts_back.specs.Pieces.{no_end}
-use Rattle.spec_texts_back.specs.BareBack.{ends, Lines, lines_bare, lines_one, lines_more}
 use Rattle.spec_format.specs.Impossible.{impossible}
 use Rattle.spec_columns_back.specs.Cells.{cell, last_cell}
 
@@ -50,27 +47,3 @@ further_first n t ts x = regroup (spaces n) t (10 ∷ []) (each (further n) ts) 
 -- what a line may go on with: no `/` first, no line end
 abbrev pub goes_on : List ℕ → Bool
 goes_on t = not (starts slash t) && all no_end t
-
-goes_starts : (t x : List ℕ) → goes_on t ≡ true → starts (but 47) (t ++ 10 ∷ x) ≡ true
-goes_starts [] x h = refl
-goes_starts (b ∷ t) x h = search (and_left)
-
-goes_line : (t : List ℕ) → goes_on t ≡ true → all no_end t ≡ true
-goes_line t h = search (and_right)
-
-module _ (n : ℕ) (rest : List ℕ) (fine : ends n rest ≡ true) where
-  lines_read : (l : List ℕ) (ms : List (List ℕ)) → all no_end l ≡ true → all goes_on ms ≡ true → Lines n (l ++ 10 ∷ (each (further n) ms ++ rest)) (l ++ concat ms) rest
-  lines_read l [] h k = rw (append-nil l) (lines_one n rest l fine h)
-  lines_read l (m ∷ ms) h k =
-      let g : goes_on m ≡ true = all_head goes_on m ms k in
-      let x : List ℕ = m ++ 10 ∷ (each (further n) ms ++ rest) in
-      rw (further_first n m ms rest)
-      (lines_more n rest l (m ++ concat ms) x h (goes_starts m _ g) (lines_read m ms (goes_line m g) (all_tail goes_on m ms k)))
-
-  -- LINES THAT GO ON are read as their join, up to what may follow them
-  pub bare_read :
-      (l : List ℕ) (ms lines : List (List ℕ)) → continued (suc n) ms lines ≡ true → all no_end l ≡ true → all goes_on ms ≡ true →
-      bare n (ended l ++ (each ended lines ++ rest)) ≡ got (l ++ concat ms) rest
-  bare_read l ms lines c h k =
-      rw (append_assoc l (10 ∷ []) (each ended lines ++ rest), furthers_are n ms lines c)
-      (lines_bare n rest (l ++ 10 ∷ (each (further n) ms ++ rest)) (l ++ concat ms) (lines_read l ms h k))

@@ -1,27 +1,28 @@
--- EVERY QUALIFIER at column 22 is read as its key and value: a key alone, with a bare value over lines, with a quoted value as the public document presents it.
-use Rattle.std.specs.Prelude.{ℕ, true, not, ◌≡◌, refl, List, [], ◌∷◌, ◌++◌}
+-- Qualifiers at column 22 are read as key and value: a key alone, and with a quoted value as the public document presents it. With a bare value: proofs/QualifierRead.antt.
+use Rattle.std.specs.Prelude.{ℕ, true, ◌≡◌, refl, List, [], ◌∷◌, ◌++◌}
 use Rattle.std.proofs.Common.{◌∙◌, append_assoc}
-use Rattle.spec_format.specs.Bytes.{May, absent, is, bytes, spaces, starts, all, same, each, concat, quote, but}
+use Rattle.spec_format.specs.Bytes.{May, absent, is, bytes, spaces, starts, all, same}
 use Rattle.spec_format.specs.Utf8.{utf8}
 use Rattle.spec_format.specs.Readers.{got, many0}
 use Rattle.spec_format.specs.Features.{value_of, qualifier, key_end}
 use Rattle.spec_format.specs.Table.{Qualifier}
-use Rattle.spec_public.specs.Public.{qualifier_columns, presented, broken_text, continued}
-use Rattle.spec_loops.specs.Loops.{many0_more, many0_stop}
-use Rattle.spec_loops.specs.Shrinks.{qualifier_small}
+use Rattle.spec_public.specs.Public.{qualifier_columns, presented, broken_text}
+use Rattle.spec_loops.specs.Loops.{many0_stop}
+use Rattle.spec_loops.proofs.Loops.{many0_more}
+use Rattle.spec_loops.proofs.Shrinks.{qualifier_small}
 use Rattle.spec_texts_back.specs.Pieces.{no_end}
 use Rattle.spec_texts_back.specs.BareBack.{ends}
-use Rattle.spec_texts_back.specs.QuotedBack.{presented_back}
+use Rattle.spec_texts_back.proofs.QuotedBack.{presented_back}
 use Rattle.spec_feature_names.specs.Taken.{key_taken}
-use Rattle.spec_record_back.specs.QualifierBack.{outside, outside_qualifier, key_steps, flag_value, pair_value, value_bare, value_quoted}
+use Rattle.spec_record_back.specs.QualifierBack.{outside, outside_qualifier, key_steps, flag_value, pair_value, value_quoted}
 use Rattle.spec_columns_back.specs.Cells.{cell, last_cell}
-use Rattle.spec_columns_back.specs.Further.{ended, goes_on, bare_read}
+use Rattle.spec_columns_back.specs.Further.{ended}
 
-line_is : (t line : List ℕ) → qualifier_columns t line ≡ true → line ≡ spaces 21 ++ t
+pub line_is : (t line : List ℕ) → qualifier_columns t line ≡ true → line ≡ spaces 21 ++ t
 line_is t line h = cell line 0 21 (spaces 21) t _ h (λ h. last_cell line 21 t h)
 
 -- the key, and what is read after it
-key_read :
+pub key_read :
     (k x y : List ℕ) (v : May (List ℕ)) (rest : List ℕ) → y ≡ spaces 21 ++ (47 ∷ (k ++ x)) → key_taken k ≡ true → starts key_end x ≡ true →
     value_of 21 k x ≡ got v rest → qualifier 21 y ≡ got (record { key = k; value = v }) rest
 key_read k x y v rest e h s g = rw e (key_steps k x v rest h s g)
@@ -35,26 +36,6 @@ flag_read k line rest h t =
   where
     regroup : (k e r : List ℕ) → ((spaces 21 ++ (47 ∷ k)) ++ e) ++ r ≡ spaces 21 ++ (47 ∷ (k ++ (e ++ r)))
     regroup k e r = simp append_assoc
-
-unquoted : (l x : List ℕ) → not (starts quote l) ≡ true → starts (but 34) ((l ++ 10 ∷ []) ++ x) ≡ true
-unquoted [] x h = refl
-unquoted (b ∷ l) x h = h
-
--- A BARE VALUE, over lines, is their join
-pub pair_read :
-    (k l line : List ℕ) (ms lines : List (List ℕ)) (rest : List ℕ) → qualifier_columns (bytes "/" ++ (k ++ (bytes "=" ++ l))) line ≡ true →
-    continued 22 ms lines ≡ true → key_taken k ≡ true → not (starts quote l) ≡ true → all no_end l ≡ true → all goes_on ms ≡ true →
-    utf8 (l ++ concat ms) ≡ true → ends 21 rest ≡ true →
-    qualifier 21 (each ended (line ∷ lines) ++ rest) ≡ got (record { key = k; value = is (l ++ concat ms) }) rest
-pair_read k l line ms lines rest h c t q n g u e =
-    let x : List ℕ = ended l ++ (each ended lines ++ rest) in
-    key_read k (61 ∷ x) (each ended (line ∷ lines) ++ rest) (is (l ++ concat ms)) rest
-    (rw (line_is (47 ∷ (k ++ 61 ∷ l)) line h) (regroup k (61 ∷ []) l (10 ∷ []) (each ended lines) rest)) t refl
-    (pair_value k (l ++ concat ms) x rest
-    (value_bare k (l ++ concat ms) x rest (unquoted l (each ended lines ++ rest) q) (bare_read 21 rest e l ms lines c n g) u))
-  where
-    regroup : (k s l e m r : List ℕ) → ((spaces 21 ++ (47 ∷ (k ++ (s ++ l)))) ++ e) ++ m ++ r ≡ spaces 21 ++ (47 ∷ (k ++ (s ++ ((l ++ e) ++ (m ++ r)))))
-    regroup k s l e m r = simp append_assoc
 
 -- A QUOTED VALUE, presented over lines, is its text: LF at the breaks, nothing in `translation`. The lines stand with their ends, from column 22 on
 pub quoted_read :

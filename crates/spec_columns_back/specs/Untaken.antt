@@ -1,14 +1,12 @@
--- Lines of the public documents, computed: a LOCUS line that is read as its values, and lines that the documents allow or once allowed and document 01 does not take.
+-- Lines of the public documents, computed: a LOCUS line and its values (read in proofs/SampleRead.antt), and lines that the documents allow or once allowed and document 01 does not take.
 use Rattle.std.specs.Prelude.{ℕ, true, ◌≡◌, refl, List, [], ◌∷◌, ◌++◌, map, drop}
 use Rattle.spec_format.specs.Bytes.{bytes, all, number}
 use Rattle.spec_format.specs.Readers.{got, tag, until, line, members_up_to, end_up_to, members, end}
-use Rattle.spec_format.specs.Dates.{month_name, date_text}
 use Rattle.spec_format.specs.Utf8.{chars, utf8}
 use Rattle.spec_format.specs.Header.{field_text, field_bytes, field, reference, source, ignored_line, header_field, dropped}
 use Rattle.spec_format.specs.Locus.{tokens, date_of, date_token, locus_from, locus_of, locus_line, locus, unknown}
 use Rattle.spec_format.specs.declared.Date.{Date}
 use Rattle.spec_public.specs.Public.{LocusValues, locus_tests, locus_columns}
-use Rattle.spec_columns_back.specs.LocusRead.{values_of, locus_read}
 
 -- a line, and the values that it has in the public columns
 pub record Placed : Type 0 where
@@ -16,7 +14,7 @@ pub record Placed : Type 0 where
   pub line : List ℕ
 
 -- a line such as the release notes show
-pub sample : Placed
+unfoldable pub sample : Placed
 sample =
     record {
       values =
@@ -32,30 +30,8 @@ sample =
       line = bytes "LOCUS       CP032762             5868661 bp    DNA     circular BCT 15-OCT-2018";
     }
 
-pub day : Date
+unfoldable pub day : Date
 day = record { day = 15; month = 10; year = 2018 }
-
--- the premises of `locus_read` can be met
-pub sample_read : locus (sample.line ++ 10 ∷ []) ≡ got (values_of sample.values day) []
-unfolding sample day locus_tests number month_name date_text
-sample_read =
-    locus_read sample.values day sample.line [] refl
-    (record {
-      name_some = refl;
-      name_seen = refl;
-      name_colonless = refl;
-      count_some = refl;
-      count_digits = refl;
-      count_ten = refl;
-      count_fits = refl;
-      strand = refl;
-      molecule = refl;
-      topology = refl;
-      division_some = refl;
-      division_seen = refl;
-      date = refl;
-      date_range = refl;
-    })
 
 -- in the public columns, but a name with `:`, a length of 11 digits, a length over 4,294,967,295
 pub placed : List Placed

@@ -22,8 +22,9 @@ use Rattle.spec_lines.specs.Stands.{Stands}
 use Rattle.spec_lines.specs.Troubles.{stopped_up_to, stopped, searched, header_begins, header_ends, up_to, to_definition, definition, second_definition, letters_end, after_tag}
 use Rattle.spec_lines.specs.Troubles.{origin_ends, sections_end, deep_with, deep_place, troubled}
 use Rattle.spec_loops.specs.Shrinks.{Past, past_here, past_byte, past_loose, past_then, Leaves, leaves_got, leaves_no, leaves_loose, leaves_first, leaves_pick}
-use Rattle.spec_loops.specs.Shrinks.{leaves_mapped, leaves_passing, leaves_or, leaves_optional, tag_loose, until_past, until1_takes, line_takes, end_takes}
-use Rattle.spec_loops.specs.Shrinks.{Turns, turns_takes, turns_here, end_leaves, tries_leave, field_takes, header_takes, preamble_turns, features_leave, middle_leaves}
+use Rattle.spec_loops.specs.Shrinks.{leaves_mapped, leaves_passing, leaves_or, leaves_optional}
+use Rattle.spec_loops.proofs.Shrinks.{tag_loose, until_past, until1_takes, line_takes, end_takes, field_takes, header_takes, preamble_turns, features_leave, middle_leaves}
+use Rattle.spec_loops.specs.Shrinks.{Turns, turns_takes, turns_here, end_leaves, tries_leave}
 use Rattle.spec_strict.specs.Switch.{stray_is}
 
 -- ---- readers and loops

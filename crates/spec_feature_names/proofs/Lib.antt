@@ -1,1 +1,3 @@
 pub mod Examples
+pub mod Taken
+pub mod Listed

@@ -55,10 +55,6 @@ key_read k x i e = word_read key_end utf8 k x i e
 pub key_cut : (s : List ℕ) → inside key_end s ≡ true → qualifier_key s ≡ cut
 key_cut s i = word_cut key_end utf8 s i
 
--- ANY KEY, where `=` or a line end follows
-pub any_key : (k x : List ℕ) → key_taken k ≡ true → starts key_end x ≡ true → qualifier_key (k ++ x) ≡ got k x
-any_key k x h e = any_word key_end k x h e
-
 -- ---- kinds: what stands before a space, and by departure 3 "number 11's bytes and first byte"
 
 pub kind_read : (k x : List ℕ) → inside space k ≡ true → starts space x ≡ true → feature_kind (k ++ x) ≡ pick (kind_text k) (got k x) no

@@ -1,4 +1,4 @@
--- What a location is (document 02, ticket 1), as a grammar: a tree, how it is printed, and its rows. Unique.antt proves that a text is read exactly if a
+-- What a location is (document 02, ticket 1), as a grammar: a tree, how it is printed, and its rows. proofs/Unique.antt proves that a text is read exactly if a
 -- proper tree of 16 open words at most prints it, and that it is read as that tree's rows.
 use Rattle.std.specs.Prelude.{ℕ, suc, ◌+◌, max, Bool, true, false, ◌&&◌, ◌≡◌, refl, List, [], ◌∷◌, ◌++◌, length, leb}
 use Rattle.spec_format.specs.Bytes.{pick, May, absent, is, bytes, some, all, digit, digits, decimal}

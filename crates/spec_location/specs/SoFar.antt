@@ -12,8 +12,10 @@ use Rattle.spec_format.specs.Features.{not_slash, bare_turn, bare_more, bare}
 use Rattle.spec_format.specs.Location.{run, past}
 use Rattle.spec_format.specs.Deep.{in_line, further_start, line_on, so_far}
 use Rattle.spec_format.specs.Impossible.{impossible}
-use Rattle.spec_loops.specs.Loops.{Shrinks, members_more, members_no, members_cut, members_stop, end_more, end_no, end_cut, fit_members_more, fit_members_stop, fit_end_more, fit_end_stop, fit_end_cut}
-use Rattle.spec_loops.specs.Shrinks.{Past, past_here, Leaves, leaves_got, leaves_no, leaves_pick, leaves_first, leaves_length, tag_loose, end_takes, bare_more_small, further_small}
+use Rattle.spec_loops.specs.Loops.{Shrinks, members_no, members_cut, members_stop, end_no, end_cut, fit_members_stop, fit_end_stop, fit_end_cut}
+use Rattle.spec_loops.proofs.Loops.{members_more, end_more, fit_members_more, fit_end_more}
+use Rattle.spec_loops.specs.Shrinks.{Past, past_here, Leaves, leaves_got, leaves_no, leaves_pick, leaves_first, leaves_length}
+use Rattle.spec_loops.proofs.Shrinks.{tag_loose, end_takes, bare_more_small, further_small}
 use Rattle.spec_location.specs.Bytes.{run_past}
 use Rattle.spec_location.specs.Tests.{all_head, all_tail}
 

@@ -9,10 +9,11 @@ use Rattle.spec_format.specs.Write.{written}
 use Rattle.spec_format.specs.WellFormed.{width_fine, well_formed}
 use Rattle.spec_format.specs.Keeping.{keeps}
 use Rattle.spec_format.specs.Rooms.{locations_read}
-use Rattle.spec_loops.specs.Loops.{tries_more}
-use Rattle.spec_loops.specs.Shrinks.{line_end_small}
+use Rattle.spec_loops.proofs.Loops.{tries_more}
+use Rattle.spec_loops.proofs.Shrinks.{line_end_small}
 use Rattle.spec_record_back.specs.LocusBack.{length_fits}
-use Rattle.spec_record_back.specs.RecordBack.{line_ends, end_taken, kept_then}
+use Rattle.spec_record_back.specs.RecordBack.{line_ends, end_taken}
+use Rattle.spec_record_back.proofs.RecordBack.{kept_then}
 use Rattle.spec_record_back.specs.RecordsBack.{written_some, at_steps}
 
 -- an empty line is a line end alone, LF or CR LF

@@ -25,9 +25,9 @@ use Rattle.spec_format.specs.declared.WriteAnswer.TheVariants as answer
 use Rattle.spec_strict.specs.Switch.{as_read}
 use Rattle.spec_record_back.specs.LocusBack.{length_fits}
 use Rattle.spec_record_back.specs.RecordsBack.{keepable}
-use Rattle.spec_record_back.specs.AnswersBack.{answer_alike, answer_read}
-use Rattle.spec_rooms.specs.LayoutBack.{layout_back}
-use Rattle.spec_rooms.specs.LayoutFine.{layout_fine}
+use Rattle.spec_record_back.proofs.AnswersBack.{answer_alike, answer_read}
+use Rattle.spec_rooms.proofs.LayoutBack.{layout_back}
+use Rattle.spec_rooms.proofs.LayoutFine.{layout_fine}
 use Rattle.spec_rooms.specs.ReadRows.{read_rows}
 use Rattle.spec_format.specs.Impossible.{impossible}
 

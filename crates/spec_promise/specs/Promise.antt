@@ -1,11 +1,10 @@
--- WHAT IS PROMISED. Each statement can be read without its proof.
+-- WHAT IS PROMISED. Each statement can be read without its proof. With the strict switch on a record comes back too: proofs/Promise.antt.
 use Rattle.std.specs.Prelude.{ℕ, ◌-◌, ◌<◌, ◌≤◌, Bool, true, false, ◌↔◌, ◌≡◌, List, ◌++◌, length, take, leb}
 use Rattle.std.proofs.Common.{sym, ap, ◌∙◌, arith}
-use Rattle.spec_bases.specs.Bases.{coded}
 use Rattle.spec_format.specs.Bytes.{is, each, all}
 use Rattle.spec_format.specs.Table.{Table}
 use Rattle.spec_format.specs.Record.{was_read, most, read_at}
-use Rattle.spec_format.specs.Strict.{read_by, letters_fit}
+use Rattle.spec_format.specs.Strict.{letters_fit}
 use Rattle.spec_format.specs.Write.{written}
 use Rattle.spec_format.specs.WellFormed.{well_formed}
 use Rattle.spec_format.specs.Keeping.{keeps}
@@ -16,9 +15,9 @@ use Rattle.spec_format.specs.declared.Length.TheVariants as given
 use Rattle.spec_format.specs.declared.ReadAnswer.TheVariants as read
 use Rattle.spec_format.specs.declared.Unwritten.TheVariants as unwritten
 use Rattle.spec_format.specs.declared.WriteAnswer.TheVariants as answer
-use Rattle.spec_strict.specs.Switch.{reads_alike}
 use Rattle.spec_record_back.specs.RecordBack.{line_ends}
-use Rattle.spec_record_back.specs.RecordsBack.{keepable, kept_inside, Records, kept_all}
+use Rattle.spec_record_back.specs.RecordsBack.{keepable, Records}
+use Rattle.spec_record_back.proofs.RecordsBack.{kept_inside, kept_all}
 use Rattle.spec_promise.specs.EmptyLines.{EmptyLine, end_bytes, lines_inside}
 use Rattle.spec_promise.specs.Grounds.{width_fine_lem, length_fits_lem, head_length_fits, can_keep, as_plain, refused_by_rule, rule_broken, done_as_plain, done_by, done_holds, done_ends, done_fine, read_done, read_back}
 
@@ -43,14 +42,6 @@ pub record_comes_back :
 record_comes_back W truncate escape before t rest k e m =
     kept_inside W truncate escape (width_fine_lem W k.narrowest k.widest) before t rest
     (can_keep W truncate escape t k.laid_out k.rules k.rows_read (length_fits_lem t (λ n d. omega (arith, k.bases n d)))) e m
-
--- The strict switch makes no difference to that, if the table's letters all have codes: with the switch on it is read back too.
-pub record_comes_back_strictly :
-    (W : ℕ) (truncate escape : Bool) (before : List ℕ) (t : Table) (rest : List ℕ) → Taken W truncate escape t → all coded t.letters ≡ true →
-    line_ends rest ≡ false → leb (length (before ++ (written W truncate escape t ++ rest))) most ≡ true →
-    read_by true (before ++ (written W truncate escape t ++ rest)) (length before) ≡ was_read t rest
-record_comes_back_strictly W truncate escape before t rest k c e m =
-    reads_alike true (before ++ (written W truncate escape t ++ rest)) (length before) t rest (record_comes_back W truncate escape before t rest k e m) c
 
 -- Empty lines that follow the record are taken with it, whether they end with LF or with CR LF. They are no part of the table, and the next record
 -- is read from behind them.

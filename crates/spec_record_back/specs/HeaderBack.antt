@@ -13,10 +13,11 @@ use Rattle.spec_format.specs.Table.{Source, Reference, Table}
 use Rattle.spec_format.specs.Write.{field_lines, maybe_lines, source_lines, reference_lines, header_lines}
 use Rattle.spec_format.specs.WellFormed.{if_is, source_texts, reference_texts, header_texts}
 use Rattle.spec_format.specs.Keeping.{header_kept, pubmed_kept}
-use Rattle.spec_loops.specs.Loops.{tries_more, tries_no}
-use Rattle.spec_loops.specs.Shrinks.{header_small}
+use Rattle.spec_loops.specs.Loops.{tries_no}
+use Rattle.spec_loops.proofs.Loops.{tries_more}
+use Rattle.spec_loops.proofs.Shrinks.{header_small}
 use Rattle.spec_texts_back.specs.Tests.{and_left, and_right, and_both, all_head, all_tail}
-use Rattle.spec_texts_back.specs.FieldBack.{field_back}
+use Rattle.spec_texts_back.proofs.FieldBack.{field_back}
 use Rattle.spec_record_back.specs.ReferenceBack.{no_indent, other_word, after, begins, field_test, source_back, reference_back, after_reference, begins_reference}
 
 -- ---- which reader the word chooses: those before it say no

@@ -7,4 +7,3 @@ pub mod ReferenceBack
 pub mod HeaderBack
 pub mod RecordBack
 pub mod RecordsBack
-pub mod AnswersBack

@@ -14,7 +14,7 @@ use Rattle.spec_format.specs.Write.{padded, field_lines, maybe_lines, reference_
 use Rattle.spec_format.specs.WellFormed.{if_is, source_texts, reference_texts}
 use Rattle.spec_format.specs.Keeping.{header_kept, pubmed_kept}
 use Rattle.spec_texts_back.specs.Tests.{and_left, and_right}
-use Rattle.spec_texts_back.specs.FieldBack.{field_back}
+use Rattle.spec_texts_back.proofs.FieldBack.{field_back}
 
 -- ---- what a reader refuses
 

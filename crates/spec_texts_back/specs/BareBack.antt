@@ -1,40 +1,26 @@
 -- A location or a bare value, written and read.
 use Prim.Native.Nat.{ℕ, zero, suc, ◌+◌, ◌-◌, ◌<◌, ◌≤◌}
-use Rattle.std.proofs.Common.{arith, length-drop, take-append-drop, leb-false}
-use Rattle.std.specs.Prelude.{Bool, ◌≡◌, take, drop, eqb}
+use Rattle.std.proofs.Common.{arith}
+use Rattle.std.specs.Prelude.{Bool, ◌≡◌, eqb}
 use Rattle.std.proofs.Math.Bool.{true, false}
 use Rattle.std.proofs.Math.Path.{refl}
-use mathlib.Core.List.{List, [], ◌∷◌, ◌++◌, append-nil}
+use mathlib.Core.List.{List, [], ◌∷◌, ◌++◌}
 use Rattle.std.proofs.Math.ListN.{length}
 use Rattle.std.proofs.Math.Dec.{leb}
 use Rattle.std.proofs.lemmas.Bool.{not-true}
-use Rattle.spec_format.specs.Bytes.{spaces, some, starts, all, concat, visible, but}
-use Rattle.spec_format.specs.Readers.{got, no, bind, tag, line}
+use Rattle.spec_format.specs.Bytes.{spaces, starts, all, concat, but}
+use Rattle.spec_format.specs.Readers.{got, line}
 use Rattle.spec_format.specs.Features.{not_slash, bare_more, bare}
 use Rattle.spec_format.specs.Wrap.{last_comma, break_at, comma_lines}
-use Rattle.spec_loops.specs.Shrinks.{bare_more_small}
-use Rattle.spec_texts_back.specs.Tests.{all_left, all_right, all_imp, all_first, some_pos}
-use Rattle.spec_texts_back.specs.Pieces.{tag_back, no_end, line_back, visible_no_end}
-use Rattle.spec_texts_back.specs.FieldBack.{commas_short, commas_long}
-use Rattle.spec_texts_back.specs.Joins.{joining, joining_more, joining_stop, joining_parts}
-use Rattle.spec_format.specs.Impossible.{impossible}
+use Rattle.spec_loops.proofs.Shrinks.{bare_more_small}
+use Rattle.spec_texts_back.specs.Pieces.{tag_back, no_end, line_back}
+use Rattle.spec_texts_back.specs.Joins.{joining, joining_more, joining_parts}
 
 -- what may follow a value or a location: not n spaces and another byte than `/`, and enough of it to say so
 abbrev pub ends : ℕ → List ℕ → Bool
 ends n [] = false
 ends zero (b ∷ s) = eqb b 47
 ends (suc n) (b ∷ s) = elim (eqb b 32) [ true ↦ ends n s | false ↦ true ]
-
-ends_peek : (n : ℕ) (s : List ℕ) → ends n s ≡ true → bind (tag (spaces n) s) (λ _ r. not_slash r) ≡ no
-unfolding tag
-ends_peek zero [] h = refl
-ends_peek zero (b ∷ s) h = cc
-ends_peek (suc n) [] h = cc
-ends_peek (suc n) (b ∷ s) h = go (ends_peek n s) (eqb b 32) refl
-  where
-    go : (ends n s ≡ true → bind (tag (spaces n) s) (λ _ r. not_slash r) ≡ no) → (x : Bool) → eqb b 32 ≡ x → bind (tag (spaces (suc n)) (b ∷ s)) (λ _ r. not_slash r) ≡ no
-    go ih true p = rw (tag, p) (ih (cc))
-    go ih false p = rw (tag, p)
 
 starts_peek : (s : List ℕ) → starts (but 47) s ≡ true → not_slash s ≡ got tt s
 starts_peek [] h = cc
@@ -52,11 +38,11 @@ comma_le (suc n) (b ∷ t) = go (comma_le n t) (last_comma n t) refl (eqb b 44) 
     go ih zero e false p = let v : last_comma (suc n) (b ∷ t) ≡ 0 = cc in omega arith
     go ih (suc k) e x p = let v : last_comma (suc n) (b ∷ t) ≡ suc (suc k) = cc in omega arith
 
-record Break (n : ℕ) (t : List ℕ) : Type 0 where
-  over : 0 < break_at n t
-  under : break_at n t ≤ n
+pub record Break (n : ℕ) (t : List ℕ) : Type 0 where
+  pub over : 0 < break_at n t
+  pub under : break_at n t ≤ n
 
-breaks : (n : ℕ) (t : List ℕ) → 0 < n → Break n t
+pub breaks : (n : ℕ) (t : List ℕ) → 0 < n → Break n t
 unfolding break_at
 breaks n t h = go (last_comma n t) refl
   where
@@ -65,10 +51,6 @@ breaks n t h = go (last_comma n t) refl
     go (suc k) e = let v : break_at n t ≡ suc k = cc in record { over = omega arith; under = omega (arith, comma_le n t) }
 
 module _ (indent : ℕ) where
-  -- further lines, from the line's indent on
-  further_off : (s : List ℕ) → ends indent s ≡ true → joining (bare_more indent) s ≡ got [] s
-  further_off s h = joining_stop (bare_more indent) s s (rw (ends_peek indent s h))
-
   further_on :
       (x l z t r : List ℕ) → starts (but 47) x ≡ true → line x ≡ got l z → joining (bare_more indent) z ≡ got t r →
       joining (bare_more indent) (spaces indent ++ x) ≡ got (l ++ t) r
@@ -92,9 +74,6 @@ module _ (indent : ℕ) (rest : List ℕ) where
   pub lines_bare : (s t : List ℕ) → Lines indent s t rest → bare indent s ≡ got t rest
   lines_bare s t h = rw h.text at (bare_lines indent s h.first h.left h.later rest h.begins h.goes)
 
-  pub lines_one : (t : List ℕ) → ends indent rest ≡ true → all no_end t ≡ true → Lines indent (t ++ 10 ∷ rest) t rest
-  lines_one t h k = record { first = t; left = rest; later = []; begins = line_back t rest k; goes = further_off indent rest h; text = append-nil t }
-
   pub lines_more :
       (f r x : List ℕ) → all no_end f ≡ true → starts (but 47) x ≡ true → Lines indent x r rest → Lines indent (f ++ (10 ∷ (spaces indent ++ x))) (f ++ r) rest
   lines_more f r x k s h =
@@ -106,10 +85,6 @@ module _ (indent : ℕ) (rest : List ℕ) where
         goes = rw h.text at (further_on indent x h.first h.left h.later rest s h.begins h.goes);
         text = refl;
       }
-
-  -- a bare value of one line
-  pub line_bare : (t : List ℕ) → ends indent rest ≡ true → all no_end t ≡ true → bare indent (t ++ 10 ∷ rest) ≡ got t rest
-  line_bare t h k = lines_bare (t ++ 10 ∷ rest) t (lines_one t h k)
 
 module _ (W indent : ℕ) where
   -- it begins as the text does
@@ -126,39 +101,3 @@ module _ (W indent : ℕ) where
       go true e k f = cc
       go false e zero f = absurd (omega (arith, breaks (W - used) (c ∷ t) (omega arith)))
       go false e (suc k) f = cc
-
-  module _ (w : indent < W) (rest : List ℕ) (fine : ends indent rest ≡ true) where
-    commas_lines :
-        (n used : ℕ) (t : List ℕ) → used < W → some t ≡ true → all visible t ≡ true → all (but 47) t ≡ true → length t ≤ n →
-        Lines indent (comma_lines n W indent used t ++ rest) t rest
-    commas_lines zero used [] l s h o k = impossible cc
-    commas_lines zero used (c ∷ t) l s h o k = absurd (omega arith)
-    commas_lines (suc n) used t l s h o k = go (λ r. commas_lines n indent r w) (leb (used + length t) W) refl
-      where
-        go :
-            ((r : List ℕ) → some r ≡ true → all visible r ≡ true → all (but 47) r ≡ true → length r ≤ n →
-            Lines indent (comma_lines n W indent indent r ++ rest) r rest) → (x : Bool) → leb (used + length t) W ≡ x →
-            Lines indent (comma_lines (suc n) W indent used t ++ rest) t rest
-        go ih true p = rw (commas_short W indent n used t rest p) (lines_one indent rest t fine (all_imp visible no_end visible_no_end t h))
-        go ih false p =
-            let over : W < used + length t = leb-false (used + length t) W p in
-            let m : ℕ = break_at (W - used) t in
-            let b : Break (W - used) t = breaks (W - used) t (omega arith) in
-            let f : List ℕ = take m t in
-            let r : List ℕ = drop m t in
-            let j : f ++ r ≡ t = take-append-drop m t in
-            let a : all visible (f ++ r) ≡ true = rw j h in
-            let o' : all (but 47) (f ++ r) ≡ true = rw j o in
-            let or : all (but 47) r ≡ true = all_right (but 47) f r o' in
-            let lr : length r ≡ length t - m = length-drop m t in
-            let sr : some r ≡ true = some_pos r (omega arith) in
-            let x : List ℕ = comma_lines n W indent indent r ++ rest in
-            rw (commas_long W indent n used t rest p)
-            (rw j at (lines_more indent rest f r x (all_imp visible no_end visible_no_end f (all_left visible f r a))
-            (commas_starts (but 47) n indent r rest w (all_first (but 47) r sr or)) (ih r sr (all_right visible f r a) or (omega arith))))
-
-    -- a location or a comma-broken value
-    pub commas_back :
-        (n used : ℕ) (t : List ℕ) → used < W → some t ≡ true → all visible t ≡ true → all (but 47) t ≡ true → length t ≤ n →
-        bare indent (comma_lines n W indent used t ++ rest) ≡ got t rest
-    commas_back n used t l s h o k = lines_bare indent rest (comma_lines n W indent used t ++ rest) t (commas_lines n used t l s h o k)

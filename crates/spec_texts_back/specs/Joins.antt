@@ -3,7 +3,8 @@ use Rattle.std.specs.Prelude.{ℕ, Bool, true, ◌≡◌, List, [], ◌∷◌, �
 use Rattle.std.proofs.Common.{◌∙◌, append_assoc}
 use Rattle.spec_format.specs.Bytes.{all, each, concat}
 use Rattle.spec_format.specs.Readers.{Ans, got, no, cut, bind, mapped, Turn, more, stop, loop}
-use Rattle.spec_loops.specs.Loops.{Shrinks, loop_more, loop_stop}
+use Rattle.spec_loops.specs.Loops.{Shrinks, loop_stop}
+use Rattle.spec_loops.proofs.Loops.{loop_more}
 use Rattle.spec_texts_back.specs.Tests.{all_head, all_tail}
 
 -- the members' texts as one

@@ -22,7 +22,7 @@ use Rattle.spec_strict.specs.Switch.{reads_alike}
 use Rattle.spec_rooms.specs.LocationRows.{fine_read}
 use Rattle.spec_texts_back.specs.Tests.{and_both}
 use Rattle.spec_record_back.specs.LocusBack.{length_fits}
-use Rattle.spec_record_back.specs.RecordsBack.{kept_alone}
+use Rattle.spec_record_back.proofs.RecordsBack.{kept_alone}
 use Rattle.spec_format.specs.Impossible.{impossible}
 
 module _ (W : ℕ) (truncate escape : Bool) (r : Rooms) (h : Head) where

@@ -15,7 +15,8 @@ use Rattle.spec_format.specs.Wrap.{wrap_text, wrap_location}
 use Rattle.spec_public.specs.Public.{within}
 use Rattle.spec_columns.specs.Tests.{and_left, and_right}
 use Rattle.spec_columns.specs.FeatureLines.{kind_start}
-use Rattle.spec_columns.specs.Width.{Narrow, narrow_append, narrow_start, narrow_end, text_narrow, location_narrow}
+use Rattle.spec_columns.specs.Width.{Narrow, narrow_append, narrow_start, narrow_end}
+use Rattle.spec_columns.proofs.Width.{text_narrow, location_narrow}
 
 narrow_none : (W : ℕ) → Narrow W W []
 unfolding Narrow

@@ -1,0 +1,9 @@
+pub mod CommaLines
+pub mod FeatureLines
+pub mod HeaderLines
+pub mod LocusLine
+pub mod OriginLines
+pub mod QualifierLines
+pub mod RecordWidth
+pub mod TextLines
+pub mod Width

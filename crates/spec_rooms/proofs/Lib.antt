@@ -1,0 +1,4 @@
+pub mod LayoutKept
+pub mod LayoutBack
+pub mod LayoutFine
+pub mod FeatureFine

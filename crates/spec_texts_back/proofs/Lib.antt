@@ -1,0 +1,4 @@
+pub mod BareBack
+pub mod FieldBack
+pub mod QuotedBack
+pub mod WrapKept
