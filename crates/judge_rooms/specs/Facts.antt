@@ -4,7 +4,7 @@ use Rattle.std.proofs.lemmas.Bool.{false≢true}
 use Rattle.std.proofs.Common.{arith, lt_of_not-le, leb-true, eqb-true, ne_eqb}
 use Rattle.std.proofs.Math.Decide.{dec_le}
 use Rattle.spec_format.specs.Record.{most}
-use Rattle.spec_format.specs.Rooms.{Rooms, span_fine, text_fine, source_fine, contig_text_fine, row_text_fine, row_perhaps_fine, rows_fine, reference_row_fine, comment_row_fine, qualifier_row_fine, qualifiers_fine, features_fine, lengths_fine, head_fine, counts_fine, rooms_fine}
+use Rattle.spec_format.specs.Rooms.{Rooms, span_fine, text_fine, source_fine, contig_text_fine, row_text_fine, row_perhaps_fine, rows_fine, reference_row_fine, comment_row_fine, qualifier_row_fine, qualifiers_fine, features_fine, lengths_fine, head_fine, counts_fine}
 use Rattle.spec_format.specs.declared.Span.{Span}
 use Rattle.spec_format.specs.declared.Text.{Text}
 use Rattle.spec_format.specs.declared.Text.TheVariants as text
@@ -174,7 +174,7 @@ reference_in_lem r at h =
       remark = perhaps_in_lem r r.references (at + 12) (search parts depth 12);
     }
 
-comment_in_lem : (r : Rooms) (at : ℕ) → comment_row_fine r at ≡ true → RowText r.texts r.comments at
+pub comment_in_lem : (r : Rooms) (at : ℕ) → comment_row_fine r at ≡ true → RowText r.texts r.comments at
 unfolding comment_row_fine
 comment_in_lem r at h = span_within _ _ _ h
 
@@ -224,19 +224,3 @@ features_each r i from (suc n) j h p q = go (feature_next r (8 * i) from) refl (
           | yes m ↦ ih f (and_right (feature_located r (8 * i)) _ (rw e at g)) m (omega arith)
           | no m ↦ (let k : j ≡ i = omega (arith, lt_of_not-le m) in rw k (feature_in_lem r (8 * i) from f e))
         ]
-
--- what the writers require
-pub rooms_in_lem : (r : Rooms) (h : Head) → rooms_fine r h ≡ true → RoomsIn r h
-unfolding rooms_fine
-rooms_in_lem r h e =
-    let a : rows_fine (reference_row_fine r) 14 0 h.references ≡ true = search parts in
-    let b : rows_fine (comment_row_fine r) 2 0 h.comments ≡ true = search parts in
-    let c : features_fine r 0 0 h.features ≡ true = search parts in
-    record {
-      lengths = lengths_in r (search parts depth 12);
-      head = head_in r h (search parts depth 12);
-      counts = counts_in r h (search parts depth 12);
-      reference = λ i l. reference_in_lem r (14 * i) (rows_each (reference_row_fine r) 14 0 h.references i a (omega arith) (omega arith));
-      comment = λ i l. comment_in_lem r (2 * i) (rows_each (comment_row_fine r) 2 0 h.comments i b (omega arith) (omega arith));
-      feature = λ i l. features_each r 0 0 h.features i c (omega arith) (omega arith);
-    }

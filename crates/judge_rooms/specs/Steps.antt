@@ -101,19 +101,6 @@ features_step r i from k =
     go true p true q true s false t false u = rw (features_fine, p, q, s, t, u)
     go true p true q true s false t true u = rw (features_fine, p, q, s, t, u, s)
 
-module _ (r : Rooms) (i n from : ℕ) (whole : Bool) (o : Next) (g : whole ≡ features_fine r i from (n - i)) (l : i < n) (h : o ≡ feature_next r (8 * i) from) where
-  by_next : whole ≡ after_next r i (n - (i + 1)) o
-  by_next = let e : n - i ≡ suc (n - (i + 1)) = omega arith in g ∙ rw (e, features_step, ← h)
-
-  pub features_go : (f : ℕ) → o ≡ next.From f → feature_located r (8 * i) ≡ true → whole ≡ features_fine r (i + 1) f (n - (i + 1))
-  features_go f p t = by_next ∙ rw (p, t)
-
-  pub features_no : o ≡ next.Wrong → false ≡ whole
-  features_no p = sym (by_next ∙ rw p)
-
-  pub features_unlocated : (f : ℕ) → o ≡ next.From f → feature_located r (8 * i) ≡ false → false ≡ whole
-  features_unlocated f p t = sym (by_next ∙ rw (p, t))
-
 module _ (r : Rooms) (i n from : ℕ) where
   pub features_end : (whole : Bool) → whole ≡ features_fine r i from (n - i) → n ≤ i → true ≡ whole
   unfolding features_fine

@@ -95,22 +95,22 @@ pub ruleset entering = (entry_cut, entry_no, definition_got, accession_got, vers
 -- ---- SOURCE and REFERENCE
 
 module _ (s : List ℕ) (at : ℕ) (p : Ans format.Field) (r : SourceAt) (h : Sources s at (source (drop at s)) r) where
-  pub source_cut : r ≡ source'.Cut → FieldRead s at (or_else (mapped format.Source_of (source (drop at s))) p) read.Cut
+  pub source_cut : r ≡ source'.Cut → FieldRead s at (or_else (mapped format.source_of (source (drop at s))) p) read.Cut
   source_cut e = let w : source (drop at s) ≡ cut = subst (λ (x : SourceAt). SourceAs s at (source (drop at s)) x) e h.is in record { is = rw w }
 
-  pub source_no : (q : FieldAt) → r ≡ source'.No → FieldRead s at p q → FieldRead s at (or_else (mapped format.Source_of (source (drop at s))) p) q
+  pub source_no : (q : FieldAt) → r ≡ source'.No → FieldRead s at p q → FieldRead s at (or_else (mapped format.source_of (source (drop at s))) p) q
   source_no q e k = let w : source (drop at s) ≡ no = subst (λ (x : SourceAt). SourceAs s at (source (drop at s)) x) e h.is in record { is = rw w k.is }
 
   pub source_got :
       (text : Entry) (organism : MayEntry) (next : ℕ) → r ≡ source'.Got text organism next →
-      FieldRead s at (or_else (mapped format.Source_of (source (drop at s))) p) (read.Got (field.Source text organism) next)
+      FieldRead s at (or_else (mapped format.source_of (source (drop at s))) p) (read.Got (field.Source text organism) next)
   source_got text organism next e =
       let w : SourceKnown s at (source (drop at s)) text organism next = subst (λ (x : SourceAt). SourceAs s at (source (drop at s)) x) e h.is in
       let l : at ≤ text.next = omega (arith, w.stands.from, w.stands.ahead) in
       record {
         is = record {
-          the = format.Source_of w.the;
-          is = ap (λ (o : Ans Source). or_else (mapped format.Source_of o) p) w.is;
+          the = format.source_of w.the;
+          is = ap (λ (o : Ans Source). or_else (mapped format.source_of o) p) w.is;
           one = record { the = w.the; is = refl; stands = w.stands; may = may_from s at text.next true w.the.organism organism l w.may };
           ahead = omega (arith, w.stands.from, w.stands.ahead, w.from);
           within = w.within;
@@ -118,24 +118,24 @@ module _ (s : List ℕ) (at : ℕ) (p : Ans format.Field) (r : SourceAt) (h : So
       }
 
 module _ (s : List ℕ) (at : ℕ) (p : Ans format.Field) (r : ReferenceAt) (h : References s at (reference (drop at s)) r) where
-  pub reference_cut : r ≡ reference'.Cut → FieldRead s at (or_else (mapped format.Reference_of (reference (drop at s))) p) read.Cut
+  pub reference_cut : r ≡ reference'.Cut → FieldRead s at (or_else (mapped format.reference_of (reference (drop at s))) p) read.Cut
   reference_cut e =
       let w : reference (drop at s) ≡ cut = subst (λ (x : ReferenceAt). ReferenceAs s at (reference (drop at s)) x) e h.is in record { is = rw w }
 
   pub reference_no :
-      (q : FieldAt) → r ≡ reference'.No → FieldRead s at p q → FieldRead s at (or_else (mapped format.Reference_of (reference (drop at s))) p) q
+      (q : FieldAt) → r ≡ reference'.No → FieldRead s at p q → FieldRead s at (or_else (mapped format.reference_of (reference (drop at s))) p) q
   reference_no q e k =
       let w : reference (drop at s) ≡ no = subst (λ (x : ReferenceAt). ReferenceAs s at (reference (drop at s)) x) e h.is in record { is = rw w k.is }
 
   pub reference_got :
       (entries : ReferenceEntries) (n next : ℕ) → r ≡ reference'.Got entries n next →
-      FieldRead s at (or_else (mapped format.Reference_of (reference (drop at s))) p) (read.Got (field.Reference entries n) next)
+      FieldRead s at (or_else (mapped format.reference_of (reference (drop at s))) p) (read.Got (field.Reference entries n) next)
   reference_got entries n next e =
       let w : ReferenceGot s at (reference (drop at s)) entries n next = subst (λ (x : ReferenceAt). ReferenceAs s at (reference (drop at s)) x) e h.is in
       record {
         is = record {
-          the = format.Reference_of w.the;
-          is = ap (λ (o : Ans Reference). or_else (mapped format.Reference_of o) p) w.is;
+          the = format.reference_of w.the;
+          is = ap (λ (o : Ans Reference). or_else (mapped format.reference_of o) p) w.is;
           one = record { the = w.the; is = refl; known = w.known };
           ahead = w.ahead;
           within = w.within;

@@ -23,13 +23,13 @@ pub record EntryIs (s : List ℕ) (at next : ℕ) (word : List ℕ) (x : format.
 
 pub record SourceIs (s : List ℕ) (at next : ℕ) (x : format.Field) (text : Entry) (organism : MayEntry) : Type 0 where
   pub the : Source
-  pub is : x ≡ format.Source_of the
+  pub is : x ≡ format.source_of the
   pub stands : Stands s at true the.text text
   pub may : MayStand s at true the.organism organism
 
 pub record ReferenceIs (s : List ℕ) (at next : ℕ) (x : format.Field) (entries : ReferenceEntries) (bytes : ℕ) : Type 0 where
   pub the : Reference
-  pub is : x ≡ format.Reference_of the
+  pub is : x ≡ format.reference_of the
   pub known : ReferenceKnown s at the entries bytes next
 
 -- the field x is the one that the code answers

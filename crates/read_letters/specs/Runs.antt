@@ -3,7 +3,7 @@ use Rattle.std.specs.Prelude.{ℕ, zero, suc, ◌+◌, ◌≤◌, ◌<◌, ◌�
 use Rattle.std.proofs.Common.{sym, ap, ◌∙◌, append_assoc, arith}
 use Rattle.spec_format.specs.Bytes.{letter}
 use Rattle.spec_bases.specs.Bases.{coded}
-use Rattle.spec_format.specs.Origin.{Letters, At_slash, At_end, bad_byte, keep, skipped}
+use Rattle.spec_format.specs.Origin.{Letters, at_slash, at_end, bad_byte, keep, skipped}
 use Rattle.read_letters.specs.declared.Counted.{Counted}
 use Rattle.read_letters.specs.declared.Counted.TheVariants as counted
 
@@ -14,11 +14,11 @@ taken true b = coded b
 
 -- `letters`, where a letter that is not taken ends them as a bad byte does
 unfoldable pub letters_by : Bool → List ℕ → Letters
-letters_by strict [] = At_end []
+letters_by strict [] = at_end []
 letters_by strict (b ∷ s) =
     elim (taken strict b) [
       | true ↦ keep b (letters_by strict s)
-      | false ↦ elim (eqb b 47) [ true ↦ At_slash [] (b ∷ s) | false ↦ elim (skipped b) [ true ↦ letters_by strict s | false ↦ bad_byte (b ∷ s) ] ]
+      | false ↦ elim (eqb b 47) [ true ↦ at_slash [] (b ∷ s) | false ↦ elim (skipped b) [ true ↦ letters_by strict s | false ↦ bad_byte (b ∷ s) ] ]
     ]
 
 -- how many letters there are, and where they end
@@ -28,8 +28,8 @@ pub data Tally : Type 0 where
   bad : List ℕ → Tally
 
 abbrev pub tally : Letters → Tally
-tally (At_slash l r) = slash (length l) r
-tally (At_end l) = end (length l)
+tally (at_slash l r) = slash (length l) r
+tally (at_end l) = end (length l)
 tally (bad_byte r) = bad r
 
 abbrev pub tally_of : List ℕ → Counted → Tally
@@ -90,14 +90,14 @@ run_append {strict} {s} {a} {b} {c} {v} {w} p q =
     }
 
 pub tally_keeps : (w : List ℕ) (x : Letters) → tally (keeps w x) ≡ plus (length w) (tally x)
-tally_keeps [] (At_slash l r) = ap (λ (n : ℕ). slash n r) (omega arith)
-tally_keeps [] (At_end l) = ap end (omega arith)
+tally_keeps [] (at_slash l r) = ap (λ (n : ℕ). slash n r) (omega arith)
+tally_keeps [] (at_end l) = ap end (omega arith)
 tally_keeps [] (bad_byte r) = refl
 tally_keeps (b ∷ w) x = one (keeps w x) ∙ ap (plus 1) (tally_keeps w x) ∙ twice (tally x)
   where
     one : (y : Letters) → tally (keep b y) ≡ plus 1 (tally y)
-    one (At_slash l r) = ap (λ (n : ℕ). slash n r) (omega arith)
-    one (At_end l) = ap end (omega arith)
+    one (at_slash l r) = ap (λ (n : ℕ). slash n r) (omega arith)
+    one (at_end l) = ap end (omega arith)
     one (bad_byte r) = refl
 
     twice : (y : Tally) → plus 1 (plus (length w) y) ≡ plus (suc (length w)) y

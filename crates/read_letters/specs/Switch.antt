@@ -5,7 +5,7 @@ use Rattle.spec_bases.specs.Bases.{set_of, coded}
 use Rattle.spec_bases.proofs.Tests.{of_coded}
 use Rattle.spec_format.specs.Bytes.{absent, is, letter, starts}
 use Rattle.spec_format.specs.Impossible.{impossible}
-use Rattle.spec_format.specs.Origin.{Letters, At_slash, At_end, bad_byte, keep, skipped, letters}
+use Rattle.spec_format.specs.Origin.{Letters, at_slash, at_end, bad_byte, keep, skipped, letters}
 use Rattle.spec_format.specs.Record.{Outcome, not_read}
 use Rattle.spec_format.specs.Strict.{stray, strictly}
 use Rattle.spec_format.specs.declared.Unread.TheVariants as unread
@@ -59,8 +59,8 @@ BadBy true strict s r = (strict ≡ true) × (stray s ≡ is r)
 BadBy false strict s r = (letters s ≡ bad_byte r) × Unstrayed strict s
 
 abbrev pub Says : Bool → List ℕ → Letters → Type 0
-Says strict s (At_slash l r) = (letters s ≡ At_slash l r) × Unstrayed strict s
-Says strict s (At_end l) = (letters s ≡ At_end l) × Unstrayed strict s
+Says strict s (at_slash l r) = (letters s ≡ at_slash l r) × Unstrayed strict s
+Says strict s (at_end l) = (letters s ≡ at_end l) × Unstrayed strict s
 Says strict s (bad_byte r) = BadBy (starts letter r) strict s r
 
 -- a byte that cannot stand among letters is none
@@ -70,19 +70,19 @@ bad_none [] r h = impossible cc
 bad_none (b ∷ s) r h = go (bad_none s) (letter b) refl (eqb b 47) refl (skipped b) refl
   where
     kept : ((r : List ℕ) → letters s ≡ bad_byte r → starts letter r ≡ false) → (x : Letters) → letters s ≡ x → keep b x ≡ bad_byte r → starts letter r ≡ false
-    kept ih (At_slash l q) e k = impossible cc
-    kept ih (At_end l) e k = impossible cc
+    kept ih (at_slash l q) e k = impossible cc
+    kept ih (at_end l) e k = impossible cc
     kept ih (bad_byte q) e k = let m : q ≡ r = cc in rw (← m) (ih q e)
 
     go : ((r : List ℕ) → letters s ≡ bad_byte r → starts letter r ≡ false) → (x : Bool) → letter b ≡ x → (y : Bool) → eqb b 47 ≡ y → (z : Bool) → skipped b ≡ z → starts letter r ≡ false
     go ih true e y f z g = kept ih (letters s) refl (sym (rw (letters, e)) ∙ h)
-    go ih false e true f z g = let k : At_slash [] (b ∷ s) ≡ bad_byte r = sym (rw (letters, e, f)) ∙ h in impossible cc
+    go ih false e true f z g = let k : at_slash [] (b ∷ s) ≡ bad_byte r = sym (rw (letters, e, f)) ∙ h in impossible cc
     go ih false e false f true g = ih r (sym (rw (letters, e, f, g)) ∙ h)
     go ih false e false f false g = let k : bad_byte (b ∷ s) ≡ bad_byte r = sym (rw (letters, e, f, g)) ∙ h in let m : b ∷ s ≡ r = cc in rw (← m) e
 
 says_off : (s : List ℕ) (x : Letters) → letters s ≡ x → Says false s x
-says_off s (At_slash l r) e = (e, tt)
-says_off s (At_end l) e = (e, tt)
+says_off s (at_slash l r) e = (e, tt)
+says_off s (at_end l) e = (e, tt)
 says_off s (bad_byte r) e = rw (bad_none s r e) (e, tt)
 
 -- the same after a byte more: a letter with a code, or one that is skipped
@@ -92,8 +92,8 @@ module _ (b : ℕ) (s : List ℕ) (t : stray (b ∷ s) ≡ stray s) where
   bad_kept false r e h = (e ∙ ap (keep b) h.0, t ∙ h.1)
 
   says_kept : letters (b ∷ s) ≡ keep b (letters s) → (x : Letters) → Says true s x → Says true (b ∷ s) (keep b x)
-  says_kept e (At_slash l r) h = (e ∙ ap (keep b) h.0, t ∙ h.1)
-  says_kept e (At_end l) h = (e ∙ ap (keep b) h.0, t ∙ h.1)
+  says_kept e (at_slash l r) h = (e ∙ ap (keep b) h.0, t ∙ h.1)
+  says_kept e (at_end l) h = (e ∙ ap (keep b) h.0, t ∙ h.1)
   says_kept e (bad_byte r) h = bad_kept (starts letter r) r e h
 
   bad_skipped : (x : Bool) (r : List ℕ) → letters (b ∷ s) ≡ letters s → BadBy x true s r → BadBy x true (b ∷ s) r
@@ -101,8 +101,8 @@ module _ (b : ℕ) (s : List ℕ) (t : stray (b ∷ s) ≡ stray s) where
   bad_skipped false r e h = (e ∙ h.0, t ∙ h.1)
 
   says_skipped : letters (b ∷ s) ≡ letters s → (x : Letters) → Says true s x → Says true (b ∷ s) x
-  says_skipped e (At_slash l r) h = (e ∙ h.0, t ∙ h.1)
-  says_skipped e (At_end l) h = (e ∙ h.0, t ∙ h.1)
+  says_skipped e (at_slash l r) h = (e ∙ h.0, t ∙ h.1)
+  says_skipped e (at_end l) h = (e ∙ h.0, t ∙ h.1)
   says_skipped e (bad_byte r) h = bad_skipped (starts letter r) r e h
 
 says_on : (s : List ℕ) → Says true s (letters_by true s)
@@ -139,8 +139,8 @@ strayed strict s r o h = rw (h.0, h.1)
 
 -- where the letters end well, they are those that are put
 abbrev Sifts : List ℕ → Letters → Type 0
-Sifts t (At_slash l r) = l ≡ t
-Sifts t (At_end l) = l ≡ t
+Sifts t (at_slash l r) = l ≡ t
+Sifts t (at_end l) = l ≡ t
 Sifts t (bad_byte r) = Unit
 
 sifts : (s : List ℕ) → Sifts (sifted s) (letters s)
@@ -149,8 +149,8 @@ sifts [] = refl
 sifts (b ∷ s) = go (sifts s) (letter b) refl (eqb b 47) refl (skipped b) refl
   where
     kept : (x : Letters) → Sifts (sifted s) x → Sifts (b ∷ sifted s) (keep b x)
-    kept (At_slash l r) h = ap (λ (t : List ℕ). b ∷ t) h
-    kept (At_end l) h = ap (λ (t : List ℕ). b ∷ t) h
+    kept (at_slash l r) h = ap (λ (t : List ℕ). b ∷ t) h
+    kept (at_end l) h = ap (λ (t : List ℕ). b ∷ t) h
     kept (bad_byte r) h = tt
 
     go : Sifts (sifted s) (letters s) → (x : Bool) → letter b ≡ x → (y : Bool) → eqb b 47 ≡ y → (z : Bool) → skipped b ≡ z → Sifts (sifted (b ∷ s)) (letters (b ∷ s))
@@ -161,7 +161,7 @@ sifts (b ∷ s) = go (sifts s) (letter b) refl (eqb b 47) refl (skipped b) refl
 
 -- an answer of the count, with the letters that are put
 pub record SlashCounted (strict : Bool) (s : List ℕ) (n : ℕ) (r : List ℕ) : Type 0 where
-  pub is : letters s ≡ At_slash (sifted s) r
+  pub is : letters s ≡ at_slash (sifted s) r
   pub counted : length (sifted s) ≡ n
   pub unstrayed : Unstrayed strict s
 
@@ -169,16 +169,16 @@ pub count_slash : (strict : Bool) (s : List ℕ) (n : ℕ) (r : List ℕ) → sl
 count_slash strict s n r e = go (letters_by strict s) (says strict s) e
   where
     go : (x : Letters) → Says strict s x → slash n r ≡ tally x → SlashCounted strict s n r
-    go (At_slash l q) h f =
+    go (at_slash l q) h f =
         let m : n ≡ length l = cc in
         let k : r ≡ q = cc in
         let t : l ≡ sifted s = subst (Sifts (sifted s)) h.0 (sifts s) in
         record { is = h.0 ∙ rw (← t, k); counted = rw (← t, m); unstrayed = h.1 }
-    go (At_end l) h f = impossible cc
+    go (at_end l) h f = impossible cc
     go (bad_byte q) h f = impossible cc
 
 pub record EndCounted (strict : Bool) (s : List ℕ) (n : ℕ) : Type 0 where
-  pub is : letters s ≡ At_end (sifted s)
+  pub is : letters s ≡ at_end (sifted s)
   pub counted : length (sifted s) ≡ n
   pub unstrayed : Unstrayed strict s
 
@@ -186,8 +186,8 @@ pub count_end : (strict : Bool) (s : List ℕ) (n : ℕ) → end n ≡ tally (le
 count_end strict s n e = go (letters_by strict s) (says strict s) e
   where
     go : (x : Letters) → Says strict s x → end n ≡ tally x → EndCounted strict s n
-    go (At_slash l q) h f = impossible cc
-    go (At_end l) h f =
+    go (at_slash l q) h f = impossible cc
+    go (at_end l) h f =
         let m : n ≡ length l = cc in
         let t : l ≡ sifted s = subst (Sifts (sifted s)) h.0 (sifts s) in
         record { is = h.0 ∙ rw (← t); counted = rw (← t, m); unstrayed = h.1 }
@@ -197,6 +197,6 @@ pub count_bad : (strict : Bool) (s r : List ℕ) → bad r ≡ tally (letters_by
 count_bad strict s r e = go (letters_by strict s) (says strict s) e
   where
     go : (x : Letters) → Says strict s x → bad r ≡ tally x → BadBy (starts letter r) strict s r
-    go (At_slash l q) h f = impossible cc
-    go (At_end l) h f = impossible cc
+    go (at_slash l q) h f = impossible cc
+    go (at_end l) h f = impossible cc
     go (bad_byte q) h f = let k : q ≡ r = cc in subst (λ (z : List ℕ). BadBy (starts letter z) strict s z) k h

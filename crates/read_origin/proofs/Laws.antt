@@ -10,7 +10,7 @@ use lib.Seq.{drop-cons}
 use Rattle.spec_format.specs.Readers.{Ans, got, no, cut, bind, or_else}
 use Rattle.spec_format.specs.Table.{Table}
 use Rattle.spec_format.specs.Bytes.{pick, letter, starts}
-use Rattle.spec_format.specs.Origin.{origin_tag, At_slash, At_end, bad_byte, letters}
+use Rattle.spec_format.specs.Origin.{origin_tag, at_slash, at_end, bad_byte, letters}
 use Rattle.spec_format.specs.Record.{Outcome, not_read, with_letters, slashes_at, promised, counted, sequence, after_origin}
 use Rattle.spec_format.specs.Strict.{stray, stray_after, strictly}
 use Rattle.spec_format.specs.Rooms.{may_length}
@@ -139,8 +139,8 @@ pub ruleset tagging = (
 
 -- ---- the record's end
 
-at_end : (s : List ℕ) → drop (length s) s ≡ []
-at_end s = drop_of_length-le s (le_refl (length s))
+at_end_lem : (s : List ℕ) → drop (length s) s ≡ []
+at_end_lem s = drop_of_length-le s (le_refl (length s))
 
 module _ (s : List ℕ) (at lettersAt n : ℕ) (given : Length) (r : RecordEnd) (h : Ended s at r) where
   pub slashes_at_lem : (place : ℕ) → r ≡ record-end.At place → lettersAt ≤ length s → n ≡ length (sifted (drop lettersAt s)) →
@@ -212,7 +212,7 @@ module _ (s : List ℕ) (at : ℕ) (given : Length) (strict : Bool) (r : Counted
       letters_end_lem k l =
           record {
             is = record {
-              is = λ t d. unstrayed strict (drop at s) (sequence t (letters (drop at s))) end_is.unstrayed ∙ rw (end_is.is, d.length, end_is.counted, ← f, k, at_end s);
+              is = λ t d. unstrayed strict (drop at s) (sequence t (letters (drop at s))) end_is.unstrayed ∙ rw (end_is.is, d.length, end_is.counted, ← f, k, at_end_lem s);
               counted = sym end_is.counted;
               lettered = l;
               within = omega arith;
@@ -272,7 +272,7 @@ module _ (strict : Bool) (t : Table) (s : List ℕ) where
 
 pub none_there : (s : List ℕ) → sifted (drop (length s) s) ≡ []
 unfolding sifted
-none_there s = rw (at_end s)
+none_there s = rw (at_end_lem s)
 
 pub none_counted : (s : List ℕ) → 0 ≡ length (sifted (drop (length s) s))
 none_counted s = rw (none_there s)

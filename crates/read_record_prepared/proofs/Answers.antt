@@ -31,9 +31,9 @@ module _ (strict : Bool) (s : List ℕ) (at : ℕ) where
   unfolding read_by
   beyond l h = rw (le-leb (length s) most l, lt-leb at (length s) h)
 
-  pub at_end : length s ≤ most → length s ≤ at → at ≤ length s → read_by strict s at ≡ not_read unread.AtEnd
+  pub at_end_lem : length s ≤ most → length s ≤ at → at ≤ length s → read_by strict s at ≡ not_read unread.AtEnd
   unfolding read_by
-  at_end l h w = let e : at ≡ length s = omega arith in rw (le-leb (length s) most l, le-leb at (length s) w, eq-eqb at (length s) e)
+  at_end_lem l h w = let e : at ≡ length s = omega arith in rw (le-leb (length s) most l, le-leb at (length s) w, eq-eqb at (length s) e)
 
   pub inside : length s ≤ most → at < length s → read_by strict s at ≡ record_by strict (drop at s)
   unfolding read_by
@@ -54,7 +54,7 @@ module _ (strict : Bool) (s : List ℕ) (at : ℕ) (old : Rooms) where
   refused_beyond l h = refused strict s at old unread.BadPlace (beyond strict s at l h)
 
   pub refused_end : length s ≤ most → length s ≤ at → at ≤ length s → Answered strict s at old old (answer.Refused unread.AtEnd)
-  refused_end l h w = refused strict s at old unread.AtEnd (at_end strict s at l h w)
+  refused_end l h w = refused strict s at old unread.AtEnd (at_end_lem strict s at l h w)
 
 -- ---- a plan
 

@@ -10,7 +10,7 @@ use Rattle.spec_format.specs.Bytes.{May, is}
 use Rattle.spec_format.specs.Readers.{Ans, got, no, cut, optional}
 use Rattle.spec_format.specs.Features.{features_header}
 use Rattle.spec_format.specs.Deep.{deep_feature}
-use Rattle.spec_format.specs.Origin.{Letters, At_slash, At_end, bad_byte, origin_tag}
+use Rattle.spec_format.specs.Origin.{Letters, at_slash, at_end, bad_byte, origin_tag}
 use Rattle.spec_format.specs.Record.{features, base_count, left_by, middle, deep_in}
 use Rattle.spec_lines.specs.Stands.{Stands}
 use Rattle.spec_lines.specs.Troubles.{letters_end, deep_place}
@@ -44,18 +44,18 @@ stands_from s at n t r l h = record { is = h.is; from = omega (arith, h.from); w
 -- ---- the letters
 
 end_slash : (n : ℕ) (r : List ℕ) (x : Letters) → slash n r ≡ tally x → r ≡ letters_end x
-end_slash n r (At_slash l z) e = cc
-end_slash n r (At_end l) e = impossible cc
+end_slash n r (at_slash l z) e = cc
+end_slash n r (at_end l) e = impossible cc
 end_slash n r (bad_byte z) e = impossible cc
 
 end_all : (n : ℕ) (x : Letters) → end n ≡ tally x → [] ≡ letters_end x
-end_all n (At_slash l z) e = impossible cc
-end_all n (At_end l) e = refl
+end_all n (at_slash l z) e = impossible cc
+end_all n (at_end l) e = refl
 end_all n (bad_byte z) e = impossible cc
 
 end_bad : (r : List ℕ) (x : Letters) → bad r ≡ tally x → r ≡ letters_end x
-end_bad r (At_slash l z) e = impossible cc
-end_bad r (At_end l) e = impossible cc
+end_bad r (at_slash l z) e = impossible cc
+end_bad r (at_end l) e = impossible cc
 end_bad r (bad_byte z) e = cc
 
 module _ (s : List ℕ) (at : ℕ) (strict : Bool) (r : Counted) (h : Counts s at (tally (letters_by strict (drop at s))) r) where

@@ -8,7 +8,7 @@ use Rattle.spec_format.specs.Readers.{Ans, got, no, cut, bind, while_fits}
 use Rattle.spec_format.specs.Table.{Locus}
 use Rattle.spec_format.specs.Locus.{preamble, locus}
 use Rattle.spec_format.specs.Header.{Field, header_field}
-use Rattle.spec_format.specs.Origin.{Letters, At_slash, At_end, bad_byte, letters, origin_tag}
+use Rattle.spec_format.specs.Origin.{Letters, at_slash, at_end, bad_byte, letters, origin_tag}
 use Rattle.spec_format.specs.Record.{left_by, Middle, middle, deep_in, once}
 use Rattle.spec_format.specs.Strict.{stray, letters_below, letters_after, letters_from, stray_after, stray_in}
 use Rattle.spec_format.specs.Impossible.{impossible}
@@ -39,8 +39,8 @@ ends_stray s z e = go (letters_by true s) (says true s)
     bad_stray r false h = let k : absent ≡ is z = sym h.1 ∙ e in impossible cc
 
     go : (x : Letters) → Says true s x → letters_end x ≡ z
-    go (At_slash l r) h = let k : absent ≡ is z = sym h.1 ∙ e in impossible cc
-    go (At_end l) h = let k : absent ≡ is z = sym h.1 ∙ e in impossible cc
+    go (at_slash l r) h = let k : absent ≡ is z = sym h.1 ∙ e in impossible cc
+    go (at_end l) h = let k : absent ≡ is z = sym h.1 ∙ e in impossible cc
     go (bad_byte r) h = bad_stray r (starts letter r) h
 
 -- the place of a stray letter, by the steps of the search for it

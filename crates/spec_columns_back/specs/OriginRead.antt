@@ -3,7 +3,7 @@ use Rattle.std.specs.Prelude.{ℕ, zero, suc, ◌-◌, ◌*◌, ◌≤◌, Bool,
 use Rattle.std.proofs.Common.{arith, ap, ◌∙◌, append_assoc, length-drop, take-append-drop, leb-true}
 use Rattle.spec_format.specs.Bytes.{bytes, spaces, all, each, digit, letter, blank, not_blank}
 use Rattle.spec_format.specs.Readers.{got, tag, line_end}
-use Rattle.spec_format.specs.Origin.{origin_tag, At_slash, letters}
+use Rattle.spec_format.specs.Origin.{origin_tag, at_slash, letters}
 use Rattle.spec_public.specs.Public.{blocks, origin_columns}
 use Rattle.spec_texts_back.specs.Tests.{and_left, and_right, all_head, all_tail, all_append, all_imp}
 use Rattle.spec_texts_back.specs.Pieces.{until_back, all_spaces}
@@ -31,17 +31,17 @@ pub record Numbered : Type 0 where
 abbrev pub numbered_fine : Numbered → Bool
 numbered_fine x = origin_columns x.count x.held x.line && (all digit x.count && (all letter x.held && leb (length x.held) 60))
 
-keep_all : (w x l r : List ℕ) → all letter w ≡ true → letters x ≡ At_slash l r → letters (w ++ x) ≡ At_slash (w ++ l) r
+keep_all : (w x l r : List ℕ) → all letter w ≡ true → letters x ≡ at_slash l r → letters (w ++ x) ≡ at_slash (w ++ l) r
 keep_all [] x l r h e = e
 keep_all (b ∷ w) x l r h e = keep_letter b (w ++ x) (w ++ l) r (all_head letter b w h) (keep_all w x l r (all_tail letter b w h) e)
 
 -- a blank and the letters of a block
 block_read :
-    (f m l x t r : List ℕ) → f ++ m ≡ l → all letter f ≡ true → letters x ≡ At_slash (m ++ t) r → letters (32 ∷ (f ++ x)) ≡ At_slash (l ++ t) r
+    (f m l x t r : List ℕ) → f ++ m ≡ l → all letter f ≡ true → letters x ≡ at_slash (m ++ t) r → letters (32 ∷ (f ++ x)) ≡ at_slash (l ++ t) r
 block_read f m l x t r j h e = skip (32 ∷ []) (f ++ x) refl ∙ rw (← j, append_assoc f m t) (keep_all f x (m ++ t) r h e)
 
 -- n blocks hold ten letters each
-blocks_read : (n : ℕ) (l x t r : List ℕ) → all letter l ≡ true → length l ≤ 10 * n → letters x ≡ At_slash t r → letters (blocks n l ++ x) ≡ At_slash (l ++ t) r
+blocks_read : (n : ℕ) (l x t r : List ℕ) → all letter l ≡ true → length l ≤ 10 * n → letters x ≡ at_slash t r → letters (blocks n l ++ x) ≡ at_slash (l ++ t) r
 unfolding blocks
 blocks_read zero [] x t r h k e = e
 blocks_read zero (b ∷ l) x t r h k e = absurd (omega arith)
@@ -60,7 +60,7 @@ line_group : (a b e x : List ℕ) → ((a ++ b) ++ e) ++ x ≡ a ++ (b ++ (e ++ 
 line_group a b e x = simp append_assoc
 
 line_read :
-    (y : Numbered) (x t r : List ℕ) → numbered_fine y ≡ true → letters x ≡ At_slash t r → letters (ended y.line ++ x) ≡ At_slash (y.held ++ t) r
+    (y : Numbered) (x t r : List ℕ) → numbered_fine y ≡ true → letters x ≡ at_slash t r → letters (ended y.line ++ x) ≡ at_slash (y.held ++ t) r
 line_read y x t r h e =
     let count : List ℕ = y.count in
     let held : List ℕ = y.held in
@@ -75,15 +75,15 @@ line_read y x t r h e =
     (blocks_read 6 held (10 ∷ x) t r (and_left (all letter held) _ h₃) (leb-true (length held) 60 (and_right (all letter held) _ h₃))
     (skip (10 ∷ []) x refl ∙ e))
 
-at_slash : (rest : List ℕ) → letters (47 ∷ rest) ≡ At_slash [] (47 ∷ rest)
+at_slash_lem : (rest : List ℕ) → letters (47 ∷ rest) ≡ at_slash [] (47 ∷ rest)
 unfolding letters
-at_slash rest = refl
+at_slash_lem rest = refl
 
 -- NUMBERED LINES are read as all their letters, up to the `/`
 pub letters_read :
     (ys : List Numbered) (rest : List ℕ) → all numbered_fine ys ≡ true →
-    letters (each (λ y. ended y.line) ys ++ 47 ∷ rest) ≡ At_slash (each (λ y. y.held) ys) (47 ∷ rest)
-letters_read [] rest h = at_slash rest
+    letters (each (λ y. ended y.line) ys ++ 47 ∷ rest) ≡ at_slash (each (λ y. y.held) ys) (47 ∷ rest)
+letters_read [] rest h = at_slash_lem rest
 letters_read (y ∷ ys) rest h =
     rw (append_assoc (ended y.line) (each (λ y. ended y.line) ys) (47 ∷ rest))
     (line_read y (each (λ y. ended y.line) ys ++ 47 ∷ rest) (each (λ y. y.held) ys) (47 ∷ rest) (all_head numbered_fine y ys h)

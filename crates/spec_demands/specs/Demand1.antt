@@ -1,5 +1,6 @@
 -- DEMAND 1, TOTAL. Every input has a numbered answer, and every call ends: that a call ends with an answer is what the check proves of each function; here is what its contract says of that
--- answer. A refusal leaves all lent room as it was. Any two answers that a contract permits agree. 6 is answered exactly when the call would succeed with more room.
+-- answer. A refusal leaves all lent room as it was. Any two answers that a contract permits agree. 6 is answered exactly when the call would succeed with more room:
+-- of the reader in proofs/Demand1.antt.
 use Rattle.std.specs.Prelude.{ℕ, Bool, true, false, ◌||◌, List, [], ◌∷◌, ◌↔◌, ◌≡◌, refl, eqb, length}
 use Rattle.std.proofs.Common.{sym, ap, subst, ◌∙◌}
 use Rattle.spec_format.specs.Answers.{slice_after}
@@ -11,7 +12,6 @@ use Rattle.spec_format.specs.declared.Head.{Head}
 use Rattle.spec_format.specs.declared.How.{How}
 use Rattle.spec_format.specs.declared.ReadAnswer.{ReadAnswer}
 use Rattle.spec_format.specs.declared.ReadAnswer.TheVariants as read
-use Rattle.spec_format.specs.declared.Sizes.{Sizes}
 use Rattle.spec_format.specs.declared.Unread.TheVariants as unread
 use Rattle.spec_format.specs.declared.Unwritten.TheVariants as unwritten
 use Rattle.spec_format.specs.declared.WriteAnswer.{WriteAnswer}
@@ -25,9 +25,9 @@ use Rattle.spec_contracts.specs.Writes.{text_due, WriteAnswered}
 use Rattle.spec_contracts.specs.declared.Reading.{Reading}
 use Rattle.spec_contracts.specs.declared.Reported.{Reported}
 use Rattle.spec_contracts.specs.declared.Writing.{Writing}
-use Rattle.spec_demands.specs.Answers.{unread_not_six, told_equal, rows_tell, room_of, after_same, slice_same, no_width, no_head_lem, what_is_due}
-use Rattle.spec_demands.specs.Six.{six_more, more_six, told_more, told_used, room_told, bytes_told}
-use Rattle.spec_demands.specs.What.{MoreRoom, Uses, MoreBytes}
+use Rattle.spec_demands.specs.Answers.{told_equal, rows_tell, room_of, after_same, slice_same, no_width, no_head_lem, what_is_due}
+use Rattle.spec_demands.specs.Six.{room_told, bytes_told}
+use Rattle.spec_demands.specs.What.{MoreBytes}
 
 -- ---- a number of document 01's table, to which ticket 1 adds 14 and ticket 7 16
 
@@ -82,15 +82,6 @@ reported_one strict s at old new new' r r' call other =
     let e = read_one strict s at old new r.answer call.answered new' r'.answer other.answered in
     (told_equal s at r r' e.0 call.told other.told, e.1)
 
-module _ (strict : Bool) (s : List ℕ) (at : ℕ) (old new : Rooms) (a : ReadAnswer) (call : Answered strict s at old new a) where
-  -- 6 EXACTLY WHEN THE CALL WOULD SUCCEED WITH MORE ROOM
-  pub read_six : (read_number a ≡ 6) ↔ ((n : Sizes) × MoreRoom strict s at old n)
-  read_six = (six_more strict s at old new a call, λ m. more_six strict s at old new a call m.0 m.1)
-
-  -- with the sizes that make it succeed, and that a success then uses
-  pub read_six_sizes : (n : Sizes) → a ≡ read.Room n → MoreRoom strict s at old n × ((more after : Rooms) (b : ReadAnswer) → Answered strict s at more after b → read_number b ≡ 0 → Uses n more after)
-  read_six_sizes n e = (told_more strict s at old new a call n e, told_used strict s at old new a call n e)
-
 -- ---- THE WRITER, plain or keeping as `how` says: a call with the table of r and h, and a slice `old`, which is then `new`
 
 module _ (how : How) (r : Rooms) (h : Head) (old new : List ℕ) (a : WriteAnswer) (call : WriteAnswered how r h old new a) where
@@ -111,38 +102,20 @@ module _ (how : How) (r : Rooms) (h : Head) (old new : List ℕ) (a : WriteAnswe
 -- ---- THE BOUNDARY for C and Rust: the same of `vilggodan_read` and `vilggodan_write`, which return their answers by value
 
 module _ (strict : Bool) (s : List ℕ) (at : ℕ) (old new : RowRooms) (told : Reading) (call : ReadTold strict s at (flat_rooms old) (flat_rooms new) told) where
-  number_is : told.number ≡ read_number call.answer.answer
+  pub number_is : told.number ≡ read_number call.answer.answer
   number_is = ap (λ (x : Reading). x.number) call.is
 
   pub read_told_numbered : one_of read_numbers told.number ≡ true
   read_told_numbered = rw number_is (read_numbered call.answer.answer)
-
-  pub read_told_untouched : (told.number ≡ 0 → ⊥) → new ≡ old
-  read_told_untouched n = read_untouched strict s at old new call.answer.answer call.answered.answered (λ z. n (number_is ∙ z))
 
   pub read_told_one : (new' : RowRooms) (told' : Reading) → ReadTold strict s at (flat_rooms old) (flat_rooms new') told' → (told ≡ told') × (new ≡ new')
   read_told_one new' told' other =
       let e = reported_one strict s at old new new' call.answer other.answer call.answered other.answered in
       (call.is ∙ (ap (λ (x : Reported). reading at x) e.0 ∙ sym other.is), e.1)
 
-  pub read_told_six : (told.number ≡ 6) ↔ ((n : Sizes) × MoreRoom strict s at (flat_rooms old) n)
-  read_told_six = rw number_is (read_six strict s at (flat_rooms old) (flat_rooms new) call.answer.answer call.answered.answered)
-
-  pub read_told_sizes : told.number ≡ 6 → MoreRoom strict s at (flat_rooms old) told.sizes
-  read_told_sizes z = go call.answer.answer refl
-    where
-      go : (a : ReadAnswer) → call.answer.answer ≡ a → MoreRoom strict s at (flat_rooms old) told.sizes
-      go (read.Done h place) e = let x : told.number ≡ 0 = number_is ∙ ap read_number e in impossible cc
-      go (read.Refused why) e = absurd (unread_not_six why (sym (number_is ∙ ap read_number e) ∙ z))
-      go (read.Room n) e =
-          rw call.is (rw e (read_six_sizes strict s at (flat_rooms old) (flat_rooms new) call.answer.answer call.answered.answered n e).0)
-
 module _ (how : How) (r : Rooms) (ns old new : List ℕ) (told : Writing) (call : WriteTold how r ns old new told) where
-  wrote_is : told.number ≡ write_number call.answer
+  pub wrote_is : told.number ≡ write_number call.answer
   wrote_is = ap (λ (x : Writing). x.number) call.is
-
-  pub written_told_numbered : one_of (0 ∷ 6 ∷ 10 ∷ 11 ∷ 12 ∷ 13 ∷ []) told.number ≡ true
-  written_told_numbered = rw wrote_is (written_numbered call.answer)
 
   pub written_told_untouched : (told.number ≡ 0 → ⊥) → new ≡ old
   written_told_untouched n = written_untouched how r (head_from ns) old new call.answer call.answered (λ z. n (wrote_is ∙ z))

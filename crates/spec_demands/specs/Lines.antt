@@ -1,8 +1,8 @@
 -- WHICH LINE A REFUSAL TELLS (document 02, ticket 2): "the line, counted from 1 at the given place, and the offset in the slice of its first byte (that place, or after an LF)". With every
--- number but 0, 1 and 3 that is the line in which the trouble lies (`LineTold` of What.antt says what that is); with 0, 1 and 3 line and offset are 0. That the trouble lies where the ticket
+-- number but 0, 1 and 3 that is the line in which the trouble lies (`LineTold` of What.antt says what that is); with 0, 1 and 3 line and offset are 0 (in proofs/Lines.antt). That the trouble lies where the ticket
 -- says, number by number, is what the definition `troubled` says (crates/spec_lines), and is computed on examples there.
-use Rattle.std.specs.Prelude.{ℕ, ◌-◌, ◌≤◌, Bool, true, false, List, ◌≡◌, length, drop}
-use Rattle.std.proofs.Common.{ap, ◌∙◌}
+use Rattle.std.specs.Prelude.{ℕ, ◌-◌, ◌≤◌, Bool, false, List, ◌≡◌, length, drop}
+use Rattle.std.proofs.Common.{ap}
 use Rattle.spec_format.specs.Bytes.{is}
 use Rattle.spec_format.specs.Numbers.{read_number}
 use Rattle.spec_format.specs.Rooms.{Rooms}
@@ -10,16 +10,14 @@ use Rattle.spec_format.specs.declared.How.{How}
 use Rattle.spec_format.specs.declared.ReadAnswer.{ReadAnswer}
 use Rattle.spec_format.specs.declared.Unread.{Unread}
 use Rattle.spec_format.specs.declared.WriteAnswer.{WriteAnswer}
-use Rattle.spec_lines.specs.Lines.{nowhere}
 use Rattle.spec_lines.specs.Stands.{Stands}
 use Rattle.spec_lines.specs.Troubles.{troubled}
-use Rattle.spec_lines.specs.declared.Spot.{Spot}
 use Rattle.spec_contracts.specs.Reads.{ReadReported}
 use Rattle.spec_contracts.specs.Rounds.{Rounds}
 use Rattle.spec_contracts.specs.Told.{ReadTold}
 use Rattle.spec_contracts.specs.declared.Reading.{Reading}
 use Rattle.spec_contracts.specs.declared.Reported.{Reported}
-use Rattle.spec_demands.specs.Spots.{one_line, answer_line, answer_no_line}
+use Rattle.spec_demands.specs.Spots.{one_line, answer_line}
 use Rattle.spec_demands.specs.Troubled.{troubled_past, past_stands}
 use Rattle.spec_demands.specs.What.{lineless, LineTold}
 
@@ -39,22 +37,14 @@ module _ (strict : Bool) (s : List ℕ) (at : ℕ) (old new : Rooms) (r : Report
   pub line_told : lineless (read_number r.answer) ≡ false → LineTold s at r.answer r.spot.line r.spot.offset
   line_told n = rw call.told (answer_line strict s at old r.answer call.answered.is n)
 
-  pub no_line : lineless (read_number r.answer) ≡ true → (r.spot.line ≡ 0) × (r.spot.offset ≡ 0)
-  no_line n =
-      let e : r.spot ≡ nowhere = call.told ∙ answer_no_line s at r.answer n in
-      (ap (λ (x : Spot). x.line) e, ap (λ (x : Spot). x.offset) e)
-
 -- ---- THE BOUNDARY for C and Rust: `vilggodan_read`
 
 module _ (strict : Bool) (s : List ℕ) (at : ℕ) (old new : Rooms) (told : Reading) (call : ReadTold strict s at old new told) where
-  number_is : told.number ≡ read_number call.answer.answer
+  pub number_is : told.number ≡ read_number call.answer.answer
   number_is = ap (λ (x : Reading). x.number) call.is
 
   pub read_told_line : lineless told.number ≡ false → LineTold s at call.answer.answer told.line told.offset
   read_told_line n = rw call.is (line_told strict s at old new call.answer call.answered (rw number_is at n))
-
-  pub read_told_no_line : lineless told.number ≡ true → (told.line ≡ 0) × (told.offset ≡ 0)
-  read_told_no_line n = rw call.is (no_line strict s at old new call.answer call.answered (rw number_is at n))
 
 -- ---- THE FUNCTION BEHIND THE PROGRAMS
 
@@ -63,8 +53,3 @@ module _
     (call : Rounds strict s at old how t rf cm q lc l before after r w) where
   pub round_line : lineless (read_number r.answer) ≡ false → LineTold s at r.answer r.spot.line r.spot.offset
   round_line n = rw call.told (answer_line strict s at old r.answer call.is n)
-
-  pub round_no_line : lineless (read_number r.answer) ≡ true → (r.spot.line ≡ 0) × (r.spot.offset ≡ 0)
-  round_no_line n =
-      let e : r.spot ≡ nowhere = call.told ∙ answer_no_line s at r.answer n in
-      (ap (λ (x : Spot). x.line) e, ap (λ (x : Spot). x.offset) e)

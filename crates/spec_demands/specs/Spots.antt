@@ -1,7 +1,7 @@
 -- Why an answer tells the line of its trouble, or none.
 use Prim.Native.Nat.{ℕ, suc, ◌+◌, ◌-◌, ◌≤◌, ◌<◌}
 use native.Mathlib.Omega.{arith}
-use Rattle.std.specs.Prelude.{Bool, true, false, List, ◌⊎◌, ◌≡◌, refl, leb, ltb, get_or, take, drop}
+use Rattle.std.specs.Prelude.{Bool, true, false, List, ◌≡◌, refl, leb, ltb, get_or, take, drop}
 use Rattle.std.proofs.Math.Logic.{⊎_elim, inl, inr}
 use Rattle.std.proofs.Common.{sym, ap, ◌∙◌, get_or-take, get_or-drop, length-take-le, leb-true, ltb-true, ltb-false}
 use Rattle.std.proofs.Math.ListN.{length, length-drop}

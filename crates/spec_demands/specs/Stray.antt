@@ -5,7 +5,7 @@ use Rattle.std.proofs.Math.Path.{ap}
 use Rattle.spec_format.specs.Bytes.{pick, bytes, May, absent, is}
 use Rattle.spec_format.specs.Impossible.{impossible}
 use Rattle.spec_format.specs.Numbers.{unread_number, read_number}
-use Rattle.spec_format.specs.Origin.{Letters, At_slash, At_end, bad_byte, letters}
+use Rattle.spec_format.specs.Origin.{Letters, at_slash, at_end, bad_byte, letters}
 use Rattle.spec_format.specs.Readers.{Ans, got, no, cut, tag}
 use Rattle.spec_format.specs.Record.{Outcome, was_read, not_read, slashes_later, slashes, slashes_at, promised, counted, with_letters, sequence, list_of, read_record, read_at}
 use Rattle.spec_format.specs.Rooms.{Rooms, sizes, fits, answer_of, read_answer, rooms_of, rooms_after}
@@ -127,9 +127,9 @@ slashes_late t s cut = refl
 
 sequence_late : (t : Table) (o : Letters) → late (sequence t o) ≡ true
 unfolding late
-sequence_late t (At_slash l r) =
+sequence_late t (at_slash l r) =
     pick_late (promised t.locus.length (length l)) (slashes_at (with_letters t l) r) (not_read unread.OtherLength) (slashes_late (with_letters t l) r (tag (bytes "//") r)) refl
-sequence_late t (At_end l) = pick_late (counted t.locus.length (length l)) (was_read (with_letters t l) []) (not_read unread.Unended) refl refl
+sequence_late t (at_end l) = pick_late (counted t.locus.length (length l)) (was_read (with_letters t l) []) (not_read unread.Unended) refl refl
 sequence_late t (bad_byte r) = refl
 
 record_late : (s z : List ℕ) → stray_in s ≡ is z → late (read_record s) ≡ true

@@ -10,7 +10,7 @@ use Rattle.spec_format.specs.Deep.{deep_feature}
 use Rattle.spec_format.specs.Header.{Field, header_field, text_in}
 use Rattle.spec_format.specs.Impossible.{impossible}
 use Rattle.spec_format.specs.Locus.{preamble_turn, preamble, locus, locus_line}
-use Rattle.spec_format.specs.Origin.{Letters, At_slash, At_end, bad_byte, keep, skipped, letters, origin_tag}
+use Rattle.spec_format.specs.Origin.{Letters, at_slash, at_end, bad_byte, keep, skipped, letters, origin_tag}
 use Rattle.spec_format.specs.Readers.{Ans, got, no, cut, optional, until, Turn, more, stop, while_fits}
 use Rattle.spec_format.specs.Record.{features, base_count, left_by, is_there, list_of, middle, deep_in, once}
 use Rattle.spec_format.specs.Strict.{stray, letters_below, letters_from, stray_after, stray_in}
@@ -111,8 +111,8 @@ end_past : (s : List ℕ) → Past 0 s []
 end_past s = record { gone = length s; least = omega arith; within = omega arith; is = sym (drop-length s) }
 
 keep_end : (b : ℕ) (x : Letters) → letters_end (keep b x) ≡ letters_end x
-keep_end b (At_slash l r) = refl
-keep_end b (At_end l) = refl
+keep_end b (at_slash l r) = refl
+keep_end b (at_end l) = refl
 keep_end b (bad_byte r) = refl
 
 letters_past : (s : List ℕ) → Past 0 s (letters_end (letters s))

@@ -7,13 +7,13 @@ use Rattle.spec_format.specs.Bytes.{bytes}
 use Rattle.spec_format.specs.Utf8.{utf8, chars}
 use Rattle.spec_format.specs.Readers.{Ans, got, no, cut, tag, until, line, line_end, members, members_up_to, end, end_up_to}
 use Rattle.spec_format.specs.Header.{field_text, field_bytes, field}
-use Rattle.spec_format.specs.Origin.{Letters, At_slash, At_end, bad_byte, origin_tag, letters}
+use Rattle.spec_format.specs.Origin.{Letters, at_slash, at_end, bad_byte, origin_tag, letters}
 use Rattle.spec_format.proofs.Examples.{Example}
 
 -- the letters and what stands behind them; or what stands from a bad byte on
 ends : Letters → List ℕ
-ends (At_slash l s) = bytes "letters " ++ l ++ bytes ", then " ++ s
-ends (At_end l) = bytes "letters " ++ l ++ bytes ", then the end"
+ends (at_slash l s) = bytes "letters " ++ l ++ bytes ", then " ++ s
+ends (at_end l) = bytes "letters " ++ l ++ bytes ", then the end"
 ends (bad_byte s) = bytes "bad: " ++ s
 
 from_origin : Ans (List ℕ) → List ℕ

@@ -50,8 +50,8 @@ source s =
 -- `Field`: an entry by its word and its text, or a line that was dropped
 pub data Field : Type 0 where
   entry_of : List ℕ → List ℕ → Field
-  Source_of : Source → Field
-  Reference_of : Reference → Field
+  source_of : Source → Field
+  reference_of : Reference → Field
   dropped : Field
 
 -- `ignored_line`: "A UTF-8 line that fits nothing is dropped, unless it begins ORIGIN, CONTIG, FEATURES or `//`" (departure 1)
@@ -67,7 +67,7 @@ entry word s = mapped (entry_of word) (field 0 word true s)
 unfoldable pub header_field : List ℕ → Ans Field
 header_field s =
     or_else (entry (bytes "DEFINITION") s) (or_else (entry (bytes "ACCESSION") s) (or_else (entry (bytes "VERSION") s) (or_else (entry (bytes "DBLINK") s)
-    (or_else (entry (bytes "KEYWORDS") s) (or_else (mapped Source_of (source s)) (or_else (mapped Reference_of (reference s)) (or_else (entry (bytes "COMMENT") s)
+    (or_else (entry (bytes "KEYWORDS") s) (or_else (mapped source_of (source s)) (or_else (mapped reference_of (reference s)) (or_else (entry (bytes "COMMENT") s)
     (mapped (λ l. dropped) (ignored_line s)))))))))
 
 -- ---- `fill_seq_fields`: "Repeats of ACCESSION, VERSION, DBLINK, KEYWORDS, SOURCE overwrite; references and comments append"
@@ -85,18 +85,18 @@ every f (x ∷ xs) = elim (f x) [ is a ↦ a ∷ every f xs | absent ↦ every f
 -- the text of an entry with that word
 abbrev pub text_in : List ℕ → Field → May (List ℕ)
 text_in word (entry_of w t) = pick (same w word) (is t) absent
-text_in word (Source_of x) = absent
-text_in word (Reference_of x) = absent
+text_in word (source_of x) = absent
+text_in word (reference_of x) = absent
 text_in word dropped = absent
 
 abbrev pub source_in : Field → May Source
 source_in (entry_of w t) = absent
-source_in (Source_of x) = is x
-source_in (Reference_of x) = absent
+source_in (source_of x) = is x
+source_in (reference_of x) = absent
 source_in dropped = absent
 
 abbrev pub reference_in : Field → May Reference
 reference_in (entry_of w t) = absent
-reference_in (Source_of x) = absent
-reference_in (Reference_of x) = is x
+reference_in (source_of x) = absent
+reference_in (reference_of x) = is x
 reference_in dropped = absent

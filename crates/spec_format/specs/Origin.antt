@@ -10,13 +10,13 @@ origin_tag s =
 
 -- where the letters end: at a `/`, at the input's end, or at a byte that cannot stand there; and what stands from there on
 pub data Letters : Type 0 where
-  At_slash : List ℕ → List ℕ → Letters
-  At_end : List ℕ → Letters
+  at_slash : List ℕ → List ℕ → Letters
+  at_end : List ℕ → Letters
   bad_byte : List ℕ → Letters
 
 abbrev pub keep : ℕ → Letters → Letters
-keep b (At_slash l r) = At_slash (b ∷ l) r
-keep b (At_end l) = At_end (b ∷ l)
+keep b (at_slash l r) = at_slash (b ∷ l) r
+keep b (at_end l) = at_end (b ∷ l)
 keep b (bad_byte r) = bad_byte r
 
 -- digits, spaces, CR and LF
@@ -25,5 +25,5 @@ skipped b = digit b || (eqb b 32 || (eqb b 13 || eqb b 10))
 
 -- "Letters are kept, digits and blanks skipped, `/` ends"
 unfoldable pub letters : List ℕ → Letters
-letters [] = At_end []
-letters (b ∷ s) = elim (letter b) [ true ↦ keep b (letters s) | false ↦ elim (eqb b 47) [ true ↦ At_slash [] (b ∷ s) | false ↦ elim (skipped b) [ true ↦ letters s | false ↦ bad_byte (b ∷ s) ] ] ]
+letters [] = at_end []
+letters (b ∷ s) = elim (letter b) [ true ↦ keep b (letters s) | false ↦ elim (eqb b 47) [ true ↦ at_slash [] (b ∷ s) | false ↦ elim (skipped b) [ true ↦ letters s | false ↦ bad_byte (b ∷ s) ] ] ]

@@ -8,7 +8,7 @@ use Rattle.spec_format.specs.Header.{Field, field, field_bytes, header_field, la
 use Rattle.spec_format.specs.Location.{locates, rows_in}
 use Rattle.spec_format.specs.Features.{features_header, feature}
 use Rattle.spec_format.specs.Deep.{deep_feature, deep_contig}
-use Rattle.spec_format.specs.Origin.{origin_tag, Letters, At_slash, At_end, bad_byte, letters}
+use Rattle.spec_format.specs.Origin.{origin_tag, Letters, at_slash, at_end, bad_byte, letters}
 use Rattle.spec_format.specs.declared.Unread.{Unread}
 use Rattle.spec_format.specs.declared.Unread.TheVariants as unread
 
@@ -91,8 +91,8 @@ with_letters t l =
 
 -- `parse_seq_data`: 8 and 9; "Input may end without `//` only here, if the letters number the LOCUS length"
 abbrev pub sequence : Table → Letters → Outcome
-sequence t (At_slash l r) = pick (promised t.locus.length (length l)) (slashes_at (with_letters t l) r) (not_read unread.OtherLength)
-sequence t (At_end l) = pick (counted t.locus.length (length l)) (was_read (with_letters t l) []) (not_read unread.Unended)
+sequence t (at_slash l r) = pick (promised t.locus.length (length l)) (slashes_at (with_letters t l) r) (not_read unread.OtherLength)
+sequence t (at_end l) = pick (counted t.locus.length (length l)) (was_read (with_letters t l) []) (not_read unread.Unended)
 sequence t (bad_byte r) = not_read unread.BadLetter
 
 abbrev pub after_origin : Table → List ℕ → Ans (List ℕ) → Outcome

@@ -6,7 +6,7 @@ use Rattle.spec_format.specs.Table.{Feature}
 use Rattle.spec_format.specs.Locus.{preamble_turn, locus}
 use Rattle.spec_format.specs.Header.{Field, header_field, text_in}
 use Rattle.spec_format.specs.Deep.{deep_feature}
-use Rattle.spec_format.specs.Origin.{Letters, At_slash, At_end, bad_byte, letters, origin_tag}
+use Rattle.spec_format.specs.Origin.{Letters, at_slash, at_end, bad_byte, letters, origin_tag}
 use Rattle.spec_format.specs.Record.{features, base_count, left_by, is_there, list_of, middle}
 use Rattle.spec_format.specs.Strict.{stray_in}
 use Rattle.spec_format.specs.declared.Unread.{Unread}
@@ -53,8 +53,8 @@ second_definition s = definition (left_by (definition s) (header_field (definiti
 
 -- "for 7 where the sections end", "for 8 the line of the `/`, for 9 that of the byte": where ORIGIN stands, what ends the letters
 abbrev pub letters_end : Letters → List ℕ
-letters_end (At_slash l r) = r
-letters_end (At_end l) = []
+letters_end (at_slash l r) = r
+letters_end (at_end l) = []
 letters_end (bad_byte r) = r
 
 abbrev pub after_tag : List ℕ → Ans (List ℕ) → List ℕ

@@ -7,12 +7,12 @@ use mathlib.Core.List.{List, [], ◌∷◌}
 use Rattle.spec_format.specs.Bytes.{absent, is, some, bytes, spaces, letter, space, but, not_blank}
 use Rattle.spec_format.specs.Readers.{Ans, got, no, cut, bind, passing, unless, tag, push, until, until1, line_feed}
 use Rattle.spec_format.specs.Readers.{line, line_end, Turn, more, stop, fitting, fit_turn, many0}
-use Rattle.spec_format.specs.Header.{further_line, field_text, field_bytes, field, maybe_field, reference, source, entry_of, Source_of, Reference_of, dropped, ignored_line, entry, header_field}
+use Rattle.spec_format.specs.Header.{further_line, field_text, field_bytes, field, maybe_field, reference, source, entry_of, source_of, reference_of, dropped, ignored_line, entry, header_field}
 use Rattle.spec_format.specs.Features.{not_slash, bare_turn, bare_more, bare, escape, quoted_end, special, quoted_turn}
 use Rattle.spec_format.specs.Features.{features_header, quoted, value, key_end, value_of, qualifier, kind_text, feature_from, feature}
 use Rattle.spec_format.specs.Location.{locates}
 use Rattle.spec_format.specs.Locus.{skipping, preamble_turn}
-use Rattle.spec_format.specs.Origin.{Letters, At_slash, At_end, bad_byte, keep, skipped, letters}
+use Rattle.spec_format.specs.Origin.{Letters, at_slash, at_end, bad_byte, keep, skipped, letters}
 use Rattle.spec_format.specs.Record.{features, contig_of, middle}
 use Rattle.spec_format.specs.Utf8.{utf8}
 use Rattle.spec_loops.specs.Loops.{Shrinks, Takes}
@@ -180,7 +180,7 @@ pub header_takes : (s : List ℕ) → Leaves 1 s (header_field s)
 unfolding header_field
 header_takes s =
     leaves_or (entry_takes _ s) (leaves_or (entry_takes _ s) (leaves_or (entry_takes _ s) (leaves_or (entry_takes _ s) (leaves_or (entry_takes _ s)
-    (leaves_or (leaves_mapped Source_of (source_takes s)) (leaves_or (leaves_mapped Reference_of (reference_takes s)) (leaves_or (entry_takes _ s)
+    (leaves_or (leaves_mapped source_of (source_takes s)) (leaves_or (leaves_mapped reference_of (reference_takes s)) (leaves_or (entry_takes _ s)
     (leaves_mapped (λ l. dropped) (ignored_takes s)))))))))
 
 -- ---- the feature table's readers
@@ -264,19 +264,19 @@ preamble_turns s = go (tag (bytes "LOCUS") s)
     go no = turns_takes (leaves_mapped more (leaves_passing utf8 (line_takes s)))
     go cut = turns_takes (leaves_mapped more (leaves_passing utf8 (line_takes s)))
 
-letters_leave : (s l r : List ℕ) → letters s ≡ At_slash l r → Past 0 s r
+letters_leave : (s l r : List ℕ) → letters s ≡ at_slash l r → Past 0 s r
 unfolding letters
 letters_leave [] l r h = impossible cc
 letters_leave (b ∷ s) l r h = go (λ k. letters_leave s k) (letter b) refl (eqb b 47) refl (skipped b) refl (letters s) refl
   where
-    step : (k : List ℕ) → ((k z : List ℕ) → letters s ≡ At_slash k z → Past 0 s z) → letters s ≡ At_slash k r → Past 0 (b ∷ s) r
+    step : (k : List ℕ) → ((k z : List ℕ) → letters s ≡ at_slash k z → Past 0 s z) → letters s ≡ at_slash k r → Past 0 (b ∷ s) r
     step k ih e = past_loose 1 (b ∷ s) r (past_byte 0 b s r (ih k r e))
 
     go :
-        ((k z : List ℕ) → letters s ≡ At_slash k z → Past 0 s z) → (x : Bool) → letter b ≡ x → (y : Bool) → eqb b 47 ≡ y → (z : Bool) → skipped b ≡ z →
+        ((k z : List ℕ) → letters s ≡ at_slash k z → Past 0 s z) → (x : Bool) → letter b ≡ x → (y : Bool) → eqb b 47 ≡ y → (z : Bool) → skipped b ≡ z →
         (o : Letters) → letters s ≡ o → Past 0 (b ∷ s) r
-    go ih true p y q z u (At_slash k t) e = step k ih (cc)
-    go ih true p y q z u (At_end k) e = impossible cc
+    go ih true p y q z u (at_slash k t) e = step k ih (cc)
+    go ih true p y q z u (at_end k) e = impossible cc
     go ih true p y q z u (bad_byte k) e = impossible cc
     go ih false p true q z u o e = let f : r ≡ b ∷ s = cc in rw f (past_here (b ∷ s))
     go ih false p false q true u o e = step l ih (cc)

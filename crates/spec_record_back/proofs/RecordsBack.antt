@@ -24,9 +24,9 @@ module _ (W : ℕ) (truncate escape : Bool) where
   unfolding written locus_text line_end
   written_starts t rest = refl
 
-at_end : (s : List ℕ) (at : ℕ) → at ≡ length s → leb (length s) most ≡ true → read_at s at ≡ not_read unread.AtEnd
+at_end_lem : (s : List ℕ) (at : ℕ) → at ≡ length s → leb (length s) most ≡ true → read_at s at ≡ not_read unread.AtEnd
 unfolding read_at
-at_end s at e m =
+at_end_lem s at e m =
     let i : leb at (length s) ≡ true = le-leb at (length s) (omega arith) in
     rw (m, i, eq-eqb at (length s) e)
 
@@ -66,7 +66,7 @@ module _ (W : ℕ) (truncate escape : Bool) (w : width_fine W ≡ true) where
       all (keepable W truncate escape) ts ≡ true → Records s (length before) ts
   records_from s m [] before p k =
       let e : length before ≡ length s = omega (arith, ap length (p ∙ append-nil before)) in
-      none (length before) (at_end s (length before) e m)
+      none (length before) (at_end_lem s (length before) e m)
   records_from s m (t ∷ ts) before p k =
       let x : List ℕ = written W truncate escape t in
       let rest : List ℕ = each (written W truncate escape) ts in

@@ -8,7 +8,7 @@ use mathlib.Core.List.{List, [], ◌∷◌, ◌++◌, append_assoc, append-nil, 
 use Rattle.spec_format.specs.Bytes.{pick, May, absent, is, bytes, starts, all, same, but, each}
 use Rattle.spec_format.specs.Utf8.{utf8}
 use Rattle.spec_format.specs.Readers.{got, no, tag, while_fits}
-use Rattle.spec_format.specs.Header.{field, reference, source, Field, entry_of, Source_of, Reference_of, header_field, latest, every, text_in, source_in, reference_in}
+use Rattle.spec_format.specs.Header.{field, reference, source, Field, entry_of, source_of, reference_of, header_field, latest, every, text_in, source_in, reference_in}
 use Rattle.spec_format.specs.Table.{Source, Reference, Table}
 use Rattle.spec_format.specs.Write.{field_lines, maybe_lines, source_lines, reference_lines, header_lines}
 use Rattle.spec_format.specs.WellFormed.{if_is, source_texts, reference_texts, header_texts}
@@ -84,7 +84,7 @@ comment y t r e =
       e,
     )
 
-source_first : (y r : List ℕ) (x : Source) → source (bytes "SOURCE" ++ y) ≡ got x r → header_field (bytes "SOURCE" ++ y) ≡ got (Source_of x) r
+source_first : (y r : List ℕ) (x : Source) → source (bytes "SOURCE" ++ y) ≡ got x r → header_field (bytes "SOURCE" ++ y) ≡ got (source_of x) r
 unfolding header_field tag
 source_first y r x e =
     rw (
@@ -97,7 +97,7 @@ source_first y r x e =
     )
 
 reference_first :
-    (y r : List ℕ) (x : Reference) → reference (bytes "REFERENCE" ++ y) ≡ got x r → header_field (bytes "REFERENCE" ++ y) ≡ got (Reference_of x) r
+    (y r : List ℕ) (x : Reference) → reference (bytes "REFERENCE" ++ y) ≡ got x r → header_field (bytes "REFERENCE" ++ y) ≡ got (reference_of x) r
 unfolding header_field tag
 reference_first y r x e =
     rw (
@@ -156,7 +156,7 @@ module _ (W : ℕ) where
       let e = field_back W 0 word t s true (omega arith) (and_left (header_kept W t) _ k) (and_right (header_kept W t) _ k) refl (no_indent 11 s fine) in
       rw (begins W word t s) (f (after W word t s) t s (rw (begins W word t s) at e))
 
-  source_entry : (x : Source) (s : List ℕ) → source_fine x ≡ true → starts (but 32) s ≡ true → header_field (source_text x ++ s) ≡ got (Source_of x) s
+  source_entry : (x : Source) (s : List ℕ) → source_fine x ≡ true → starts (but 32) s ≡ true → header_field (source_text x ++ s) ≡ got (source_of x) s
   unfolding source_fine source_text
   source_entry x s k fine =
       let y : List ℕ = maybe_lines W (bytes "  ORGANISM") x.organism ++ s in
@@ -165,7 +165,7 @@ module _ (W : ℕ) where
       (source_first (after W (bytes "SOURCE") x.text y) s x (rw (begins W (bytes "SOURCE") x.text y) at e))
 
   reference_entry :
-      (x : Reference) (s : List ℕ) → reference_fine x ≡ true → starts (but 32) s ≡ true → header_field (reference_lines W x ++ s) ≡ got (Reference_of x) s
+      (x : Reference) (s : List ℕ) → reference_fine x ≡ true → starts (but 32) s ≡ true → header_field (reference_lines W x ++ s) ≡ got (reference_of x) s
   unfolding reference_fine
   reference_entry x s k fine =
       let k₁ = and_right (reference_texts (header_kept W) x) _ k in
@@ -195,8 +195,8 @@ unfoldable pub fields_of : Table → List Field
 fields_of t =
     map (entry_of (bytes "DEFINITION")) (may_list t.definition) ++ (map (entry_of (bytes "ACCESSION")) (may_list t.accession) ++
     (map (entry_of (bytes "VERSION")) (may_list t.version) ++ (map (entry_of (bytes "DBLINK")) (may_list t.dblink) ++
-    (map (entry_of (bytes "KEYWORDS")) (may_list t.keywords) ++ (map Source_of (may_list t.source) ++
-    (map Reference_of t.references ++ (map (entry_of (bytes "COMMENT")) t.comments ++ [])))))))
+    (map (entry_of (bytes "KEYWORDS")) (may_list t.keywords) ++ (map source_of (may_list t.source) ++
+    (map reference_of t.references ++ (map (entry_of (bytes "COMMENT")) t.comments ++ [])))))))
 
 may_each : (W : ℕ) (word : List ℕ) (o : May (List ℕ)) → maybe_lines W word o ≡ each (field_lines W word) (may_list o)
 may_each W word absent = refl
@@ -297,13 +297,13 @@ header_back W t rest k u one fine stop =
     reads_texts W (bytes "COMMENT") (lit< tt) comment (λ x. refl) t.comments rest [] rest
     (list_all (header_kept W) utf8 (text_fine W) (λ a p q. and_both _ _ p q) t.comments a.comments₂ b.comments₂) r₉ in
     let r₇ =
-    reads_each (reference_lines W) Reference_of (reference_fine W) (reference_entry W) (reference_begun W) t.references _ _ rest
+    reads_each (reference_lines W) reference_of (reference_fine W) (reference_entry W) (reference_begun W) t.references _ _ rest
     (list_all (reference_texts (header_kept W)) (λ x. reference_texts utf8 x && pubmed_kept x) (reference_fine W) (λ a p q. and_both _ _ p q)
     t.references a.references₂
     (list_all (reference_texts utf8) pubmed_kept (λ x. reference_texts utf8 x && pubmed_kept x) (λ a p q. and_both _ _ p q) t.references
     b.references₂ one)) r₈ in
     let r₆ =
-    reads_each (source_text W) Source_of (source_fine W) (source_entry W) (source_begun W) (may_list t.source) _ _ rest
+    reads_each (source_text W) source_of (source_fine W) (source_entry W) (source_begun W) (may_list t.source) _ _ rest
     (may_all (source_texts (header_kept W)) (source_texts utf8) (source_fine W) (λ a p q. and_both _ _ p q) t.source a.source₂ b.source₂) r₇ in
     let r₅ = reads_text W (bytes "KEYWORDS") (lit< tt) keywords (λ x. refl) t.keywords _ _ rest a.keywords₂ b.keywords₂ r₆ in
     let r₄ = reads_text W (bytes "DBLINK") (lit< tt) dblink (λ x. refl) t.dblink _ _ rest a.dblink₂ b.dblink₂ r₅ in
@@ -399,8 +399,8 @@ module _ (v : List ℕ) (t : Table) where
         latest_heard v (bytes "VERSION") t.version,
         latest_heard v (bytes "DBLINK") t.dblink,
         latest_heard v (bytes "KEYWORDS") t.keywords,
-        latest_skip (text_in v) Source_of (λ x. refl) (may_list t.source),
-        latest_skip (text_in v) Reference_of (λ x. refl) t.references,
+        latest_skip (text_in v) source_of (λ x. refl) (may_list t.source),
+        latest_skip (text_in v) reference_of (λ x. refl) t.references,
         latest_skip (text_in v) (entry_of (bytes "COMMENT")) (λ x. rw h) t.comments [],
         latest_none (text_in v),
       )
@@ -418,8 +418,8 @@ module _ (v : List ℕ) (t : Table) where
         every_heard v (bytes "VERSION") (may_list t.version),
         every_heard v (bytes "DBLINK") (may_list t.dblink),
         every_heard v (bytes "KEYWORDS") (may_list t.keywords),
-        every_skip (text_in v) Source_of (λ x. refl) (may_list t.source),
-        every_skip (text_in v) Reference_of (λ x. refl) t.references,
+        every_skip (text_in v) source_of (λ x. refl) (may_list t.source),
+        every_skip (text_in v) reference_of (λ x. refl) t.references,
         every_heard v (bytes "COMMENT") t.comments [],
         every_none (text_in v),
       )
@@ -453,8 +453,8 @@ source_is t =
       latest_skip source_in (entry_of (bytes "VERSION")) (λ x. refl) (may_list t.version),
       latest_skip source_in (entry_of (bytes "DBLINK")) (λ x. refl) (may_list t.dblink),
       latest_skip source_in (entry_of (bytes "KEYWORDS")) (λ x. refl) (may_list t.keywords),
-      latest_one source_in Source_of (λ x. refl) t.source,
-      latest_skip source_in Reference_of (λ x. refl) t.references,
+      latest_one source_in source_of (λ x. refl) t.source,
+      latest_skip source_in reference_of (λ x. refl) t.references,
       latest_skip source_in (entry_of (bytes "COMMENT")) (λ x. refl) t.comments [],
       latest_none source_in,
     )
@@ -468,8 +468,8 @@ references_are t =
       every_skip reference_in (entry_of (bytes "VERSION")) (λ x. refl) (may_list t.version),
       every_skip reference_in (entry_of (bytes "DBLINK")) (λ x. refl) (may_list t.dblink),
       every_skip reference_in (entry_of (bytes "KEYWORDS")) (λ x. refl) (may_list t.keywords),
-      every_skip reference_in Source_of (λ x. refl) (may_list t.source),
-      every_one reference_in Reference_of (λ x. refl) t.references,
+      every_skip reference_in source_of (λ x. refl) (may_list t.source),
+      every_one reference_in reference_of (λ x. refl) t.references,
       every_skip reference_in (entry_of (bytes "COMMENT")) (λ x. refl) t.comments [],
       every_none reference_in,
       append-nil,

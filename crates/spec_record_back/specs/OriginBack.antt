@@ -4,7 +4,7 @@ use Rattle.std.proofs.Common.{arith, append_assoc, leb-true, le-leb, ne_eqb}
 use Rattle.std.proofs.lemmas.Bool.{lt-leb, not-true}
 use Rattle.spec_format.specs.Bytes.{bytes, spaces, all, but, digit, letter, digits, decimal}
 use Rattle.spec_format.specs.Readers.{got, tag, until, line_end}
-use Rattle.spec_format.specs.Origin.{origin_tag, At_slash, skipped, letters}
+use Rattle.spec_format.specs.Origin.{origin_tag, at_slash, skipped, letters}
 use Rattle.spec_format.specs.Write.{right_aligned, line_start, ten_start, letter_lines, origin_lines}
 use Rattle.spec_texts_back.specs.Tests.{and_left, and_right, all_head, all_tail, all_append, all_imp}
 use Rattle.spec_texts_back.specs.Pieces.{all_spaces}
@@ -15,9 +15,9 @@ use Rattle.spec_record_back.specs.Decimals.{all_digits}
 not_letter : (b : ℕ) → b ≤ 64 → letter b ≡ false
 not_letter b h = cc (lt-leb 65 b (omega arith), lt-leb 97 b (omega arith))
 
-at_slash : (rest : List ℕ) → letters (10 ∷ 47 ∷ rest) ≡ At_slash [] (47 ∷ rest)
+at_slash_lem : (rest : List ℕ) → letters (10 ∷ 47 ∷ rest) ≡ at_slash [] (47 ∷ rest)
 unfolding letters
-at_slash rest = refl
+at_slash_lem rest = refl
 
 -- skipped, and no letter or slash
 abbrev pub passed : ℕ → Bool
@@ -64,14 +64,14 @@ ten_passed i = go (eqb (i % 10) 0) refl
 regroup : (a b c d r : List ℕ) → (a ++ b ++ c ++ d) ++ r ≡ a ++ (b ++ (c ++ (d ++ r)))
 regroup a b c d r = simp append_assoc
 
-pub keep_letter : (b : ℕ) (x l r : List ℕ) → letter b ≡ true → letters x ≡ At_slash l r → letters (b ∷ x) ≡ At_slash (b ∷ l) r
+pub keep_letter : (b : ℕ) (x l r : List ℕ) → letter b ≡ true → letters x ≡ at_slash l r → letters (b ∷ x) ≡ at_slash (b ∷ l) r
 unfolding letters
 keep_letter b x l r h e = cc
 
 -- the letters are read up to the slash
-pub letters_back : (i : ℕ) (l rest : List ℕ) → all letter l ≡ true → letters (letter_lines i l ++ 47 ∷ rest) ≡ At_slash l (47 ∷ rest)
+pub letters_back : (i : ℕ) (l rest : List ℕ) → all letter l ≡ true → letters (letter_lines i l ++ 47 ∷ rest) ≡ at_slash l (47 ∷ rest)
 unfolding letter_lines
-letters_back i [] rest h = at_slash rest
+letters_back i [] rest h = at_slash_lem rest
 letters_back i (b ∷ t) rest h =
     let x : List ℕ = letter_lines (suc i) t ++ 47 ∷ rest in
     rw (
@@ -102,5 +102,5 @@ skip_end : (z : List ℕ) → letters (10 ∷ z) ≡ letters z
 unfolding letters
 skip_end z = refl
 
-pub numbered_back : (b : ℕ) (t rest : List ℕ) → all letter (b ∷ t) ≡ true → letters (numbered b t ++ 47 ∷ rest) ≡ At_slash (b ∷ t) (47 ∷ rest)
+pub numbered_back : (b : ℕ) (t rest : List ℕ) → all letter (b ∷ t) ≡ true → letters (numbered b t ++ 47 ∷ rest) ≡ at_slash (b ∷ t) (47 ∷ rest)
 numbered_back b t rest h = rw (numbered_is b t, skip_end) at (letters_back 0 (b ∷ t) rest h)

@@ -10,7 +10,7 @@ use Rattle.spec_format.specs.Table.{Locus, Qualifier, Feature, Contig, Table}
 use Rattle.spec_format.specs.Header.{Field, field_bytes, header_field, every, text_in}
 use Rattle.spec_format.specs.Features.{bare, qualifier, feature_kind, feature, feature_from, features_header}
 use Rattle.spec_format.specs.Location.{locates, rows_in}
-use Rattle.spec_format.specs.Origin.{Letters, At_slash, At_end, bad_byte, letters, origin_tag}
+use Rattle.spec_format.specs.Origin.{Letters, at_slash, at_end, bad_byte, letters, origin_tag}
 use Rattle.spec_format.specs.Locus.{preamble, locus}
 use Rattle.spec_format.specs.Record.{Outcome, was_read, not_read, features, base_count, contig_of, contig, slashes_later, slashes, slashes_at, promised, counted, with_letters, sequence, after_origin, list_of}
 use Rattle.spec_format.specs.Record.{Middle, middle, deep_in, table_from, after_header, header, after_locus, after_preamble, read_record, most, read_at}
@@ -135,10 +135,10 @@ letters_read t h l = h
 
 module _ (t : Table) (h : locations_read t ≡ true) where
   sequence_read : (o : Letters) → outcome_read (sequence t o) ≡ true
-  sequence_read (At_slash l r) =
+  sequence_read (at_slash l r) =
       pick_read (promised t.locus.length (length l)) (slashes_at (with_letters t l) r) (not_read unread.OtherLength)
       (slashes_read (with_letters t l) (letters_read t h l) r (tag (bytes "//") r)) refl
-  sequence_read (At_end l) =
+  sequence_read (at_end l) =
       pick_read (counted t.locus.length (length l)) (was_read (with_letters t l) []) (not_read unread.Unended) (letters_read t h l) refl
   sequence_read (bad_byte r) = refl
 

@@ -7,7 +7,7 @@ use Rattle.spec_format.specs.Readers.{Ans, got, no, cut, bind, tag, while_fits}
 use Rattle.spec_format.specs.Table.{Locus, Table}
 use Rattle.spec_format.specs.Locus.{preamble, locus}
 use Rattle.spec_format.specs.Header.{Field, header_field}
-use Rattle.spec_format.specs.Origin.{origin_tag, Letters, At_slash, At_end, bad_byte, letters}
+use Rattle.spec_format.specs.Origin.{origin_tag, Letters, at_slash, at_end, bad_byte, letters}
 use Rattle.spec_format.specs.Record.{Outcome, was_read, not_read, slashes_later, slashes, slashes_at, promised, counted, with_letters, sequence, after_origin}
 use Rattle.spec_format.specs.Record.{Middle, middle, deep_in, table_from, after_header, once, header, after_locus, after_preamble, read_record}
 use Rattle.spec_format.specs.Strict.{letters_below, letters_after, letters_from}
@@ -103,12 +103,12 @@ slashes_not t s no e = go (slashes_later s) e
 slashes_not t s cut e = impossible cc
 
 sequence_not : (t : Table) (o : Letters) → sequence t o ≡ not_read unread.StrayLetter → ⊥
-sequence_not t (At_slash l r) e = go (promised t.locus.length (length l)) e
+sequence_not t (at_slash l r) e = go (promised t.locus.length (length l)) e
   where
     go : (b : Bool) → pick b (slashes_at (with_letters t l) r) (not_read unread.OtherLength) ≡ not_read unread.StrayLetter → ⊥
     go true e = slashes_not (with_letters t l) r (tag (bytes "//") r) e
     go false e = impossible cc
-sequence_not t (At_end l) e = go (counted t.locus.length (length l)) e
+sequence_not t (at_end l) e = go (counted t.locus.length (length l)) e
   where
     go : (b : Bool) → pick b (was_read (with_letters t l) []) (not_read unread.Unended) ≡ not_read unread.StrayLetter → ⊥
     go true e = impossible cc

@@ -9,7 +9,7 @@ use Rattle.spec_format.specs.Bytes.{pick, bytes, absent, is, all, letter}
 use Rattle.spec_format.specs.Impossible.{impossible}
 use Rattle.spec_format.specs.Readers.{Ans, got, no, cut, tag}
 use Rattle.spec_format.specs.Table.{Table}
-use Rattle.spec_format.specs.Origin.{skipped, Letters, At_slash, At_end, bad_byte, keep, letters}
+use Rattle.spec_format.specs.Origin.{skipped, Letters, at_slash, at_end, bad_byte, keep, letters}
 use Rattle.spec_format.specs.Record.{Outcome, was_read, not_read, slashes_later, slashes, slashes_at, promised, counted, with_letters, sequence, read_record, most, placed}
 use Rattle.spec_format.specs.Strict.{stray, letters_from, stray_after, stray_in, record_by, letters_fit}
 use Rattle.spec_format.specs.declared.Unread.{Unread}
@@ -22,18 +22,18 @@ use Rattle.spec_strict.specs.Comes.{missing, comes_to, comes_short, Comes, comes
 
 -- the letters all have codes; `bad` says so of letters that could not be read
 abbrev codes : Bool → Letters → Bool
-codes bad (At_slash l r) = all coded l
-codes bad (At_end l) = all coded l
+codes bad (at_slash l r) = all coded l
+codes bad (at_end l) = all coded l
 codes bad (bad_byte r) = bad
 
 keep_coded : (bad : Bool) (b : ℕ) (o : Letters) → coded b ≡ true → codes bad (keep b o) ≡ codes bad o
-keep_coded bad b (At_slash l r) e = rw e
-keep_coded bad b (At_end l) e = rw e
+keep_coded bad b (at_slash l r) e = rw e
+keep_coded bad b (at_end l) e = rw e
 keep_coded bad b (bad_byte r) e = refl
 
 keep_stray : (b : ℕ) (o : Letters) → coded b ≡ false → codes false (keep b o) ≡ false
-keep_stray b (At_slash l r) e = rw e
-keep_stray b (At_end l) e = rw e
+keep_stray b (at_slash l r) e = rw e
+keep_stray b (at_end l) e = rw e
 keep_stray b (bad_byte r) e = refl
 
 -- where no letter is stray those that were read have codes, and the other way round
@@ -79,12 +79,12 @@ slashes_letters t s no x rest e = go (slashes_later s) e
 slashes_letters t s cut x rest e = impossible cc
 
 sequence_codes : (bad : Bool) (t : Table) (o : Letters) (x : Table) (rest : List ℕ) → sequence t o ≡ was_read x rest → codes bad o ≡ all coded x.letters
-sequence_codes bad t (At_slash l r) x rest e = go (promised t.locus.length (length l)) e
+sequence_codes bad t (at_slash l r) x rest e = go (promised t.locus.length (length l)) e
   where
     go : (b : Bool) → pick b (slashes_at (with_letters t l) r) (not_read unread.OtherLength) ≡ was_read x rest → all coded l ≡ all coded x.letters
     go true k = ap (all coded) (sym (slashes_letters (with_letters t l) r (tag (bytes "//") r) x rest k))
     go false k = impossible cc
-sequence_codes bad t (At_end l) x rest e = go (counted t.locus.length (length l)) e
+sequence_codes bad t (at_end l) x rest e = go (counted t.locus.length (length l)) e
   where
     go : (b : Bool) → pick b (was_read (with_letters t l) []) (not_read unread.Unended) ≡ was_read x rest → all coded l ≡ all coded x.letters
     go true k = let f : with_letters t l ≡ x = cc in ap (λ (y : Table). all coded y.letters) f

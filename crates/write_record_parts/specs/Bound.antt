@@ -9,7 +9,8 @@ use Rattle.spec_format.specs.declared.ContigText.TheVariants as contig
 use Rattle.write_feature.specs.Lines.{contig_length}
 use Rattle.write_origin.specs.Origin.{origin_length}
 use Rattle.judge_rooms.specs.Steps.{and_left, and_right}
-use Rattle.judge_rooms.specs.Facts.{RoomsIn, rooms_in_lem}
+use Rattle.judge_rooms.specs.Facts.{RoomsIn}
+use Rattle.judge_rooms.proofs.Facts.{rooms_in_lem}
 use Rattle.write_header.specs.Bound.{AtMost, none_most, both_most, cut_most, header_most}
 use Rattle.write_locus.specs.Bound.{locus_length}
 use Rattle.write_record_parts.specs.FeatureBound.{features_most}

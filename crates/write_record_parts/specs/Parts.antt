@@ -7,7 +7,8 @@ use Rattle.spec_format.specs.Write.{length_or, header_lines, contig_lines, origi
 use Rattle.spec_format.specs.declared.Head.{Head}
 use Rattle.judge_header.specs.Rules.{HeaderKnown, header_known}
 use Rattle.write_locus.specs.Line.{line_with}
-use Rattle.judge_rooms.specs.Facts.{HeadIn, ContigIn, rooms_in_lem}
+use Rattle.judge_rooms.specs.Facts.{HeadIn, ContigIn}
+use Rattle.judge_rooms.proofs.Facts.{rooms_in_lem}
 use Rattle.judge_rooms.specs.Parts.{reference_rooms, rest_head}
 use Rattle.judge_record.specs.Rest.{Passed}
 use Rattle.spec_format.specs.declared.How.{How}

@@ -22,7 +22,7 @@ use Rattle.judge_header.specs.declared.Rule.TheVariants as rule
 use Rattle.write_locus.specs.Line.{line_with, line_is}
 use Rattle.base_rows.specs.Rows.{flat}
 use Rattle.base_rows.specs.declared.Feature.{Feature}
-use Rattle.judge_rooms.specs.Facts.{rooms_in_lem}
+use Rattle.judge_rooms.proofs.Facts.{rooms_in_lem}
 use Rattle.judge_rooms.specs.Parts.{reference_rooms, feature_rooms, rest_head}
 use Rattle.judge_record.specs.Rest.{rest_table}
 use Rattle.write_record_parts.specs.Parts.{title, before_parts, after_parts}

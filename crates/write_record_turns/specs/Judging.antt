@@ -25,9 +25,11 @@ use Rattle.write_record_parts.specs.Split.{feature_at, written_split}
 use Rattle.spec_format.specs.declared.How.{How}
 use Rattle.judge_location.specs.Told.{location_told, contig_told, contig_fine_alike, contig_read_lem, location_read}
 use Rattle.judge_location.specs.declared.Located.{Located}
-use Rattle.judge_rooms.specs.Facts.{RoomsIn, rooms_in_lem, feature_in_lem}
+use Rattle.judge_rooms.specs.Facts.{RoomsIn, feature_in_lem}
+use Rattle.judge_rooms.proofs.Facts.{rooms_in_lem}
 use Rattle.judge_rooms.specs.Parts.{feature_rooms, feature_next, rest_head}
-use Rattle.judge_rooms.specs.Steps.{and_left, and_right, feature_located, features_go, features_no, features_unlocated, next_alike}
+use Rattle.judge_rooms.specs.Steps.{and_left, and_right, feature_located, next_alike}
+use Rattle.judge_rooms.proofs.Steps.{features_go, features_no, features_unlocated}
 use Rattle.judge_rooms.specs.declared.Next.{Next}
 use Rattle.judge_rooms.specs.declared.Next.TheVariants as next
 use Rattle.judge_record.specs.Rest.{passed_two}

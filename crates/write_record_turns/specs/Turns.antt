@@ -6,7 +6,8 @@ use Rattle.spec_format.specs.Rooms.{features_fine}
 use Rattle.base_rows.specs.Rows.{row_at}
 use Rattle.base_rows.specs.declared.Feature.{Feature}
 use Rattle.base_rows.specs.declared.Fetched.{Fetched}
-use Rattle.judge_rooms.specs.Facts.{contig_in_lem, features_each, rooms_in_lem}
+use Rattle.judge_rooms.specs.Facts.{contig_in_lem, features_each}
+use Rattle.judge_rooms.proofs.Facts.{rooms_in_lem}
 use Rattle.judge_rooms.specs.Parts.{rest_head}
 use Rattle.write_record_turns.specs.Answered.{Asking, rows_of, rest_of, Asked, ended_well}
 use Rattle.write_record_turns.specs.declared.State.{State}

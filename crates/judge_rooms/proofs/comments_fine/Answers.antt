@@ -1,4 +1,4 @@
-use Rattle.std.proofs.Common.{◌-◌, rules}
+use Rattle.std.proofs.Common.{rules}
 use Rattle.spec_format.specs.Rooms.{comment_row_fine}
 use Rattle.judge_rooms.specs.Steps.{rows_go, rows_no, rows_end}
 use native.Mathlib.Nat.{sub-zero}

@@ -1,5 +1,4 @@
-use Rattle.std.proofs.Common.{◌-◌, rules, refl}
-use Rattle.spec_format.specs.Rooms.{qualifier_row_fine}
+use Rattle.std.proofs.Common.{rules, refl}
 use Rattle.judge_rooms.specs.Steps.{rows_go, rows_no, rows_end}
 use Rattle.std.proofs.lemmas.Bool.{not_from_false, not_from_true}
 use Rattle.judge_rooms.proofs.qualifier_rows_fine.Goals as goal

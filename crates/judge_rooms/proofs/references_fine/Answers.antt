@@ -1,5 +1,4 @@
-use Rattle.std.proofs.Common.{◌-◌, rules}
-use Rattle.spec_format.specs.Rooms.{reference_row_fine}
+use Rattle.std.proofs.Common.{rules}
 use Rattle.judge_rooms.specs.Steps.{rows_go, rows_no, rows_end}
 use native.Mathlib.Nat.{sub-zero}
 use Rattle.std.proofs.lemmas.Bool.{not_from_false, not_from_true}

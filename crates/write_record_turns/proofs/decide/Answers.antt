@@ -3,7 +3,7 @@ use Rattle.std.proofs.Common.{[]}
 use Rattle.write_record_turns.specs.Answered.{asking}
 use Rattle.write_record_turns.specs.Deciding.{decide_refused, decide_room, decide_puts}
 use Rattle.judge_record.specs.Rest.{rest_known}
-use Rattle.judge_rooms.specs.Facts.{rooms_in_lem}
+use Rattle.judge_rooms.proofs.Facts.{rooms_in_lem}
 use Rattle.judge_rooms.specs.Parts.{rest_head}
 use Rattle.write_record_parts.specs.Parts.{before_known, after_known}
 use Rattle.spec_format.specs.Rooms.{rooms_in}

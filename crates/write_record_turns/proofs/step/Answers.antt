@@ -2,7 +2,7 @@
 use Rattle.std.proofs.Common.{[], refl}
 use Rattle.write_record_turns.specs.Answered.{asking}
 use Rattle.write_record_turns.specs.Turns.{step_judges, step_puts, step_decides, step_ends}
-use Rattle.judge_rooms.specs.Facts.{rooms_in_lem}
+use Rattle.judge_rooms.proofs.Facts.{rooms_in_lem}
 use Rattle.judge_rooms.specs.Parts.{rest_head}
 use Rattle.write_record_parts.specs.Parts.{after_known}
 use Rattle.spec_format.specs.Rooms.{rooms_in}
