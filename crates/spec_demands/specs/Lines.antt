@@ -1,6 +1,6 @@
 -- WHICH LINE A REFUSAL TELLS (document 02, ticket 2): "the line, counted from 1 at the given place, and the offset in the slice of its first byte (that place, or after an LF)". With every
--- number but 0, 1 and 3 that is the line in which the trouble lies (`LineTold` of What.antt says what that is); with 0, 1 and 3 line and offset are 0 (in proofs/Lines.antt). That the trouble lies where the ticket
--- says, number by number, is what the definition `troubled` says (crates/spec_lines), and is computed on examples there.
+-- number but 0, 1 and 3 that is the line in which the trouble lies (`LineTold` of What.antt says what that is); with 0, 1 and 3 line and offset are 0 (in proofs/Lines.antt). That the
+-- trouble lies where the ticket says, number by number, is what the definition `troubled` says (crates/spec_lines), and is computed on examples there.
 use Rattle.std.specs.Prelude.{ℕ, ◌-◌, ◌≤◌, Bool, false, List, ◌≡◌, length, drop}
 use Rattle.std.proofs.Common.{ap}
 use Rattle.spec_format.specs.Bytes.{is}
