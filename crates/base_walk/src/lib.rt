@@ -1,2 +1,2 @@
-// Laws that the walks of tools/walk cite: loans of slices and of local memory, and a function's locals in a walk's context. There is no code.
+// Laws of loans of slices and of local memory, and of a function's locals, which proofs that went through the code step by step cited. Nothing cites them today, and there is no code.
 #![tactic(auto)]

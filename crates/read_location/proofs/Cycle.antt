@@ -1,4 +1,4 @@
--- The cycle, law by law, in the form in which the needs have their facts. Assumes nothing.
+-- The cycle, law by law, in the form in which the goals have their facts. Assumes nothing.
 use Prim.Native.Nat.{ℕ, zero, suc, ◌+◌, ◌-◌, ◌≤◌, ◌<◌}
 use native.Mathlib.Nat.{suc-sub-suc, sub-zero}
 use native.Mathlib.Omega.{arith}

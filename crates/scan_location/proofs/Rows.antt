@@ -1,4 +1,4 @@
--- Ranges, accessions, gaps and words, law by law, in the form in which the needs have their facts. Assumes nothing.
+-- Ranges, accessions, gaps and words, law by law, in the form in which the goals have their facts. Assumes nothing.
 use Prim.Native.Nat.{ℕ, ◌+◌, ◌-◌, ◌≤◌, ◌<◌}
 use mathlib.Core.Path.{◌≡◌, refl}
 use mathlib.Core.Bool.{Bool, true, false}

@@ -1,4 +1,4 @@
--- One byte of a text, in one piece or over lines, law by law, in the form in which the needs have their facts. Assumes nothing.
+-- One byte of a text, in one piece or over lines, law by law, in the form in which the goals have their facts. Assumes nothing.
 use Prim.Native.Nat.{ℕ, ◌+◌, ◌-◌, ◌≤◌, ◌<◌}
 use mathlib.Core.Path.{◌≡◌, refl, sym, ap, subst, ◌∙◌}
 use mathlib.Core.Bool.{Bool, true, false}

@@ -1,4 +1,4 @@
--- Digits and base numbers where they stand in a text, law by law, in the form in which the needs have their facts. Assumes nothing.
+-- Digits and base numbers where they stand in a text, law by law, in the form in which the goals have their facts. Assumes nothing.
 use Prim.Native.Nat.{ℕ, ◌+◌, ◌-◌, ◌*◌, ◌^◌, ◌≤◌, ◌<◌}
 use mathlib.Core.Path.{◌≡◌, refl, sym, ap, ◌∙◌}
 use mathlib.Core.Bool.{Bool, true, false}
