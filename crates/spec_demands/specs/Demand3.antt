@@ -2,7 +2,6 @@
 -- writer's, and the reader, lent enough room and a text of at most 16,777,216 bytes, takes all of them and gives back the same table: each text, row, number and letter. With the strict
 -- switch on that holds of "tables whose letters all have codes" (document 02, ticket 7): `letters_fit` asks so then, and nothing with the switch off.
 -- Here is when 13 is answered, and that the bytes are the plain writer's; that the same table comes back is in proofs/Demand3.antt.
--- Here is when 13 is answered, and that the bytes are the plain writer's; that the same table comes back is in proofs/Demand3.antt.
 use Rattle.std.specs.Prelude.{ℕ, ◌≤◌, Bool, true, false, List, ◌↔◌, ◌≡◌, length}
 use Rattle.std.proofs.Common.{sym, ap, subst, ◌∙◌}
 use Rattle.spec_format.specs.Answers.{slice_after}
