@@ -1,5 +1,5 @@
-// What programs in other languages call: the reader and the writers over numbers and slices. No call asks anything of its arguments; api/vilggodan.h says how they
-// are passed, and specs/Told.antt of `spec_contracts` what is returned.
+// What programs in other languages call, by the names that `api_boundary_c` exports: the reader and the writers over numbers and slices. No call asks anything of its
+// arguments; api/vilggodan.h says how they are passed, and specs/Told.antt of `spec_contracts` what is returned.
 #![tactic(auto)]
 
 ghost use Rattle.spec_contracts.specs.Lent.{lent, left};
@@ -12,8 +12,7 @@ use spec_contracts::{Reading, Writing};
 use spec_format::How;
 
 // Reads the record at a place of `s` into the rooms, strictly or not.
-#[unsafe(no_mangle)]
-pub extern "C" fn vilggodan_read(
+pub fn vilggodan_read(
     s: &[u8],
     at: usize,
     strict: bool,
@@ -34,8 +33,7 @@ pub extern "C" fn vilggodan_read(
 }
 
 // Writes the table in the rooms by the keeping rules or plainly.
-#[unsafe(no_mangle)]
-pub extern "C" fn vilggodan_write(
+pub fn vilggodan_write(
     out: &mut [u8],
     texts: &[u8],
     references: &[usize],
