@@ -1,3 +1,4 @@
+-- The goals of `same_text` that are answered by hand; what its loop keeps, and what falls, is in Invariants.antt.
 use Rattle.std.proofs.Common.{◌-◌, rules, refl, arith}
 use Rattle.base_keys.proofs.Laws.{same_length, same_go, same_no, same_end}
 use Rattle.base_keys.proofs.same_text.Goals as goal

@@ -1,3 +1,4 @@
+-- The goals of `copy_fit` that are answered by hand; what its loop keeps, and what falls, is in Invariants.antt.
 use Rattle.std.proofs.Common.{◌+◌, ◌-◌, ◌≡◌, refl, length, length-set, arith, rules, add-zero}
 use Rattle.base_pen.specs.Pen.{left_start, left_bytes, left_done, writes_byte}
 use Rattle.base_pen.proofs.copy_fit.Goals as goal

@@ -1,3 +1,4 @@
+-- The goals of `put_each` that are answered by hand; what its loop keeps, and what falls, is in Invariants.antt.
 use Rattle.std.proofs.Common.{◌-◌, refl, rules}
 use Rattle.base_pen.specs.Pen.{left_start, left_bytes, left_done}
 use Rattle.base_pen.proofs.put_each.Goals as goal

@@ -1,3 +1,4 @@
+-- The goals of `spaces_each` that are answered by hand; what its loop keeps, and what falls, is in Invariants.antt.
 use Rattle.std.proofs.Common.{◌-◌, refl, rules}
 use native.Mathlib.Nat.{sub-zero}
 use Rattle.base_pen.specs.Pen.{left_start, left_step, left_as, left_end, replicate_less, replicate_none}

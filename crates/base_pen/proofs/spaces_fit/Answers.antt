@@ -1,3 +1,4 @@
+-- The goals of `spaces_fit` that are answered by hand; what its loop keeps, and what falls, is in Invariants.antt.
 use Rattle.std.proofs.Common.{◌+◌, ◌-◌, ◌≡◌, refl, length-set, arith, rules, add-zero}
 use native.Mathlib.Nat.{sub-zero}
 use Rattle.base_pen.specs.Pen.{left_start, left_as, left_step, left_end, writes_byte, replicate_less, replicate_none}

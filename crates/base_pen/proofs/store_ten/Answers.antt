@@ -1,3 +1,4 @@
+-- The goals of `store_ten` that are answered by hand; what its loop keeps, and what falls, is in Invariants.antt.
 use Rattle.std.proofs.Common.{add-zero, length-set, ◌+◌, ◌-◌, ◌≡◌, refl, arith, rules}
 use Rattle.base_pen.specs.Pen.{left_start, left_bytes, left_done, writes_byte}
 use Rattle.base_pen.proofs.store_ten.Goals as goal

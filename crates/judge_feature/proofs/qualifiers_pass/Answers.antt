@@ -1,3 +1,4 @@
+-- The goals of `qualifiers_pass` that are answered by hand; what its loop keeps, and what falls, is in Invariants.antt.
 use Rattle.std.proofs.Common.{rules, refl, ◌∙◌, arith}
 use Rattle.judge_feature.specs.Rules.{qualifier_of}
 use Rattle.spec_format.specs.Rooms.{qualifier_in}

@@ -1,3 +1,4 @@
+-- The goals of `comments_pass` that are answered by hand; what its loop keeps, and what falls, is in Invariants.antt.
 use Rattle.std.proofs.Common.{◌-◌, rules, ◌∙◌, arith}
 use Rattle.spec_format.specs.Rooms.{comment_in}
 use Rattle.judge_header.specs.Rows.{all_rows}

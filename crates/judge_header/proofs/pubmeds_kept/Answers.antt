@@ -1,3 +1,4 @@
+-- The goals of `pubmeds_kept` that are answered by hand; what its loop keeps, and what falls, is in Invariants.antt.
 use Rattle.std.proofs.Common.{◌-◌, rules, ◌∙◌, arith}
 use Rattle.spec_format.specs.Keeping.{pubmed_kept}
 use Rattle.spec_format.specs.Rooms.{reference_in}

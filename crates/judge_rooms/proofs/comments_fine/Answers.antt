@@ -1,3 +1,4 @@
+-- The goals of `comments_fine` that are answered by hand; what its loop keeps, and what falls, is in Invariants.antt.
 use Rattle.std.proofs.Common.{rules}
 use Rattle.spec_format.specs.Rooms.{comment_row_fine}
 use Rattle.judge_rooms.specs.Steps.{rows_go, rows_no, rows_end}

@@ -1,3 +1,4 @@
+-- The goals of `qualifier_rows_fine` that are answered by hand; what its loop keeps, and what falls, is in Invariants.antt.
 use Rattle.std.proofs.Common.{rules, refl}
 use Rattle.judge_rooms.specs.Steps.{rows_go, rows_no, rows_end}
 use Rattle.std.proofs.lemmas.Bool.{not_from_false, not_from_true}

@@ -1,3 +1,4 @@
+-- The goals of `letters_block` that are answered by hand; what its loop keeps, and what falls, is in Invariants.antt.
 use Rattle.std.proofs.Common.{◌-◌, ◌≡◌, arith, rules}
 use Rattle.spec_format.specs.Bytes.{letter}
 use Rattle.judge_text.proofs.Bytewise.{passed_none, passed_one}

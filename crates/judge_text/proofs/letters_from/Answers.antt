@@ -1,3 +1,4 @@
+-- The goals of `letters_from` that are answered by hand; what its loop keeps, and what falls, is in Invariants.antt.
 use Rattle.std.proofs.Common.{◌-◌, rules, refl}
 use Rattle.judge_text.proofs.Bytewise.{all_go, all_no, all_end, passed, not_passed}
 use Rattle.std.proofs.lemmas.Bool.{not_from_false, not_from_true}

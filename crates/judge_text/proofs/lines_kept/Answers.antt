@@ -1,3 +1,4 @@
+-- The goals of `lines_kept` that are answered by hand; what its loop keeps, and what falls, is in Invariants.antt.
 use Rattle.std.proofs.Common.{◌+◌, ◌-◌, ◌*◌, rules, refl, arith}
 use Rattle.judge_text.proofs.Lines.{lines_go, lines_no, lines_end, column_small}
 use Rattle.judge_text.proofs.lines_kept.Goals as goal

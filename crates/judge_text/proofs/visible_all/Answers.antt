@@ -1,3 +1,4 @@
+-- The goals of `visible_all` that are answered by hand; what its loop keeps, and what falls, is in Invariants.antt.
 use Rattle.std.proofs.Common.{◌-◌, arith, rules, refl, sym, ◌∙◌}
 use borrow.Author.Tests.{not-false}
 use Rattle.std.proofs.lemmas.Bool.{not_from_true}

@@ -1,3 +1,4 @@
+-- The goals of `without_block` that are answered by hand; what its loop keeps, and what falls, is in Invariants.antt.
 use Rattle.std.proofs.Common.{◌-◌, ◌≡◌, refl, arith, rules}
 use Rattle.spec_format.specs.Bytes.{but}
 use Rattle.judge_text.proofs.Bytewise.{passed_none, passed_one}

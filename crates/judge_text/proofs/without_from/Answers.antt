@@ -1,3 +1,4 @@
+-- The goals of `without_from` that are answered by hand; what its loop keeps, and what falls, is in Invariants.antt.
 use Rattle.std.proofs.Common.{◌-◌, rules, refl}
 use Rattle.judge_text.proofs.Bytewise.{all_go, all_no, all_end, is_other, is_it}
 use Rattle.judge_text.proofs.without_from.Goals as goal

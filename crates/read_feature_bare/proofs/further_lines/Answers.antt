@@ -1,3 +1,4 @@
+-- The goals of `further_lines` that are answered by hand; what its loop keeps, and what falls, is in Invariants.antt.
 use Rattle.std.proofs.Common.{◌-◌, arith, rules}
 use Rattle.read_feature_bare.proofs.Lines.{further_places, goings}
 use Rattle.read_feature_bare.proofs.further_lines.Goals as goal

@@ -1,3 +1,4 @@
+-- The goals of `put_further` that are answered by hand; what its loop keeps, and what falls, is in Invariants.antt.
 use Rattle.std.proofs.Common.{◌-◌, rules}
 use Rattle.read_feature_bare.proofs.Lines.{places}
 use Rattle.read_feature_bare.proofs.Bares.{puttings}

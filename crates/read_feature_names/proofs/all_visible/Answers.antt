@@ -1,3 +1,4 @@
+-- The goals of `all_visible` that are answered by hand; what its loop keeps, and what falls, is in Invariants.antt.
 use Rattle.std.proofs.Common.{◌-◌, rules}
 use Rattle.read_feature_names.proofs.Heading.{passing_all}
 use Rattle.read_feature_names.proofs.all_visible.Goals as goal

@@ -1,3 +1,4 @@
+-- The goals of `put_qualifiers` that are answered by hand; what its loop keeps, and what falls, is in Invariants.antt.
 use Rattle.std.proofs.Common.{◌-◌, rules}
 use Rattle.read_feature_qualifier_rows.proofs.Qualifiers.{puttings}
 use Rattle.read_feature_qualifier_rows.proofs.put_qualifiers.Goals as goal

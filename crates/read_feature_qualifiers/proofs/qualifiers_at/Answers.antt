@@ -1,3 +1,4 @@
+-- The goals of `qualifiers_at` that are answered by hand; what its loop keeps, and what falls, is in Invariants.antt.
 use Rattle.std.proofs.Common.{◌-◌, arith, rules}
 use Rattle.read_feature_qualifiers.proofs.Laws.{bytes_fit, counting}
 use Rattle.read_feature_qualifiers.proofs.qualifiers_at.Goals as goal

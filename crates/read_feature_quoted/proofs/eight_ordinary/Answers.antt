@@ -1,3 +1,4 @@
+-- The goals of `eight_ordinary` that are answered by hand; what its loop keeps, and what falls, is in Invariants.antt.
 use Rattle.std.proofs.Common.{◌-◌, ◌≡◌, arith, rules}
 use Rattle.read_feature_quoted.proofs.Plains.{onward_none, onward_one}
 use Rattle.read_feature_quoted.proofs.eight_ordinary.Goals as goal

@@ -1,3 +1,4 @@
+-- The goals of `plain_end` that are answered by hand; what its loop keeps, and what falls, is in Invariants.antt.
 use Rattle.std.proofs.Common.{◌-◌, rules}
 use borrow.Author.Tests.{not-false}
 use Rattle.scan_bytes.specs.Sequence.{sequence}

@@ -1,3 +1,4 @@
+-- The goals of `quoted_on` that are answered by hand; what its loop keeps, and what falls, is in Invariants.antt.
 use Rattle.std.proofs.Common.{◌-◌, arith, rules}
 use Rattle.scan_bytes.specs.Sequence.{sequence}
 use Rattle.read_feature_quoted.proofs.Values.{goings, places, sum_within}

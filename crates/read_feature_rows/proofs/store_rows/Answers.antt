@@ -1,3 +1,4 @@
+-- The goals of `store_rows` that are answered by hand; what its loop keeps, and what falls, is in Invariants.antt.
 use Rattle.std.proofs.Common.{◌-◌}
 use Rattle.read_feature_rows.proofs.Laws.{storing_on, storing_all}
 use Rattle.read_feature_rows.proofs.store_rows.Goals as goal

@@ -1,3 +1,4 @@
+-- The goals of `features_at` that are answered by hand; what its loop keeps, and what falls, is in Invariants.antt.
 use Rattle.std.proofs.Common.{◌-◌, arith, rules}
 use Rattle.read_feature_table.proofs.Laws.{qualifiers_fit, rows_fit, bytes_fit, counting}
 use Rattle.read_feature_table.proofs.features_at.Goals as goal

@@ -1,3 +1,4 @@
+-- The goals of `header_at` that are answered by hand; what its loop keeps, and what falls, is in Invariants.antt.
 use Rattle.std.proofs.Common.{arith}
 use Rattle.read_field_all.proofs.Gathering.{gathering_start, gathering_no, gathering_cut, gathering_fits, gathering_more, gathering_less}
 use Rattle.read_field_all.proofs.header_at.Goals as goal

@@ -1,3 +1,4 @@
+-- The goals of `further_lines` that are answered by hand; what its loop keeps, and what falls, is in Invariants.antt.
 use Rattle.std.proofs.Common.{◌-◌, drop, arith, rules}
 use Rattle.scan_bytes.specs.Parts.{length_part}
 use Rattle.read_field_entry.proofs.Turns.{reading_start, reading_more, reading_stop, reading_cut, grown_small}

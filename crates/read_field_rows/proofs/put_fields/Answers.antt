@@ -1,3 +1,4 @@
+-- The goals of `put_fields` that are answered by hand; what its loop keeps, and what falls, is in Invariants.antt.
 use Rattle.std.proofs.Common.{◌-◌, refl, arith, rules}
 use Rattle.read_field_rows.proofs.Walking.{walking_start, walking_no, walking_cut, walking_known, walking_ready, walking_room, walking_more}
 use Rattle.read_field_rows.proofs.put_fields.Goals as goal

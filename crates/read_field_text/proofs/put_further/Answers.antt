@@ -1,3 +1,4 @@
+-- The goals of `put_further` that are answered by hand; what its loop keeps, and what falls, is in Invariants.antt.
 use Rattle.std.proofs.Common.{◌-◌, refl, drop, arith, rules}
 use Rattle.read_field_entry.specs.Lines.{piece_places, piece_is, piece_is_no, piece_is_cut}
 use Rattle.base_pen.specs.Pen.{left_start}

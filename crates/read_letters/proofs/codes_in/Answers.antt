@@ -1,3 +1,4 @@
+-- The goals of `codes_in` that are answered by hand; what its loop keeps, and what falls, is in Invariants.antt.
 use Rattle.std.proofs.Common.{◌-◌, ◌≡◌, sym, arith, rules}
 use Rattle.spec_bases.specs.Bases.{coded}
 use Rattle.read_letters.proofs.Passing.{in-none, one_small, one_counted}

@@ -1,3 +1,4 @@
+-- The goals of `count_from` that are answered by hand; what its loop keeps, and what falls, is in Invariants.antt.
 use Rattle.std.proofs.Common.{◌-◌, rules}
 use Rattle.read_letters.proofs.Passing.{counting}
 use Rattle.read_letters.proofs.count_from.Goals as goal

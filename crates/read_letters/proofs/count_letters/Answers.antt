@@ -1,3 +1,4 @@
+-- The goals of `count_letters` that are answered by hand; what its loop keeps, and what falls, is in Invariants.antt.
 use Rattle.std.proofs.Common.{◌-◌, arith, rules}
 use Rattle.read_letters.proofs.Passing.{count_sixty, count_feed, counts_from, plus_none}
 use Rattle.read_letters.proofs.count_letters.Goals as goal

@@ -1,3 +1,4 @@
+-- The goals of `put_from` that are answered by hand; what its loop keeps, and what falls, is in Invariants.antt.
 use Rattle.std.proofs.Common.{◌-◌, refl, rules}
 use Rattle.read_letters.proofs.Passing.{left_letter, left_skip, left_stop, left_over}
 use Rattle.base_pen.specs.Pen.{left_start}

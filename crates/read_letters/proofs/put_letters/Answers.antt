@@ -1,3 +1,4 @@
+-- The goals of `put_letters` that are answered by hand; what its loop keeps, and what falls, is in Invariants.antt.
 use Rattle.std.proofs.Common.{◌-◌, refl, arith, rules}
 use Rattle.read_letters.proofs.Passing.{left_run, left_feed}
 use Rattle.base_pen.specs.Pen.{left_start}

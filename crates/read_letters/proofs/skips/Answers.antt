@@ -1,3 +1,4 @@
+-- The goals of `skips` that are answered by hand; what its loop keeps, and what falls, is in Invariants.antt.
 use Rattle.std.proofs.Common.{◌-◌, ◌≡◌, arith, rules}
 use Rattle.read_letters.proofs.Passing.{skips_none, skips_more}
 use Rattle.read_letters.proofs.skips.Goals as goal

@@ -1,3 +1,4 @@
+-- The goals of `ten_of` that are answered by hand; what its loop keeps, and what falls, is in Invariants.antt.
 use Rattle.std.proofs.Common.{◌-◌, refl, arith, rules, length-set}
 use Rattle.read_letters.proofs.Passing.{ten_more, ten_done}
 use Rattle.read_letters.proofs.ten_of.Goals as goal

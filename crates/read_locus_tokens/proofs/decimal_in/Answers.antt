@@ -1,3 +1,4 @@
+-- The goals of `decimal_in` that are answered by hand; what its loop keeps, and what falls, is in Invariants.antt.
 use Rattle.std.proofs.Common.{◌-◌, ◌≡◌, length, arith, rules}
 use Rattle.read_locus_tokens.proofs.Digits.{deciding, ten_more, ten_billion}
 use Rattle.read_locus_tokens.proofs.decimal_in.Goals as goal

@@ -1,3 +1,4 @@
+-- The goals of `word_end` that are answered by hand; what its loop keeps, and what falls, is in Invariants.antt.
 use Rattle.std.proofs.Common.{◌-◌, rules}
 use Rattle.read_locus_tokens.proofs.Cuts.{cutting}
 use Rattle.read_locus_tokens.proofs.word_end.Goals as goal

@@ -1,3 +1,4 @@
+-- The goals of `preamble_at` that are answered by hand; what its loop keeps, and what falls, is in Invariants.antt.
 use Rattle.read_preamble.proofs.Laws.{gone_answer}
 use Rattle.read_preamble.proofs.preamble_at.Goals as goal
 

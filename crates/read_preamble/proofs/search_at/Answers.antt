@@ -1,3 +1,4 @@
+-- The goals of `search_at` that are answered by hand; what its loop keeps, and what falls, is in Invariants.antt.
 use Rattle.std.proofs.Common.{rules}
 use Rattle.read_preamble.specs.Onwards.{searching}
 use Rattle.read_preamble.proofs.search_at.Goals as goal

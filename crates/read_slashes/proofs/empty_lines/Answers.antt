@@ -1,3 +1,4 @@
+-- The goals of `empty_lines` that are answered by hand; what its loop keeps, and what falls, is in Invariants.antt.
 use Rattle.std.proofs.Common.{rules}
 use Rattle.read_slashes.proofs.Laws.{emptying}
 use Rattle.read_slashes.proofs.empty_lines.Goals as goal

@@ -1,3 +1,4 @@
+-- The goals of `slashes_later` that are answered by hand; what its loop keeps, and what falls, is in Invariants.antt.
 use Rattle.std.proofs.Common.{◌≡◌, ℕ, List, drop, subst, ◌∙◌}
 use Rattle.scan_lines.specs.Reached.{Fed}
 use Rattle.read_slashes.specs.Later.{Sought}

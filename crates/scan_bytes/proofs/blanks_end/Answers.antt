@@ -1,3 +1,4 @@
+-- The goals of `blanks_end` that are answered by hand; what its loop keeps, and what falls, is in Invariants.antt.
 use Rattle.std.proofs.Common.{◌-◌, rules}
 use Rattle.scan_bytes.proofs.Scan.{scanning}
 use Rattle.scan_bytes.proofs.blanks_end.Goals as goal

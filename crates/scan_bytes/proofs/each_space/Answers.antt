@@ -1,3 +1,4 @@
+-- The goals of `each_space` that are answered by hand; what its loop keeps, and what falls, is in Invariants.antt.
 use Rattle.std.proofs.Common.{rules}
 use Rattle.scan_bytes.proofs.Scan.{spacing}
 use Rattle.scan_bytes.proofs.each_space.Goals as goal

@@ -1,3 +1,4 @@
+-- The goals of `eight_inside` that are answered by hand; what its loop keeps, and what falls, is in Invariants.antt.
 use Rattle.std.proofs.Common.{◌-◌, ◌≡◌, arith, rules}
 use Rattle.scan_bytes.proofs.Scan.{passes_none, passes_over}
 use Rattle.scan_bytes.proofs.eight_inside.Goals as goal

@@ -1,3 +1,4 @@
+-- The goals of `next_stop` that are answered by hand; what its loop keeps, and what falls, is in Invariants.antt.
 use Rattle.std.proofs.Common.{◌-◌, ◌∙◌, arith, rules}
 use Rattle.scan_bytes.specs.Places.{line_stop}
 use borrow.Author.Tests.{not-false}

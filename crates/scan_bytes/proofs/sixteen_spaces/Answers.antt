@@ -1,3 +1,4 @@
+-- The goals of `sixteen_spaces` that are answered by hand; what its loop keeps, and what falls, is in Invariants.antt.
 use Rattle.std.proofs.Common.{◌-◌, ◌≡◌, arith, rules}
 use Rattle.scan_bytes.proofs.Scan.{spaced_none, spaced_one}
 use Rattle.scan_bytes.proofs.sixteen_spaces.Goals as goal

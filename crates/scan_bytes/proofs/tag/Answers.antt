@@ -1,3 +1,4 @@
+-- The goals of `tag` that are answered by hand; what its loop keeps, and what falls, is in Invariants.antt.
 use Rattle.std.proofs.Common.{◌-◌, rules}
 use Rattle.scan_bytes.proofs.Scan.{tagging}
 use Rattle.scan_bytes.proofs.tag.Goals as goal

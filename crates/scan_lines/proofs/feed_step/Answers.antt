@@ -1,3 +1,4 @@
+-- The goals of `feed_step` that are answered by hand; what its loop keeps, and what falls, is in Invariants.antt.
 use Rattle.std.proofs.Common.{◌-◌, rules}
 use Rattle.scan_lines.proofs.Feeds.{feeding}
 use Rattle.scan_lines.proofs.feed_step.Goals as goal

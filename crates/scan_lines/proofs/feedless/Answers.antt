@@ -1,3 +1,4 @@
+-- The goals of `feedless` that are answered by hand; what its loop keeps, and what falls, is in Invariants.antt.
 use Rattle.std.proofs.Common.{◌-◌, ◌≡◌, arith, rules}
 use Rattle.scan_lines.proofs.Feeds.{feedless_none, feedless_on}
 use Rattle.scan_lines.proofs.feedless.Goals as goal

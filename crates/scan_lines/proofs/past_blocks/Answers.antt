@@ -1,3 +1,4 @@
+-- The goals of `past_blocks` that are answered by hand; what its loop keeps, and what falls, is in Invariants.antt.
 use Rattle.std.proofs.Common.{◌-◌, rules}
 use Rattle.scan_lines.proofs.Feeds.{blocks}
 use Rattle.scan_lines.proofs.past_blocks.Goals as goal

@@ -1,3 +1,4 @@
+-- The goals of `digits_at` that are answered by hand; what its loop keeps, and what falls, is in Invariants.antt.
 use Rattle.std.proofs.Common.{◌-◌, rules}
 use Rattle.scan_location.proofs.Numbers.{counting}
 use Rattle.scan_location.proofs.digits_at.Goals as goal

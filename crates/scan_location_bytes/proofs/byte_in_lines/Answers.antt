@@ -1,3 +1,4 @@
+-- The goals of `byte_in_lines` that are answered by hand; what its loop keeps, and what falls, is in Invariants.antt.
 use Rattle.std.proofs.Common.{◌-◌, rules}
 use Rattle.scan_location_bytes.proofs.Lines.{linewise}
 use Rattle.scan_location_bytes.proofs.byte_in_lines.Goals as goal

@@ -1,3 +1,4 @@
+-- The goals of `past_run` that are answered by hand; what its loop keeps, and what falls, is in Invariants.antt.
 use Rattle.std.proofs.Common.{◌-◌, rules}
 use Rattle.scan_location_bytes.proofs.Words.{running}
 use Rattle.scan_location_bytes.proofs.past_run.Goals as goal

@@ -1,3 +1,4 @@
+-- The goals of `word_at` that are answered by hand; what its loop keeps, and what falls, is in Invariants.antt.
 use Rattle.std.proofs.Common.{◌-◌, rules}
 use Rattle.scan_location_bytes.proofs.Words.{spelling, spell_more, spell_other}
 use Rattle.scan_location_bytes.proofs.word_at.Goals as goal

@@ -1,3 +1,4 @@
+-- The goals of `digits_on` that are answered by hand; what its loop keeps, and what falls, is in Invariants.antt.
 use Rattle.std.proofs.Common.{◌-◌, rules}
 use Rattle.scan_location_usual.proofs.Numbers.{digiting}
 use Rattle.scan_location_usual.proofs.digits_on.Goals as goal

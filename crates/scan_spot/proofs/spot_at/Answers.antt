@@ -1,3 +1,4 @@
+-- The goals of `spot_at` that are answered by hand; what its loop keeps, and what falls, is in Invariants.antt.
 use Rattle.std.proofs.Common.{ℕ, List, ap, subst, Bor}
 use Rattle.scan_lines.specs.Reached.{Fed}
 use Rattle.scan_spot.proofs.Laws.{standing_first, arrived}

@@ -1,3 +1,4 @@
+-- The goals of `steps` that are answered by hand; what its loop keeps, and what falls, is in Invariants.antt.
 use Rattle.std.proofs.Common.{◌-◌, ◌≡◌, arith, rules}
 use Rattle.scan_utf8.specs.States.{ran_none}
 use Rattle.scan_bytes.specs.Parts.{part_none}

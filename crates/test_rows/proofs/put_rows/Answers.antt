@@ -1,3 +1,4 @@
+-- The goals of `put_rows` that are answered by hand; what its loop keeps, and what falls, is in Invariants.antt.
 use Rattle.std.proofs.Common.{◌-◌, rules}
 use Rattle.base_pen.specs.Pen.{left_start}
 use Rattle.test_rows.specs.Flats.{put_on, put_done}

@@ -1,3 +1,4 @@
+-- The goals of `rows_of` that are answered by hand; what its loop keeps, and what falls, is in Invariants.antt.
 use Rattle.std.proofs.Common.{◌-◌, arith, rules}
 use Rattle.test_rows.specs.Flats.{flat_none, fetched_on, fetched_all}
 use Rattle.test_rows.proofs.rows_of.Goals as goal

@@ -1,3 +1,4 @@
+-- The goals of `width` that are answered by hand; what its loop keeps, and what falls, is in Invariants.antt.
 use Rattle.std.proofs.Common.{arith, refl}
 use Rattle.write_decimal.specs.Decimal.{counted_more, counted_all}
 use Rattle.write_decimal.proofs.width.Goals as goal

@@ -1,3 +1,4 @@
+-- The goals of `put_qualifiers` that are answered by hand; what its loop keeps, and what falls, is in Invariants.antt.
 use Rattle.std.proofs.Common.{rules, refl, arith}
 use Rattle.spec_format.specs.Rooms.{qualifier_in}
 use Rattle.spec_format.specs.Write.{qualifier_lines}

@@ -1,3 +1,4 @@
+-- The goals of `put_comments` that are answered by hand; what its loop keeps, and what falls, is in Invariants.antt.
 use Rattle.std.proofs.Common.{rules, refl, arith}
 use Rattle.spec_format.specs.Bytes.{bytes}
 use Rattle.spec_format.specs.Rooms.{comment_in}

@@ -1,3 +1,4 @@
+-- The goals of `put_references` that are answered by hand; what its loop keeps, and what falls, is in Invariants.antt.
 use Rattle.std.proofs.Common.{rules, refl, arith}
 use Rattle.spec_format.specs.Rooms.{reference_in}
 use Rattle.spec_format.specs.Write.{reference_lines}

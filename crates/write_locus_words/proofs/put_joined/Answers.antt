@@ -1,3 +1,4 @@
+-- The goals of `put_joined` that are answered by hand; what its loop keeps, and what falls, is in Invariants.antt.
 use Rattle.std.proofs.Common.{◌-◌, sym, rules}
 use Rattle.write_locus_words.proofs.Laws.{put_turn, put_end}
 use Rattle.base_pen.specs.Pen.{left_as, left_start}

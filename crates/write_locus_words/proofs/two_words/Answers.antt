@@ -1,3 +1,4 @@
+-- The goals of `two_words` that are answered by hand; what its loop keeps, and what falls, is in Invariants.antt.
 use Rattle.std.proofs.Common.{◌-◌, refl, sym, rules}
 use Rattle.write_locus_words.proofs.Laws.{two_turn, two_yes, two_end}
 use Rattle.write_locus_words.specs.Words.{two_all}

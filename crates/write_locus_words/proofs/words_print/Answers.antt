@@ -1,3 +1,4 @@
+-- The goals of `words_print` that are answered by hand; what its loop keeps, and what falls, is in Invariants.antt.
 use Rattle.std.proofs.Common.{◌-◌, refl, rules}
 use Rattle.write_locus_words.proofs.Laws.{prints_turn, prints_no, prints_end}
 use Rattle.write_locus_words.specs.Words.{blanked_prints}

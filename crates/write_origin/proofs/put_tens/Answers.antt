@@ -1,3 +1,4 @@
+-- The goals of `put_tens` that are answered by hand; what its loop keeps, and what falls, is in Invariants.antt.
 use Rattle.std.proofs.Common.{refl, arith, rules}
 use Rattle.base_pen.specs.Pen.{left_start}
 use Rattle.write_origin.specs.Origin.{origin_turn, origin_done, ten_next}

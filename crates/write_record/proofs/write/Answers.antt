@@ -1,3 +1,4 @@
+-- The goals of `write` that are answered by hand; what its loop keeps, and what falls, is in Invariants.antt.
 use Rattle.write_record_turns.specs.Answered.{Asking, asking}
 use Rattle.write_record_turns.specs.Turns.{steady, ended_answer}
 use Rattle.write_record.proofs.Typed.{length_fits_lem}

@@ -1,3 +1,4 @@
+-- The goals of `comma_break` that are answered by hand; what its loop keeps, and what falls, is in Invariants.antt.
 use Rattle.std.proofs.Common.{◌≡◌, refl, ◌∙◌, arith}
 use Rattle.spec_format.specs.Wrap.{last_comma}
 use Rattle.write_wrap_location.specs.Commas.{broke_comma, broke_none, comma_hit, comma_miss}

@@ -1,3 +1,4 @@
+-- The goals of `put_lines` that are answered by hand; what its loop keeps, and what falls, is in Invariants.antt.
 use Rattle.std.proofs.Common.{refl, ◌-◌, length, rules}
 use Rattle.write_wrap_location.specs.Commas.{commas_start, commas_fall, commas_turn, commas_done}
 use Rattle.write_wrap_location.proofs.put_lines.Goals as goal

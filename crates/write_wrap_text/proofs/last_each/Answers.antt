@@ -1,3 +1,4 @@
+-- The goals of `last_each` that are answered by hand; what its loop keeps, and what falls, is in Invariants.antt.
 use Rattle.std.proofs.Common.{◌-◌, refl, rules}
 use Rattle.write_wrap_text.specs.Plain.{last_found, last_turn, last_none}
 use Rattle.write_wrap_text.proofs.last_each.Goals as goal

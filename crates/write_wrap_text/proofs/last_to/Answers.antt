@@ -1,3 +1,4 @@
+-- The goals of `last_to` that are answered by hand; what its loop keeps, and what falls, is in Invariants.antt.
 use Rattle.std.proofs.Common.{◌-◌, refl, rules}
 use Rattle.write_wrap_text.specs.Plain.{last_passed, last_known, first_block}
 use borrow.Author.Tests.{not-false}

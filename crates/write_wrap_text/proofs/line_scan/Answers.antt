@@ -1,3 +1,4 @@
+-- The goals of `line_scan` that are answered by hand; what its loop keeps, and what falls, is in Invariants.antt.
 use Rattle.std.proofs.Common.{◌+◌, ◌-◌, ◌≡◌, refl, sym, ◌∙◌, get_or, arith, rules, true, false}
 use Rattle.write_wrap_text.specs.Line.{columns, stops, scan_turn, scan_full, scan_feed, scan_end, breaks}
 use Rattle.write_wrap_text.proofs.line_scan.Goals as goal

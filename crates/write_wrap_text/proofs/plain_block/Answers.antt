@@ -1,3 +1,4 @@
+-- The goals of `plain_block` that are answered by hand; what its loop keeps, and what falls, is in Invariants.antt.
 use Rattle.std.proofs.Common.{add-zero, ◌-◌, ◌≡◌, arith, rules}
 use Rattle.write_wrap_text.specs.Plain.{block_turn}
 use Rattle.write_wrap_text.proofs.plain_block.Goals as goal

@@ -1,3 +1,4 @@
+-- The goals of `plain_from` that are answered by hand; what its loop keeps, and what falls, is in Invariants.antt.
 use Rattle.std.proofs.Common.{◌-◌, sym, ◌∙◌, arith}
 use borrow.Author.Tests.{not-false}
 use Rattle.write_wrap_text.specs.Plain.{plain_more}

@@ -1,3 +1,4 @@
+-- The goals of `put_each_shown` that are answered by hand; what its loop keeps, and what falls, is in Invariants.antt.
 use Rattle.std.proofs.Common.{◌-◌, refl, rules}
 use Rattle.base_pen.specs.Pen.{left_start}
 use Rattle.write_wrap_text.specs.Loop.{escape_turn, escape_done}

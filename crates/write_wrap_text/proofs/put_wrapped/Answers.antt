@@ -1,3 +1,4 @@
+-- The goals of `put_wrapped` that are answered by hand; what its loop keeps, and what falls, is in Invariants.antt.
 use Rattle.std.proofs.Common.{refl, ◌-◌, rules}
 use Rattle.write_wrap_text.specs.Loop.{text_start, text_turn, text_done, text_falls}
 use Rattle.write_wrap_text.specs.Plain.{line_plain}

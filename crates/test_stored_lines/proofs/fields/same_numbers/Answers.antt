@@ -1,3 +1,4 @@
+-- The goals of `fields::same_numbers` that are answered by hand; what its loop keeps, and what falls, is in Invariants.antt.
 use Rattle.std.proofs.Common.{refl, arith, rules}
 use Rattle.test_stored_lines.specs.Compared.{no, one_more, all_of_them}
 use Rattle.test_stored_lines.proofs.fields.same_numbers.Goals as goal
