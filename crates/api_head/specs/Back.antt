@@ -1,19 +1,13 @@
 -- What is told of a head is understood: the numbers of a head are 33, and stand for that head. Numbers that stand for none are refused.
-use Rattle.std.specs.Prelude.{ℕ, suc, ◌+◌, ◌≤◌, ◌<◌, ◌≡◌, refl, Bool, true, false, not, List, [], ◌∷◌, length, get_or, eqb, leb}
+use Rattle.std.specs.Prelude.{ℕ, suc, ◌+◌, ◌≤◌, ◌<◌, ◌≡◌, refl, Bool, true, false, not, List, [], ◌∷◌, length, get_or, eqb, leb, Option, Some, None}
 use Rattle.std.proofs.Common.{ap, ◌∙◌, arith, lt-ltb, le-ltb, le-leb, ne_eqb, leb-true}
 use Rattle.std.proofs.lemmas.Bool.{lt-leb}
 use Rattle.spec_format.specs.Record.{most}
 use Rattle.spec_format.specs.Rooms.{Rooms, rooms_fine, lengths_fine, head_fine}
-use Rattle.spec_format.specs.declared.Text.{Text}
-use Rattle.spec_format.specs.declared.Text.TheVariants as text
+use Rattle.spec_format.specs.declared.Date.{Date}
+use Rattle.spec_format.specs.declared.Span.{Span}
 use Rattle.spec_format.specs.declared.SourceText.{SourceText}
-use Rattle.spec_format.specs.declared.SourceText.TheVariants as source
 use Rattle.spec_format.specs.declared.ContigText.{ContigText}
-use Rattle.spec_format.specs.declared.ContigText.TheVariants as contig
-use Rattle.spec_format.specs.declared.Length.{Length}
-use Rattle.spec_format.specs.declared.Length.TheVariants as bases
-use Rattle.spec_format.specs.declared.Dated.{Dated}
-use Rattle.spec_format.specs.declared.Dated.TheVariants as dated
 use Rattle.spec_format.specs.declared.Head.{Head}
 use Rattle.spec_rooms.specs.LayoutLengths.{and_left}
 use Rattle.spec_contracts.specs.Numbers.{largest, above, flag, text_numbers, source_numbers, contig_numbers, length_numbers, date_numbers, locus_numbers, field_numbers}
@@ -21,28 +15,27 @@ use Rattle.spec_contracts.specs.Numbers.{rest_numbers, head_numbers, text_from, 
 
 -- ---- how many numbers
 
-text_two : (t : Text) → text_numbers t ≡ get_or (text_numbers t) 0 0 ∷ get_or (text_numbers t) 1 0 ∷ []
-text_two text.Absent = refl
-text_two (text.At s) = refl
+text_two : (t : Option Span) → text_numbers t ≡ get_or (text_numbers t) 0 0 ∷ get_or (text_numbers t) 1 0 ∷ []
+text_two None = refl
+text_two (Some s) = refl
 
-source_four : (t : SourceText) → source_numbers t ≡
+source_four : (t : Option SourceText) → source_numbers t ≡
     get_or (source_numbers t) 0 0 ∷ get_or (source_numbers t) 1 0 ∷ get_or (source_numbers t) 2 0 ∷ get_or (source_numbers t) 3 0 ∷ []
-source_four source.Absent = refl
-source_four (source.At s text.Absent) = refl
-source_four (source.At s (text.At o)) = refl
+source_four None = refl
+source_four (Some s) = rw (text_two s.organism)
 
-contig_four : (t : ContigText) → contig_numbers t ≡
+contig_four : (t : Option ContigText) → contig_numbers t ≡
     get_or (contig_numbers t) 0 0 ∷ get_or (contig_numbers t) 1 0 ∷ get_or (contig_numbers t) 2 0 ∷ get_or (contig_numbers t) 3 0 ∷ []
-contig_four contig.Absent = refl
-contig_four (contig.At s row rows) = refl
+contig_four None = refl
+contig_four (Some c) = refl
 
-length_one : (t : Length) → length_numbers t ≡ get_or (length_numbers t) 0 0 ∷ []
-length_one bases.Absent = refl
-length_one (bases.Bases n) = refl
+length_one : (t : Option ℕ) → length_numbers t ≡ get_or (length_numbers t) 0 0 ∷ []
+length_one None = refl
+length_one (Some n) = refl
 
-date_three : (t : Dated) → date_numbers t ≡ get_or (date_numbers t) 0 0 ∷ get_or (date_numbers t) 1 0 ∷ get_or (date_numbers t) 2 0 ∷ []
-date_three dated.Absent = refl
-date_three (dated.On d) = refl
+date_three : (t : Option Date) → date_numbers t ≡ get_or (date_numbers t) 0 0 ∷ get_or (date_numbers t) 1 0 ∷ get_or (date_numbers t) 2 0 ∷ []
+date_three None = refl
+date_three (Some d) = refl
 
 -- a head's numbers one by one
 unfoldable each : Head → List ℕ
@@ -81,25 +74,25 @@ head_length h = rw (numbers_are h)
 -- ---- back
 
 -- lengths and dates that their numbers can tell
-abbrev pub TextSmall : Text → Type 0
-TextSmall text.Absent = Unit
-TextSmall (text.At s) = s.length < largest
+abbrev pub TextSmall : Option Span → Type 0
+TextSmall None = Unit
+TextSmall (Some s) = s.length < largest
 
-abbrev pub SourceSmall : SourceText → Type 0
-SourceSmall source.Absent = Unit
-SourceSmall (source.At s o) = (s.length < largest) × TextSmall o
+abbrev pub SourceSmall : Option SourceText → Type 0
+SourceSmall None = Unit
+SourceSmall (Some s) = (s.text.length < largest) × TextSmall s.organism
 
-abbrev pub ContigSmall : ContigText → Type 0
-ContigSmall contig.Absent = Unit
-ContigSmall (contig.At s row rows) = s.length < largest
+abbrev pub ContigSmall : Option ContigText → Type 0
+ContigSmall None = Unit
+ContigSmall (Some c) = c.text.length < largest
 
-abbrev pub LengthSmall : Length → Type 0
-LengthSmall bases.Absent = Unit
-LengthSmall (bases.Bases n) = n < 4294967296
+abbrev pub LengthSmall : Option ℕ → Type 0
+LengthSmall None = Unit
+LengthSmall (Some n) = n < 4294967296
 
-abbrev pub DateSmall : Dated → Type 0
-DateSmall dated.Absent = Unit
-DateSmall (dated.On d) = (1 ≤ d.day) × ((d.day ≤ 255) × ((d.month ≤ 255) × (d.year ≤ 65535)))
+abbrev pub DateSmall : Option Date → Type 0
+DateSmall None = Unit
+DateSmall (Some d) = (1 ≤ d.day) × ((d.day ≤ 255) × ((d.month ≤ 255) × (d.year ≤ 65535)))
 
 -- a u32 and a date's numbers are small by their types; a text in a room is; a day is at least 1
 pub record Small (h : Head) : Type 0 where
@@ -118,41 +111,41 @@ pub record Small (h : Head) : Type 0 where
 above_suc : (n : ℕ) → n < largest → above n ≡ suc n
 above_suc n k = let e : n + 1 ≡ suc n = omega arith in rw (lt-ltb n largest k, e)
 
-text_back : (t : Text) → TextSmall t → text_from (get_or (text_numbers t) 0 0) (get_or (text_numbers t) 1 0) ≡ t
-text_back text.Absent k = refl
-text_back (text.At s) k = rw (above_suc s.length k)
+text_back : (t : Option Span) → TextSmall t → text_from (get_or (text_numbers t) 0 0) (get_or (text_numbers t) 1 0) ≡ t
+text_back None k = refl
+text_back (Some s) k = rw (above_suc s.length k)
 
-source_back : (t : SourceText) → SourceSmall t →
+source_back : (t : Option SourceText) → SourceSmall t →
     source_from (get_or (source_numbers t) 0 0) (get_or (source_numbers t) 1 0) (text_from (get_or (source_numbers t) 2 0) (get_or (source_numbers t) 3 0)) ≡ t
-source_back source.Absent k = refl
-source_back (source.At s text.Absent) k = rw (above_suc s.length k.0)
-source_back (source.At s (text.At o)) k = rw (above_suc s.length k.0, above_suc o.length k.1)
+source_back None k = refl
+source_back (Some s) k = rw (above_suc s.text.length k.0, text_back s.organism k.1)
 
-contig_back : (t : ContigText) → ContigSmall t →
+contig_back : (t : Option ContigText) → ContigSmall t →
     contig_from (get_or (contig_numbers t) 0 0) (get_or (contig_numbers t) 1 0) (get_or (contig_numbers t) 2 0) (get_or (contig_numbers t) 3 0) ≡ t
-contig_back contig.Absent k = refl
-contig_back (contig.At s row rows) k = rw (above_suc s.length k)
+contig_back None k = refl
+contig_back (Some c) k = rw (above_suc c.text.length k)
 
-length_back : (t : Length) → length_from (get_or (length_numbers t) 0 0) ≡ t
-length_back bases.Absent = refl
-length_back (bases.Bases n) = let e : n + 1 ≡ suc n = omega arith in rw e
+length_back : (t : Option ℕ) → length_from (get_or (length_numbers t) 0 0) ≡ t
+length_back None = refl
+length_back (Some n) = let e : n + 1 ≡ suc n = omega arith in rw e
 
-length_fits_lem : (t : Length) → LengthSmall t → leb (get_or (length_numbers t) 0 0) 4294967296 ≡ true
-length_fits_lem bases.Absent k = le-leb 0 4294967296 (omega arith)
-length_fits_lem (bases.Bases n) k = le-leb (n + 1) 4294967296 (omega arith)
+length_fits_lem : (t : Option ℕ) → LengthSmall t → leb (get_or (length_numbers t) 0 0) 4294967296 ≡ true
+length_fits_lem None k = le-leb 0 4294967296 (omega arith)
+length_fits_lem (Some n) k = le-leb (n + 1) 4294967296 (omega arith)
 
 flag_back : (b : Bool) → not (eqb (flag b) 0) ≡ b
 flag_back true = refl
 flag_back false = refl
 
-date_back : (t : Dated) → DateSmall t → date_from (get_or (date_numbers t) 0 0) (get_or (date_numbers t) 1 0) (get_or (date_numbers t) 2 0) ≡ t
-date_back dated.Absent k = refl
-date_back (dated.On d) k =
+date_back : (t : Option Date) → DateSmall t → date_from (get_or (date_numbers t) 0 0) (get_or (date_numbers t) 1 0) (get_or (date_numbers t) 2 0) ≡ t
+date_back None k = refl
+date_back (Some d) k =
     let z : d.day ≡ 0 → ⊥ = λ e. omega (arith, k.0) in
     rw (ne_eqb d.day 0 z, le-ltb 255 d.day k.1.0, le-ltb 255 d.month k.1.1.0, le-ltb 65535 d.year k.1.1.1)
 
 -- a head is known by its fields
-same : (h : Head) (name molecule definition accession version dblink keywords : Text) (contig : ContigText) (length : Length) (circular : Bool) (date : Dated) (source : SourceText)
+same : (h : Head) (name molecule definition accession version dblink keywords : Option Span) (contig : Option ContigText) (length : Option ℕ) (circular : Bool)
+    (date : Option Date) (source : Option SourceText)
     → name ≡ h.name → molecule ≡ h.molecule → definition ≡ h.definition → accession ≡ h.accession → version ≡ h.version → dblink ≡ h.dblink
     → keywords ≡ h.keywords → contig ≡ h.contig → length ≡ h.length → circular ≡ h.circular → date ≡ h.date → source ≡ h.source
     → record {

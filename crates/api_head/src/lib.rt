@@ -7,8 +7,8 @@ ghost use Rattle.spec_contracts.specs.Numbers.{above, flag, text_numbers, source
 ghost use Rattle.spec_contracts.specs.Numbers.{text_in, span_in, source_from, source_in, contig_from, contig_in, length_from, on_date, date_from, date_in, head_in, outside, head_from};
 
 use base_arith::both;
-use base_pen::{put_four, put_number, put_two};
-use spec_format::{ContigText, Date, Dated, Head, Length, SourceText, Span, Text};
+use base_pen::{put, put_all};
+use spec_format::{ContigText, Date, Head, SourceText, Span};
 
 // ---- to numbers
 
@@ -21,60 +21,60 @@ fn plus_one(n: usize) -> usize
     n
 }
 
-fn put_text(out: &mut [usize], at: usize, text: Text) -> usize
+fn put_text(out: &mut [usize], at: usize, text: Option<Span>) -> usize
     ensures { Writes out.old at (text_numbers text) out.new result }
 {
     match text {
-        Text::Absent => put_two(out, at, 0, 0),
-        Text::At(span) => put_two(out, at, span.start, plus_one(span.length)),
+        None => put_all(out, at, &[0, 0]),
+        Some(span) => put_all(out, at, &[span.start, plus_one(span.length)]),
     }
 }
 
-fn put_source(out: &mut [usize], at: usize, source: SourceText) -> usize
+fn put_source(out: &mut [usize], at: usize, source: Option<SourceText>) -> usize
     ensures { Writes out.old at (source_numbers source) out.new result }
 {
     match source {
-        SourceText::Absent => put_four(out, at, 0, 0, 0, 0),
-        SourceText::At { text, organism } => {
-            let next = put_two(out, at, text.start, plus_one(text.length));
+        None => put_all(out, at, &[0, 0, 0, 0]),
+        Some(SourceText { text, organism }) => {
+            let next = put_all(out, at, &[text.start, plus_one(text.length)]);
             put_text(out, next, organism)
         }
     }
 }
 
-fn put_contig(out: &mut [usize], at: usize, contig: ContigText) -> usize
+fn put_contig(out: &mut [usize], at: usize, contig: Option<ContigText>) -> usize
     ensures { Writes out.old at (contig_numbers contig) out.new result }
 {
     match contig {
-        ContigText::Absent => put_four(out, at, 0, 0, 0, 0),
-        ContigText::At { text, row, rows } => {
-            put_four(out, at, text.start, plus_one(text.length), row, rows)
+        None => put_all(out, at, &[0, 0, 0, 0]),
+        Some(ContigText { text, row, rows }) => {
+            put_all(out, at, &[text.start, plus_one(text.length), row, rows])
         }
     }
 }
 
-fn put_length(out: &mut [usize], at: usize, length: Length) -> usize
+fn put_length(out: &mut [usize], at: usize, length: Option<u32>) -> usize
     ensures { Writes out.old at (length_numbers length) out.new result }
 {
     match length {
-        Length::Absent => put_number(out, at, 0),
-        Length::Bases(n) => put_number(out, at, n as usize + 1),
+        None => put(out, at, 0),
+        Some(n) => put(out, at, n as usize + 1),
     }
 }
 
 fn put_three(out: &mut [usize], at: usize, a: usize, b: usize, c: usize) -> usize
     ensures { Writes out.old at (a ∷ b ∷ c ∷ []) out.new result }
 {
-    let next = put_two(out, at, a, b);
-    put_number(out, next, c)
+    let next = put_all(out, at, &[a, b]);
+    put(out, next, c)
 }
 
-fn put_date(out: &mut [usize], at: usize, date: Dated) -> usize
+fn put_date(out: &mut [usize], at: usize, date: Option<Date>) -> usize
     ensures { Writes out.old at (date_numbers date) out.new result }
 {
     match date {
-        Dated::Absent => put_three(out, at, 0, 0, 0),
-        Dated::On(on) => put_three(
+        None => put_three(out, at, 0, 0, 0),
+        Some(on) => put_three(
             out,
             at,
             on.day as usize,
@@ -102,8 +102,8 @@ fn put_locus(out: &mut [usize], at: usize, head: Head) -> usize
     let a = put_text(out, at, name);
     let b = put_length(out, a, length);
     let c = put_text(out, b, molecule);
-    let d = put_number(out, c, flag_of(head.circular));
-    let e = put_two(out, d, division.start, division.length);
+    let d = put(out, c, flag_of(head.circular));
+    let e = put_all(out, d, &[division.start, division.length]);
     put_date(out, e, date)
 }
 
@@ -130,10 +130,10 @@ fn put_rest(out: &mut [usize], at: usize, head: Head) -> usize
     ensures { Writes out.old at (rest_numbers head) out.new result }
 {
     let contig = head.contig;
-    let a = put_two(out, at, head.references, head.comments);
-    let b = put_number(out, a, head.features);
+    let a = put_all(out, at, &[head.references, head.comments]);
+    let b = put(out, a, head.features);
     let c = put_contig(out, b, contig);
-    put_number(out, c, head.letters)
+    put(out, c, head.letters)
 }
 
 fn put_head(out: &mut [usize], at: usize, head: Head) -> usize
@@ -165,64 +165,64 @@ fn number_at(ns: &[usize], i: usize) -> usize
     0
 }
 
-fn text_from(start: usize, above: usize) -> Text
+fn text_from(start: usize, above: usize) -> Option<Span>
     ensures { result ≡ text_from start above }
 {
     if above == 0 {
-        return Text::Absent;
+        return None;
     }
-    Text::At(Span {
+    Some(Span {
         start: start,
         length: above - 1,
     })
 }
 
-fn text_at(ns: &[usize], i: usize) -> Text
+fn text_at(ns: &[usize], i: usize) -> Option<Span>
     requires { i ≤ 30 }
     ensures { result ≡ text_in ns.now i }
 {
     text_from(number_at(ns, i), number_at(ns, i + 1))
 }
 
-fn source_from(start: usize, above: usize, organism: Text) -> SourceText
+fn source_from(start: usize, above: usize, organism: Option<Span>) -> Option<SourceText>
     ensures { result ≡ source_from start above organism }
 {
     if above == 0 {
-        return SourceText::Absent;
+        return None;
     }
-    SourceText::At {
+    Some(SourceText {
         text: Span {
             start: start,
             length: above - 1,
         },
         organism: organism,
-    }
+    })
 }
 
-fn contig_from(start: usize, above: usize, row: usize, rows: usize) -> ContigText
+fn contig_from(start: usize, above: usize, row: usize, rows: usize) -> Option<ContigText>
     ensures { result ≡ contig_from start above row rows }
 {
     if above == 0 {
-        return ContigText::Absent;
+        return None;
     }
-    ContigText::At {
+    Some(ContigText {
         text: Span {
             start: start,
             length: above - 1,
         },
         row: row,
         rows: rows,
-    }
+    })
 }
 
-fn length_from(above: usize) -> Length
+fn length_from(above: usize) -> Option<u32>
     requires { above ≤ 4294967296 }
     ensures { result ≡ length_from above }
 {
     if above == 0 {
-        return Length::Absent;
+        return None;
     }
-    Length::Bases((above - 1) as u32)
+    Some((above - 1) as u32)
 }
 
 fn lower_byte(n: usize) -> u8
@@ -243,21 +243,21 @@ fn lower_pair(n: usize) -> u16
     n as u16
 }
 
-fn date_on(day: usize, month: usize, year: usize) -> Dated
+fn date_on(day: usize, month: usize, year: usize) -> Option<Date>
     ensures { result ≡ on_date day month year }
 {
-    Dated::On(Date {
+    Some(Date {
         day: lower_byte(day),
         month: lower_byte(month),
         year: lower_pair(year),
     })
 }
 
-fn date_from(day: usize, month: usize, year: usize) -> Dated
+fn date_from(day: usize, month: usize, year: usize) -> Option<Date>
     ensures { result ≡ date_from day month year }
 {
     if both(day == 0, both(month == 0, year == 0)) {
-        return Dated::Absent;
+        return None;
     }
     date_on(day, month, year)
 }
@@ -272,21 +272,21 @@ fn span_at(ns: &[usize], i: usize) -> Span
     }
 }
 
-fn date_at(ns: &[usize], i: usize) -> Dated
+fn date_at(ns: &[usize], i: usize) -> Option<Date>
     requires { i ≤ 30 }
     ensures { result ≡ date_in ns.now i }
 {
     date_from(number_at(ns, i), number_at(ns, i + 1), number_at(ns, i + 2))
 }
 
-fn source_at(ns: &[usize], i: usize) -> SourceText
+fn source_at(ns: &[usize], i: usize) -> Option<SourceText>
     requires { i ≤ 28 }
     ensures { result ≡ source_in ns.now i }
 {
     source_from(number_at(ns, i), number_at(ns, i + 1), text_at(ns, i + 2))
 }
 
-fn contig_at(ns: &[usize], i: usize) -> ContigText
+fn contig_at(ns: &[usize], i: usize) -> Option<ContigText>
     requires { i ≤ 28 }
     ensures { result ≡ contig_in ns.now i }
 {
@@ -299,7 +299,7 @@ fn contig_at(ns: &[usize], i: usize) -> ContigText
 }
 
 // The head of 33 numbers.
-fn head_in(ns: &[usize], length: Length) -> Head
+fn head_in(ns: &[usize], length: Option<u32>) -> Head
     requires { length ≡ length_from (get_or ns.now 2 0) }
     ensures { result ≡ head_in ns.now }
 {
@@ -328,25 +328,25 @@ fn no_head() -> Head
     ensures { result ≡ outside }
 {
     Head {
-        name: Text::Absent,
-        length: Length::Absent,
-        molecule: Text::Absent,
+        name: None,
+        length: None,
+        molecule: None,
         circular: false,
         division: Span {
             start: usize::MAX,
             length: 0,
         },
-        date: Dated::Absent,
-        definition: Text::Absent,
-        accession: Text::Absent,
-        version: Text::Absent,
-        dblink: Text::Absent,
-        keywords: Text::Absent,
-        source: SourceText::Absent,
+        date: None,
+        definition: None,
+        accession: None,
+        version: None,
+        dblink: None,
+        keywords: None,
+        source: None,
         references: 0,
         comments: 0,
         features: 0,
-        contig: ContigText::Absent,
+        contig: None,
         letters: 0,
     }
 }

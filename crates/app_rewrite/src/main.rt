@@ -4,39 +4,37 @@
 
 mod rewriting;
 
-use app_options::{Asked, Options};
+use app_options::Options;
+use app_rooms::{COMMENTS, INPUT, LOCATIONS, OUT, QUALIFIERS, REFERENCES, Rooms, TEXTS, room};
 use std::io;
 
-fn help(rt: &HostRuntime) -> io::Result<()> {
-    eprintln!(rt;
-        "usage: rewrite [FILE] [WIDTH] [keep] [truncate] [escape] [strict]   (WIDTH: 60 to 132, else 80)"
-    )
-}
-
 fn rewrite_input(rt: &HostRuntime, options: Options) -> io::Result<()> {
-    let mut input = app_rooms::input_room();
-    let mut texts = app_rooms::text_room();
-    let mut references = app_rooms::reference_room();
-    let mut comments = app_rooms::comment_room();
-    let mut qualifiers = app_rooms::qualifier_room();
-    let mut locations = app_rooms::location_room();
-    let mut letters = app_rooms::text_room();
-    let mut out = app_rooms::out_room();
+    let mut input: [u8; INPUT] = room(0);
+    let mut texts: [u8; TEXTS] = room(0);
+    let mut references: [usize; REFERENCES] = room(0);
+    let mut comments: [usize; COMMENTS] = room(0);
+    let mut qualifiers: [usize; QUALIFIERS] = room(0);
+    let mut locations: [usize; LOCATIONS] = room(0);
+    let mut letters: [u8; TEXTS] = room(0);
+    let mut out: [u8; OUT] = room(0);
     let n = app_rooms::fill(&mut rt.stdin(), &mut input)?;
     if 524288 < n {
         return eprintln!(rt; "the input is longer than 524,288 bytes");
     }
+    let mut rooms = Rooms {
+        texts: &mut texts,
+        references: &mut references,
+        comments: &mut comments,
+        qualifiers: &mut qualifiers,
+        locations: &mut locations,
+        letters: &mut letters,
+    };
     rewriting::rewrite_all(
         rt,
         &mut rt.stdout(),
         &mut rt.stderr(),
         &input[..n],
-        &mut texts,
-        &mut references,
-        &mut comments,
-        &mut qualifiers,
-        &mut locations,
-        &mut letters,
+        &mut rooms,
         &mut out,
         options,
     )
@@ -44,7 +42,9 @@ fn rewrite_input(rt: &HostRuntime, options: Options) -> io::Result<()> {
 
 fn main(rt: HostRuntime) -> io::Result<()> {
     match app_options::options_asked(&rt) {
-        Asked::Nothing => help(&rt),
-        Asked::Options(options) => rewrite_input(&rt, options),
+        Some(options) => rewrite_input(&rt, options),
+        None => eprintln!(rt;
+            "usage: rewrite [FILE] [WIDTH] [keep] [truncate] [escape] [strict]   (WIDTH: 60 to 132, else 80)"
+        ),
     }
 }

@@ -1,5 +1,4 @@
-// Rooms that a stack of 8 MiB holds: an input and a record of up to 524,288 bytes, 1,024 references and comments, 32,768 qualifiers, 16,384 location rows. Their
-// contracts say their lengths alone, so that a proof about a program does not write them out.
+// Rooms that a stack of 8 MiB holds: an input and a record of up to 524,288 bytes, 1,024 references and comments, 32,768 qualifiers, 16,384 location rows; and an input read into one.
 #![tactic(auto)]
 
 ghost use Rattle.std.specs.Prelude.{length, ◌≡◌, ◌≤◌, IfOk};
@@ -8,52 +7,39 @@ use std::io;
 use std::io::Read;
 
 // The input, and one byte by which a longer one is known.
-pub fn input_room() -> [u8; 524289]
-    ensures { 524289 ≡ length result }
-{
-    [0u8; 524289]
-}
+pub const INPUT: usize = 524289;
 
 // Texts, or letters.
-pub fn text_room() -> [u8; 524288]
-    ensures { 524288 ≡ length result }
-{
-    [0u8; 524288]
-}
+pub const TEXTS: usize = 524288;
 
-// 14 numbers a row.
-pub fn reference_room() -> [usize; 14336]
-    ensures { 14336 ≡ length result }
-{
-    [0usize; 14336]
-}
+// 14, 2, 4 and 7 numbers a row.
+pub const REFERENCES: usize = 14336;
 
-// 2 numbers a row.
-pub fn comment_room() -> [usize; 2048]
-    ensures { 2048 ≡ length result }
-{
-    [0usize; 2048]
-}
+pub const COMMENTS: usize = 2048;
 
-// 4 numbers a row.
-pub fn qualifier_room() -> [usize; 131072]
-    ensures { 131072 ≡ length result }
-{
-    [0usize; 131072]
-}
+pub const QUALIFIERS: usize = 131072;
 
-// 7 numbers a row.
-pub fn location_room() -> [usize; 114688]
-    ensures { 114688 ≡ length result }
-{
-    [0usize; 114688]
-}
+pub const LOCATIONS: usize = 114688;
 
 // What is written: four times the input.
-pub fn out_room() -> [u8; 2097152]
-    ensures { 2097152 ≡ length result }
+pub const OUT: usize = 2097152;
+
+// What a record is read into, but for its features.
+#[derive(Drop)]
+pub struct Rooms<'a> {
+    pub texts: &'a mut [u8],
+    pub references: &'a mut [usize],
+    pub comments: &'a mut [usize],
+    pub qualifiers: &'a mut [usize],
+    pub locations: &'a mut [usize],
+    pub letters: &'a mut [u8],
+}
+
+// An empty room of N items. The contract says its length alone, so that a proof about a program does not write it out.
+pub fn room<T: Copy, const N: usize>(empty: T) -> [T; N]
+    ensures { N ≡ length result }
 {
-    [0u8; 2097152]
+    [empty; N]
 }
 
 // Reads until the room is full or the input ends; how many bytes then stand at the room's start.

@@ -8,9 +8,7 @@ ghost use Rattle.spec_format.specs.Rooms.{rooms_in};
 
 use base_rows::Feature;
 use spec_contracts::Reported;
-use spec_format::{
-    ContigText, Dated, Head, How, Length, ReadAnswer, SourceText, Span, Text, WriteAnswer,
-};
+use spec_format::{Head, How, ReadAnswer, Span, WriteAnswer};
 
 // What the reader answered, with the line that it tells, and then the writer.
 #[derive(Clone, Copy)]
@@ -40,25 +38,25 @@ fn no_head() -> Head
     ensures { result ≡ empty_head }
 {
     Head {
-        name: Text::Absent,
-        length: Length::Absent,
-        molecule: Text::Absent,
+        name: None,
+        length: None,
+        molecule: None,
         circular: false,
         division: Span {
             start: 0,
             length: 0,
         },
-        date: Dated::Absent,
-        definition: Text::Absent,
-        accession: Text::Absent,
-        version: Text::Absent,
-        dblink: Text::Absent,
-        keywords: Text::Absent,
-        source: SourceText::Absent,
+        date: None,
+        definition: None,
+        accession: None,
+        version: None,
+        dblink: None,
+        keywords: None,
+        source: None,
         references: 0,
         comments: 0,
         features: 0,
-        contig: ContigText::Absent,
+        contig: None,
         letters: 0,
     }
 }
@@ -78,12 +76,7 @@ fn head_of(answer: ReadAnswer) -> Head
 fn how_after(answer: ReadAnswer, how: How) -> How
     ensures { result ≡ how_after answer how }
 {
-    let not_at_all = How {
-        keeping: how.keeping,
-        width: 0,
-        truncate: how.truncate,
-        escape: how.escape,
-    };
+    let not_at_all = How { width: 0, ..how };
     match answer {
         ReadAnswer::Done { head: _, place: _ } => how,
         ReadAnswer::Refused(_) => not_at_all,
@@ -112,14 +105,10 @@ pub fn read_and_write(
     let read = read_record::read(
         s, at, strict, texts, references, comments, &mut rows, qualifiers, locations, letters,
     );
-    let answer = read.answer;
-    let head = head_of(answer);
-    let after = how_after(answer, how);
+    let head = head_of(read.answer);
+    let after = how_after(read.answer, how);
     let wrote = write_record::write(
         out, texts, references, comments, &rows, qualifiers, locations, letters, head, after,
     );
-    Round {
-        read: read,
-        wrote: wrote,
-    }
+    Round { read, wrote }
 }

@@ -3,148 +3,31 @@
 // what such a call writes comes back (`still_the_same` of spec_demands). Each record's line, and the message where one is due, go to the same writer, which is lent.
 use app_lines::Message;
 use app_options::Options;
-use app_round::Round;
-use spec_format::{Head, How, MOST, ReadAnswer, Text, WriteAnswer};
+use app_rooms::Rooms;
+use spec_format::{How, MOST, ReadAnswer, Span};
 use std::env::Env;
 use std::io;
 use std::io::Write;
 
-// How a record went.
-#[derive(Clone, Copy)]
-enum Judged {
-    // It was read and judged, and the next one starts there.
-    On(usize),
-    // It was not read, and that was told.
-    Stop,
-}
-
-fn refusal(options: Options, ordinal: usize, number: usize) -> Message {
-    Message {
-        ordinal: ordinal,
-        number: number,
-        columns: options.columns,
-        name: options.name,
-    }
-}
-
-fn show_ordinal<W: Write>(output: &mut W, ordinal: usize) -> io::Result<()> {
-    write!(output, "record {ordinal}")
-}
-
-// A part of the store, after a comma; nothing where it is none.
-fn show_part<W: Write>(output: &mut W, texts: &[u8], start: usize, n: usize) -> io::Result<()> {
-    if texts.len() < start {
+// The record's name after a comma, if it has one.
+fn show_name<W: Write>(output: &mut W, texts: &[u8], name: Option<Span>) -> io::Result<()> {
+    let Some(text) = name.and_then(|span| texts.get(span.start..)?.get(..span.length)) else {
         return Ok(());
-    }
-    if texts.len() - start < n {
-        return Ok(());
-    }
+    };
     output.write_all(b", ")?;
-    output.write_all(&texts[start..start + n])
+    output.write_all(text)
 }
 
-// The record's name, if it has one.
-fn show_name<W: Write>(output: &mut W, texts: &[u8], name: Text) -> io::Result<()> {
-    match name {
-        Text::Absent => Ok(()),
-        Text::At(span) => show_part(output, texts, span.start, span.length),
-    }
-}
-
-// Whether the reader takes as many bytes as the keeping writer would write.
-fn show_length<W: Write>(output: &mut W, n: usize) -> io::Result<()> {
-    if MOST < n {
-        return output.write_all(b": longer than 16,777,216 bytes when written\n");
-    }
-    output.write_all(b": kept\n")
-}
-
-// A record that no number refuses.
-fn show_judged<W: Write>(
-    output: &mut W,
-    texts: &[u8],
-    head: Head,
-    ordinal: usize,
-    n: usize,
-) -> io::Result<()> {
-    let name = head.name;
-    show_ordinal(output, ordinal)?;
-    show_name(output, texts, name)?;
-    show_length(output, n)
-}
-
-// What the keeping writer answers, measured: the bytes that it would write, or the number of the refusal.
-fn judge<E: Env, W: Write>(
-    env: &E,
-    output: &mut W,
-    input: &[u8],
-    at: usize,
-    texts: &[u8],
-    head: Head,
-    answer: WriteAnswer,
-    options: Options,
-    ordinal: usize,
-) -> io::Result<()> {
-    let number = base_numbers::write_number(answer);
-    if 6 < number {
-        return app_lines::tell_unwritten(env, output, input, at, refusal(options, ordinal, number));
-    }
-    show_judged(
-        output,
-        texts,
-        head,
-        ordinal,
-        base_numbers::write_value(answer),
-    )
-}
-
-// What is said of a record that was read, or not.
-fn judge_round<E: Env, W: Write>(
-    env: &E,
-    output: &mut W,
-    round: Round,
-    input: &[u8],
-    at: usize,
-    texts: &[u8],
-    options: Options,
-    ordinal: usize,
-) -> io::Result<Judged> {
-    let reported = round.read;
-    let answer = reported.answer;
-    let spot = reported.spot;
-    let wrote = round.wrote;
-    match answer {
-        ReadAnswer::Room(_) => {
-            app_lines::tell_unread(env, output, input, spot, refusal(options, ordinal, 6))?;
-            Ok(Judged::Stop)
-        }
-        ReadAnswer::Refused(why) => {
-            let number = base_numbers::unread_number(why);
-            app_lines::tell_unread(env, output, input, spot, refusal(options, ordinal, number))?;
-            Ok(Judged::Stop)
-        }
-        ReadAnswer::Done { head, place } => {
-            judge(env, output, input, at, texts, head, wrote, options, ordinal)?;
-            Ok(Judged::On(place))
-        }
-    }
-}
-
+// The record at a place: where the next one starts, if it was read and judged. If it was not read, that is told.
 fn judge_at<E: Env, W: Write>(
     env: &E,
     output: &mut W,
     input: &[u8],
     at: usize,
-    texts: &mut [u8],
-    references: &mut [usize],
-    comments: &mut [usize],
-    qualifiers: &mut [usize],
-    locations: &mut [usize],
-    letters: &mut [u8],
+    rooms: &mut Rooms<'_>,
     options: Options,
     ordinal: usize,
-) -> io::Result<Judged> {
-    let mut none = [0u8; 0];
+) -> io::Result<Option<usize>> {
     let how = How {
         keeping: true,
         width: options.width,
@@ -155,16 +38,39 @@ fn judge_at<E: Env, W: Write>(
         input,
         at,
         options.strict,
-        texts,
-        references,
-        comments,
-        qualifiers,
-        locations,
-        letters,
-        &mut none,
+        rooms.texts,
+        rooms.references,
+        rooms.comments,
+        rooms.qualifiers,
+        rooms.locations,
+        rooms.letters,
+        &mut [],
         how,
     );
-    judge_round(env, output, round, input, at, texts, options, ordinal)
+    let refused = |number| Message {
+        ordinal,
+        number,
+        options,
+    };
+    let ReadAnswer::Done { head, place } = round.read.answer else {
+        let message = refused(base_numbers::read_number(round.read.answer));
+        message.tell_unread(env, output, input, round.read.spot)?;
+        return Ok(None);
+    };
+    let number = base_numbers::write_number(round.wrote);
+    if 6 < number {
+        refused(number).tell_unwritten(env, output, input, at)?;
+        return Ok(Some(place));
+    }
+    write!(output, "record {ordinal}")?;
+    show_name(output, rooms.texts, head.name)?;
+    // Whether the reader takes as many bytes as the keeping writer would write.
+    if MOST < base_numbers::write_value(round.wrote) {
+        output.write_all(b": longer than 16,777,216 bytes when written\n")?;
+    } else {
+        output.write_all(b": kept\n")?;
+    }
+    Ok(Some(place))
 }
 
 // All records of the input. A record takes a byte at least, so there are no more records than bytes.
@@ -172,12 +78,7 @@ pub fn judge_all<E: Env, W: Write>(
     env: &E,
     output: &mut W,
     input: &[u8],
-    texts: &mut [u8],
-    references: &mut [usize],
-    comments: &mut [usize],
-    qualifiers: &mut [usize],
-    locations: &mut [usize],
-    letters: &mut [u8],
+    rooms: &mut Rooms<'_>,
     options: Options,
 ) -> io::Result<()> {
     let mut at = 0;
@@ -185,13 +86,10 @@ pub fn judge_all<E: Env, W: Write>(
         if at == input.len() {
             break;
         }
-        match judge_at(
-            env, output, input, at, texts, references, comments, qualifiers, locations, letters,
-            options, ordinal,
-        )? {
-            Judged::Stop => break,
-            Judged::On(next) => at = next,
-        }
+        let Some(next) = judge_at(env, output, input, at, rooms, options, ordinal)? else {
+            break;
+        };
+        at = next;
     }
     Ok(())
 }

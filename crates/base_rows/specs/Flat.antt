@@ -1,30 +1,14 @@
 -- What is found in rows, and rows as flat numbers: how many there are, what a stored row changes, where a row stands, and that they tell the rows.
-use Rattle.std.specs.Prelude.{ℕ, zero, suc, ◌+◌, ◌*◌, ◌≤◌, ◌<◌, ◌≡◌, refl, List, [], ◌∷◌, ◌++◌, length, get_or, set, drop}
-use Rattle.std.proofs.Common.{not-suc-le-zero, le_of_suc-le-suc, arith, ap, subst, ◌∙◌}
+use Rattle.std.specs.Prelude.{ℕ, zero, suc, ◌+◌, ◌*◌, ◌≤◌, ◌≡◌, refl, List, [], ◌∷◌, ◌++◌, length, get_or, set, drop, Some, None, slice_get}
+use Rattle.std.proofs.Common.{arith, ap, subst, ◌∙◌}
 use Rattle.std.proofs.lemmas.List.Edits.{sets}
 use Rattle.base_rows.specs.declared.Feature.{Feature}
-use Rattle.base_rows.specs.declared.Fetched.TheVariants.{Row, Outside}
-use Rattle.base_rows.specs.Rows.{row_at, numbers, flat}
+use Rattle.base_rows.specs.Rows.{numbers, flat}
 use Rattle.spec_format.specs.Impossible.{impossible}
 
 -- ---- what is found
 
-pub row_within : (rows : List Feature) (i : ℕ) (d : Feature) → i < length rows → Row (get_or rows i d) ≡ row_at rows i
-row_within [] i d h = absurd (not-suc-le-zero h)
-row_within (x ∷ xs) zero d h = refl
-row_within (x ∷ xs) (suc i) d h = row_within xs i d (le_of_suc-le-suc h)
-
-pub row_past : (rows : List Feature) (i : ℕ) → length rows ≤ i → Outside ≡ row_at rows i
-row_past [] i h = refl
-row_past (x ∷ xs) zero h = absurd (not-suc-le-zero h)
-row_past (x ∷ xs) (suc i) h = row_past xs i (le_of_suc-le-suc h)
-
-pub fetched_within : (rows : List Feature) (i : ℕ) (f : Feature) → row_at rows i ≡ Row f → i < length rows
-fetched_within [] i f e = impossible cc
-fetched_within (x ∷ rows) zero f e = omega arith
-fetched_within (x ∷ rows) (suc i) f e = let h : i < length rows = fetched_within rows i f e in omega arith
-
-pub fetched_outside : (rows : List Feature) (i : ℕ) → row_at rows i ≡ Outside → length rows ≤ i
+pub fetched_outside : (rows : List Feature) (i : ℕ) → slice_get rows i ≡ None → length rows ≤ i
 fetched_outside [] i e = omega arith
 fetched_outside (x ∷ rows) zero e = impossible cc
 fetched_outside (x ∷ rows) (suc i) e = let h : length rows ≤ i = fetched_outside rows i e in omega arith
@@ -79,7 +63,7 @@ later_stands x rows i f h =
     }
 
 -- what was fetched stands there
-pub fetched_stands : (rows : List Feature) (i : ℕ) (f : Feature) → row_at rows i ≡ Row f → Standing (flat rows) (8 * i) f
+pub fetched_stands : (rows : List Feature) (i : ℕ) (f : Feature) → slice_get rows i ≡ Some f → Standing (flat rows) (8 * i) f
 fetched_stands [] i f e = impossible cc
 fetched_stands (x ∷ rows) zero f e = let q : x ≡ f = cc in subst (λ (y : Feature). Standing (flat (x ∷ rows)) (8 * 0) y) q (first_stands x rows)
 fetched_stands (x ∷ rows) (suc i) f e = later_stands x rows i f (fetched_stands rows i f e)

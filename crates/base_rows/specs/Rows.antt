@@ -1,13 +1,6 @@
--- Rows of features as structs: what storing and fetching one means, and the flat numbers, eight to a row, that they stand for.
-use Rattle.std.specs.Prelude.{ℕ, zero, suc, ◌≡◌, Bool, List, [], ◌∷◌, ◌++◌, ltb, length, set}
+-- Rows of features as structs: what storing one means, and the flat numbers, eight to a row, that they stand for.
+use Rattle.std.specs.Prelude.{ℕ, ◌≡◌, Bool, List, [], ◌∷◌, ◌++◌, ltb, length, set}
 use Rattle.base_rows.specs.declared.Feature.{Feature}
-use Rattle.base_rows.specs.declared.Fetched.{Fetched}
-use Rattle.base_rows.specs.declared.Fetched.TheVariants.{Row, Outside}
-
-abbrev pub row_at : List Feature → ℕ → Fetched
-row_at [] i = Outside
-row_at (x ∷ xs) zero = Row x
-row_at (x ∷ xs) (suc i) = row_at xs i
 
 -- `set` past the end changes nothing
 pub record Stored (old : List Feature) (i : ℕ) (row : Feature) (new : List Feature) (r : Bool) : Type 0 where

@@ -1,8 +1,8 @@
 // Feature rows as structs in lent room, and the two thin functions that store and fetch one. An index outside the room is answered.
 #![tactic(auto)]
 
-ghost use Rattle.std.specs.Prelude.{◌≡◌};
-ghost use Rattle.base_rows.specs.Rows.{row_at, Stored};
+ghost use Rattle.std.specs.Prelude.{◌≡◌, slice_get};
+ghost use Rattle.base_rows.specs.Rows.{Stored};
 
 use spec_format::Span;
 
@@ -18,20 +18,11 @@ pub struct Feature {
     pub rows: usize,
 }
 
-#[derive(Clone, Copy)]
-pub enum Fetched {
-    Row(Feature),
-    Outside,
-}
-
-pub fn fetch_row(rows: &[Feature], at: usize) -> Fetched
-    ensures { result ≡ row_at rows.now at }
+// The row at `at`, if there is one.
+pub fn fetch_row(rows: &[Feature], at: usize) -> Option<Feature>
+    ensures { result ≡ slice_get rows.now at }
 {
-    if at < rows.len() {
-        Fetched::Row(rows[at])
-    } else {
-        Fetched::Outside
-    }
+    rows.get(at).copied()
 }
 
 // Whether there is a row i; where there is none, the rows stay as they are.

@@ -11,10 +11,6 @@ use Rattle.judge_header.specs.declared.Rule.{Rule}
 use Rattle.judge_header.specs.declared.Rule.TheVariants as rule
 use Rattle.spec_format.specs.Record.{most}
 
-abbrev pub width_of : Rule → ℕ
-width_of (rule.Fine W) = W
-width_of (rule.Kept W) = W
-
 abbrev pub kind_of : Rule → List ℕ → Bool
 kind_of (rule.Fine W) k = kind_fine W k
 kind_of (rule.Kept W) k = kind_kept k

@@ -1,9 +1,7 @@
 -- What a rule asks of header texts, and what is known of the rooms where they lie.
-use Rattle.std.specs.Prelude.{ℕ, ◌+◌, ◌*◌, ◌≤◌, ◌<◌, Bool, ◌&&◌, List, length}
+use Rattle.std.specs.Prelude.{ℕ, ◌+◌, ◌*◌, ◌≤◌, ◌<◌, Bool, List, length}
 use Rattle.spec_format.specs.Rooms.{Rooms}
-use Rattle.spec_format.specs.Table.{Reference}
 use Rattle.spec_format.specs.Utf8.{utf8}
-use Rattle.spec_format.specs.WellFormed.{if_is}
 use Rattle.spec_format.specs.Keeping.{header_kept}
 use Rattle.spec_format.specs.declared.Head.{Head}
 use Rattle.judge_rooms.specs.Facts.{TextIn, SourceIn, RowText, RowPerhaps, ReferenceIn, RoomsIn}
@@ -14,10 +12,6 @@ use Rattle.spec_format.specs.Record.{most}
 abbrev pub header_of : Rule → List ℕ → Bool
 header_of (rule.Fine W) t = utf8 t
 header_of (rule.Kept W) t = header_kept W t
-
--- the texts of a reference from its title on, as `reference_texts` of the format tests them
-abbrev pub reference_end : (List ℕ → Bool) → Reference → Bool
-reference_end p r = p r.title && (if_is p r.journal && (if_is p r.pubmed && if_is p r.remark))
 
 pub record Known (texts : List ℕ) (start n : ℕ) : Type 0 where
   pub small : length texts ≤ most

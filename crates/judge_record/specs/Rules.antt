@@ -1,18 +1,11 @@
 -- Numbers 11 and 13 as the functions test them, and that they are those of the format.
-use Rattle.std.specs.Prelude.{ℕ, ◌≡◌, refl, Bool, true, false, ◌&&◌, List}
-use Rattle.spec_format.specs.Bytes.{all, some, printing, but}
+use Rattle.std.specs.Prelude.{ℕ, ◌≡◌, refl, Bool, true, false, ◌&&◌}
+use Rattle.spec_format.specs.Bytes.{all, some, printing}
 use Rattle.spec_format.specs.Table.{Locus, Table}
 use Rattle.spec_format.specs.Utf8.{utf8}
 use Rattle.spec_format.specs.Write.{printed_name}
 use Rattle.spec_format.specs.WellFormed.{if_is, date_fine, header_texts, feature_fine, contig_fine, letters_fine, locus_fine, well_formed}
-use Rattle.spec_format.specs.Keeping.{spaceless, keeps}
-use Rattle.judge_record.specs.declared.Test.{Test}
-use Rattle.judge_record.specs.declared.Test.TheVariants as test
-
-abbrev pub test_of : Test → List ℕ → Bool
-test_of test.Printing t = all printing t
-test_of test.Spaceless t = spaceless t
-test_of test.Colonless t = all (but 58) t
+use Rattle.spec_format.specs.Keeping.{keeps}
 
 abbrev pub locus_prints : Locus → Bool
 locus_prints l = all printing l.division && (if_is (all printing) l.molecule && date_fine l.date)

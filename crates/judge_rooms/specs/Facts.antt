@@ -1,22 +1,16 @@
 -- What is known of rooms and a head for which number 10 is not due.
-use Rattle.std.specs.Prelude.{ℕ, zero, suc, ◌+◌, ◌-◌, ◌*◌, ◌/◌, ◌≤◌, ◌<◌, ◌≡◌, refl, Bool, true, false, ◌&&◌, List, length, get_or, eqb}
+use Rattle.std.specs.Prelude.{ℕ, zero, suc, ◌+◌, ◌-◌, ◌*◌, ◌/◌, ◌≤◌, ◌<◌, ◌≡◌, refl, Bool, true, false, ◌&&◌, List, length, get_or, eqb, Option, Some, None}
 use Rattle.std.proofs.lemmas.Bool.{false≢true}
 use Rattle.std.proofs.Common.{arith, lt_of_not-le, leb-true, eqb-true, ne_eqb}
 use Rattle.std.proofs.Math.Decide.{dec_le}
 use Rattle.spec_format.specs.Record.{most}
 use Rattle.spec_format.specs.Rooms.{Rooms, span_fine, text_fine, source_fine, contig_text_fine, row_text_fine, row_perhaps_fine, rows_fine, reference_row_fine, comment_row_fine, qualifier_row_fine, qualifiers_fine, features_fine, lengths_fine, head_fine, counts_fine}
 use Rattle.spec_format.specs.declared.Span.{Span}
-use Rattle.spec_format.specs.declared.Text.{Text}
-use Rattle.spec_format.specs.declared.Text.TheVariants as text
 use Rattle.spec_format.specs.declared.SourceText.{SourceText}
-use Rattle.spec_format.specs.declared.SourceText.TheVariants as source
 use Rattle.spec_format.specs.declared.ContigText.{ContigText}
-use Rattle.spec_format.specs.declared.ContigText.TheVariants as contig
 use Rattle.spec_format.specs.declared.Head.{Head}
 use Rattle.judge_rooms.specs.Parts.{feature_next}
 use Rattle.judge_rooms.specs.Steps.{and_left, and_right, span_within, rows_each, feature_located, features_step, after_next}
-use Rattle.judge_rooms.specs.declared.Next.{Next}
-use Rattle.judge_rooms.specs.declared.Next.TheVariants as next
 use Rattle.spec_format.specs.Impossible.{impossible}
 
 -- ---- the facts
@@ -24,17 +18,17 @@ use Rattle.spec_format.specs.Impossible.{impossible}
 abbrev pub SpanIn : List ℕ → Span → Type 0
 SpanIn store s = s.start + s.length ≤ length store
 
-abbrev pub TextIn : List ℕ → Text → Type 0
-TextIn store text.Absent = Unit
-TextIn store (text.At s) = SpanIn store s
+abbrev pub TextIn : List ℕ → Option Span → Type 0
+TextIn store None = Unit
+TextIn store (Some s) = SpanIn store s
 
-abbrev pub SourceIn : List ℕ → SourceText → Type 0
-SourceIn store source.Absent = Unit
-SourceIn store (source.At s o) = SpanIn store s × TextIn store o
+abbrev pub SourceIn : List ℕ → Option SourceText → Type 0
+SourceIn store None = Unit
+SourceIn store (Some s) = SpanIn store s.text × TextIn store s.organism
 
-abbrev pub ContigIn : List ℕ → ContigText → Type 0
-ContigIn store contig.Absent = Unit
-ContigIn store (contig.At s row rows) = SpanIn store s
+abbrev pub ContigIn : List ℕ → Option ContigText → Type 0
+ContigIn store None = Unit
+ContigIn store (Some c) = SpanIn store c.text
 
 -- the text whose start and length stand at a place of a room of rows
 abbrev pub RowText : List ℕ → List ℕ → ℕ → Type 0
@@ -105,20 +99,20 @@ pub record RoomsIn (r : Rooms) (h : Head) : Type 0 where
 
 -- ---- from the tests
 
-text_in : (store : List ℕ) (t : Text) → text_fine (length store) t ≡ true → TextIn store t
-text_in store text.Absent h = tt
-text_in store (text.At s) h = span_within _ _ _ h
+text_in : (store : List ℕ) (t : Option Span) → text_fine (length store) t ≡ true → TextIn store t
+text_in store None h = tt
+text_in store (Some s) h = span_within _ _ _ h
 
-source_in : (store : List ℕ) (t : SourceText) → source_fine (length store) t ≡ true → SourceIn store t
-source_in store source.Absent h = tt
-source_in store (source.At s o) h = (
-  span_within _ _ _ (and_left (span_fine (length store) s.start s.length) (text_fine (length store) o) h),
-  text_in store o (and_right (span_fine (length store) s.start s.length) (text_fine (length store) o) h),
+source_in : (store : List ℕ) (t : Option SourceText) → source_fine (length store) t ≡ true → SourceIn store t
+source_in store None h = tt
+source_in store (Some s) h = (
+  span_within _ _ _ (and_left (span_fine (length store) s.text.start s.text.length) (text_fine (length store) s.organism) h),
+  text_in store s.organism (and_right (span_fine (length store) s.text.start s.text.length) (text_fine (length store) s.organism) h),
 )
 
-pub contig_in_lem : (r : Rooms) (c : ContigText) → contig_text_fine r c ≡ true → ContigIn r.texts c
-contig_in_lem r contig.Absent h = tt
-contig_in_lem r (contig.At s row rows) h = span_within _ _ _ (and_left (span_fine (length r.texts) s.start s.length) _ h)
+pub contig_in_lem : (r : Rooms) (c : Option ContigText) → contig_text_fine r c ≡ true → ContigIn r.texts c
+contig_in_lem r None h = tt
+contig_in_lem r (Some c) h = span_within _ _ _ (and_left (span_fine (length r.texts) c.text.start c.text.length) _ h)
 
 perhaps_in_lem : (r : Rooms) (rows : List ℕ) (at : ℕ) → row_perhaps_fine r rows at ≡ true → RowPerhaps r.texts rows at
 perhaps_in_lem r rows at h l = span_within _ _ _ (rw (ne_eqb (get_or rows (at + 1) 0) 0 (λ e. omega arith)) at h)
@@ -190,14 +184,14 @@ qualifiers_in_lem r from first count h =
     record { inside = omega arith; each = λ j p q. qualifier_in_lem r (4 * j) (rows_each (qualifier_row_fine r) 4 first count j e p q) }
 
 -- the feature at a place, after which another may stand
-pub feature_in_lem : (r : Rooms) (at from f : ℕ) → feature_next r at from ≡ next.From f → FeatureIn r at
+pub feature_in_lem : (r : Rooms) (at from f : ℕ) → feature_next r at from ≡ Some f → FeatureIn r at
 unfolding feature_next
 feature_in_lem r at from f h = go _ refl _ refl _ refl
   where
     go : (x : Bool) → (row_text_fine r r.features at && row_text_fine r r.features (at + 2)) ≡ x → (y : Bool)
         → eqb (get_or r.features (at + 5) 0) 0 ≡ y → (z : Bool)
         → qualifiers_fine r from (get_or r.features (at + 4) 0) (get_or r.features (at + 5) 0) ≡ z → FeatureIn r at
-    go false p y q z s = let e : next.Wrong ≡ next.From f = rw p at h in impossible cc
+    go false p y q z s = let e : None ≡ Some f = rw p at h in impossible cc
     go true p true q z s =
         record {
           kind = span_within _ _ _ (and_left _ _ p);
@@ -210,16 +204,16 @@ feature_in_lem r at from f h = go _ refl _ refl _ refl
           location = span_within _ _ _ (and_right (row_text_fine r r.features at) _ p);
           qualifiers = λ l. qualifiers_in_lem r from _ _ s;
         }
-    go true p false q false s = let e : next.Wrong ≡ next.From f = rw (p, q, s) at h in impossible cc
+    go true p false q false s = let e : None ≡ Some f = rw (p, q, s) at h in impossible cc
 
 pub features_each : (r : Rooms) (i from n j : ℕ) → features_fine r i from n ≡ true → i ≤ j → j < i + n → FeatureIn r (8 * j)
 features_each r i from zero j h p q = absurd (omega arith)
 features_each r i from (suc n) j h p q = go (feature_next r (8 * i) from) refl (rw features_step at h) (λ f. features_each r (i + 1) f n j)
   where
-    go : (o : Next) → feature_next r (8 * i) from ≡ o → after_next r i n (feature_next r (8 * i) from) ≡ true
+    go : (o : Option ℕ) → feature_next r (8 * i) from ≡ o → after_next r i n (feature_next r (8 * i) from) ≡ true
         → ((f : ℕ) → features_fine r (i + 1) f n ≡ true → i + 1 ≤ j → j < i + 1 + n → FeatureIn r (8 * j)) → FeatureIn r (8 * j)
-    go next.Wrong e g ih = absurd (false≢true (rw e at g))
-    go (next.From f) e g ih =
+    go None e g ih = absurd (false≢true (rw e at g))
+    go (Some f) e g ih =
         elim (dec_le (i + 1) j) [
           | yes m ↦ ih f (and_right (feature_located r (8 * i)) _ (rw e at g)) m (omega arith)
           | no m ↦ (let k : j ≡ i = omega (arith, lt_of_not-le m) in rw k (feature_in_lem r (8 * i) from f e))

@@ -1,11 +1,8 @@
 -- What the functions of number 10 answer, each of the rooms that it looks at.
-use Rattle.std.specs.Prelude.{ℕ, ◌+◌, ◌/◌, ◌≤◌, ◌≡◌, Bool, true, ◌&&◌, List, [], length, get_or, eqb}
+use Rattle.std.specs.Prelude.{ℕ, ◌+◌, ◌&&◌, List, [], get_or, eqb, Option, Some, None}
 use Rattle.spec_format.specs.Bytes.{pick}
 use Rattle.spec_format.specs.Rooms.{Rooms, row_text_fine, qualifiers_fine, rooms_in}
-use Rattle.spec_format.specs.declared.ContigText.TheVariants as contig
 use Rattle.spec_format.specs.declared.Head.{Head}
-use Rattle.judge_rooms.specs.declared.Next.{Next}
-use Rattle.judge_rooms.specs.declared.Next.TheVariants as next
 
 -- rooms of which only those named matter
 abbrev pub reference_rooms : List ℕ → List ℕ → Rooms
@@ -39,21 +36,16 @@ rest_head h =
       references = h.references;
       comments = h.comments;
       features = 0;
-      contig = contig.Absent;
+      contig = None;
       letters = h.letters;
     }
 
--- the test of a feature's qualifiers, and that their end is a number
-pub record Within (r : Rooms) (from first count : ℕ) (ok : Bool) : Type 0 where
-  pub is : ok ≡ qualifiers_fine r from first count
-  pub end : ok ≡ true → first + count ≤ length r.qualifiers / 4
-
 -- the feature whose row is at a place, but for its location rows: where the next one's qualifiers may start
-unfoldable pub feature_next : Rooms → ℕ → ℕ → Next
+unfoldable pub feature_next : Rooms → ℕ → ℕ → Option ℕ
 feature_next r at from =
     pick (row_text_fine r r.features at && row_text_fine r r.features (at + 2))
-    (pick (eqb (get_or r.features (at + 5) 0) 0) (next.From from)
+    (pick (eqb (get_or r.features (at + 5) 0) 0) (Some from)
     (pick (qualifiers_fine r from (get_or r.features (at + 4) 0) (get_or r.features (at + 5) 0))
-    (next.From (get_or r.features (at + 4) 0 + get_or r.features (at + 5) 0))
-    next.Wrong))
-    next.Wrong
+    (Some (get_or r.features (at + 4) 0 + get_or r.features (at + 5) 0))
+    None))
+    None

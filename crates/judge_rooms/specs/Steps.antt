@@ -1,17 +1,16 @@
 -- Steps of tests: two in a row, rows one after the other, features one after the other.
 use Prim.Native.Nat.{ℕ, zero, suc, ◌+◌, ◌-◌, ◌*◌, ◌≤◌, ◌<◌}
-use Rattle.std.specs.Prelude.{◌≡◌, refl, Bool, ◌&&◌, not, get_or, eqb, leb}
+use Rattle.std.specs.Prelude.{◌≡◌, refl, Bool, ◌&&◌, get_or, eqb, leb, Option, Some, None}
+use Rattle.std.specs.List.{list_all, range_with_len}
 use Rattle.std.proofs.Math.Path.{sym}
 use Rattle.std.proofs.Common.{◌∙◌, lt_of_not-le}
 use Rattle.std.proofs.Math.Bool.{true, false}
 use Rattle.std.proofs.lemmas.Bool.{false≢true}
 use native.Mathlib.Omega.{arith}
 use Rattle.std.proofs.Math.Decide.{dec_le}
-use borrow.Author.Tests.{not-true, not-false, leb-true}
+use borrow.Author.Tests.{leb-true}
 use Rattle.spec_format.specs.Rooms.{Rooms, text_in, rows_fine, span_fine, row_text_fine, location_fine, qualifier_row_fine, qualifiers_fine, feature_row_fine, features_fine}
 use Rattle.judge_rooms.specs.Parts.{feature_next, feature_rooms}
-use Rattle.judge_rooms.specs.declared.Next.{Next}
-use Rattle.judge_rooms.specs.declared.Next.TheVariants as next
 
 pub and_left : (x y : Bool) → (x && y) ≡ true → x ≡ true
 and_left true y h = refl
@@ -25,39 +24,24 @@ and_right false y h = absurd (false≢true h)
 pub both_is : (a b x y r : Bool) → r ≡ (a && b) → a ≡ x → b ≡ y → r ≡ (x && y)
 both_is a b x y r h p q = h ∙ rw (p, q)
 
--- the first of two tests failed; it held
-pub failed : (a x y : Bool) → a ≡ x → not a ≡ true → false ≡ (x && y)
-failed a x y h n = rw (← h, not-true a n)
-
-pub held : (a x y r : Bool) → a ≡ x → not a ≡ false → r ≡ y → r ≡ (x && y)
-held a x y r h n g = rw (← h, not-false a n, g)
-
 pub span_within : (room s n : ℕ) → span_fine room s n ≡ true → s + n ≤ room
 span_within room s n h =
     let l : s ≤ room = leb-true _ _ (and_left (leb s room) (leb n (room - s)) h) in
     let m : n ≤ room - s = leb-true _ _ (and_right (leb s room) (leb n (room - s)) h) in
     omega arith
 
--- ---- rows from row i up to n
+-- ---- rows one after the other
 
-module _ (f : ℕ → Bool) (w i n : ℕ) where
-  pub rows_go : (a whole : Bool) → whole ≡ rows_fine f w i (n - i) → i < n → a ≡ f (w * i) → not a ≡ false → whole ≡ rows_fine f w (i + 1) (n - (i + 1))
-  unfolding rows_fine
-  rows_go a whole g l h t =
-      let e : n - i ≡ suc (n - (i + 1)) = omega arith in
-      let x : f (w * i) ≡ true = sym h ∙ not-false a t in
-      g ∙ rw (e, rows_fine, x)
-
-  pub rows_no : (a whole : Bool) → whole ≡ rows_fine f w i (n - i) → i < n → a ≡ f (w * i) → not a ≡ true → false ≡ whole
-  unfolding rows_fine
-  rows_no a whole g l h t =
-      let e : n - i ≡ suc (n - (i + 1)) = omega arith in
-      let x : f (w * i) ≡ false = sym h ∙ not-true a t in
-      sym (g ∙ rw (e, rows_fine, x))
-
-  pub rows_end : (whole : Bool) → whole ≡ rows_fine f w i (n - i) → n ≤ i → true ≡ whole
-  unfolding rows_fine
-  rows_end whole g l = let e : n - i ≡ 0 = omega arith in sym (g ∙ rw e)
+-- the test of each place of a range, as `all` makes it
+pub rows_all : (f : ℕ → Bool) (w i n : ℕ) (r : Bool) → r ≡ list_all (λ k. f (w * k)) (range_with_len i n) → r ≡ rows_fine f w i n
+unfolding rows_fine
+rows_all f w i zero r h = h
+rows_all f w i (suc n) r h = h ∙ go (f (w * i)) refl (rows_all f w (i + 1) n _ refl)
+  where
+    go : (x : Bool) → f (w * i) ≡ x → list_all (λ k. f (w * k)) (range_with_len (i + 1) n) ≡ rows_fine f w (i + 1) n
+        → (f (w * i) && list_all (λ k. f (w * k)) (range_with_len (i + 1) n)) ≡ rows_fine f w i (suc n)
+    go true e ih = rw (rows_fine, e) ih
+    go false e ih = rw (rows_fine, e)
 
 -- each row of those that are fine
 pub rows_each : (f : ℕ → Bool) (w i n j : ℕ) → rows_fine f w i n ≡ true → i ≤ j → j < i + n → f (w * j) ≡ true
@@ -79,9 +63,9 @@ rows_each f w i (suc n) j h p q = go (f (w * i)) refl (rows_each f w (i + 1) n j
 abbrev pub feature_located : Rooms → ℕ → Bool
 feature_located r at = location_fine false r (text_in r.texts r.features (at + 2)) (get_or r.features (at + 6) 0) (get_or r.features (at + 7) 0)
 
-abbrev pub after_next : Rooms → ℕ → ℕ → Next → Bool
-after_next r i k (next.From f) = feature_located r (8 * i) && features_fine r (i + 1) f k
-after_next r i k next.Wrong = false
+abbrev pub after_next : Rooms → ℕ → ℕ → Option ℕ → Bool
+after_next r i k (Some f) = feature_located r (8 * i) && features_fine r (i + 1) f k
+after_next r i k None = false
 
 pub features_step : (r : Rooms) (i from k : ℕ) → features_fine r i from (suc k) ≡ after_next r i k (feature_next r (8 * i) from)
 unfolding features_fine feature_next feature_row_fine

@@ -1,43 +1,68 @@
 // Number 10: whether each span and row of a table in lent rooms lies inside its room.
 #![tactic(auto)]
 
-ghost use Rattle.std.specs.Prelude.{◌≡◌, ◌&&◌, [], ◌+◌, ◌-◌, ◌*◌, ◌/◌, ◌≤◌, ◌<◌, length};
-ghost use Rattle.spec_format.specs.Rooms.{span_fine, text_fine, source_fine, row_text_fine, row_perhaps_fine, rows_fine, reference_row_fine, comment_row_fine, qualifier_row_fine, lengths_fine, head_fine, counts_fine, rooms_fine, rooms_in};
-ghost use Rattle.judge_rooms.specs.Parts.{reference_rooms, comment_rooms, qualifier_rooms, feature_rooms, feature_next, rest_head, Within};
+ghost use Rattle.std.specs.Prelude.{◌≡◌, [], ◌+◌, ◌*◌, ◌/◌, ◌≤◌, ◌<◌, length, MatchOption};
+ghost use Rattle.std.specs.Bool.{OnTrue};
+ghost use Rattle.spec_format.specs.Bytes.{absent, is};
+ghost use Rattle.spec_format.specs.Rooms.{span_text, text_in, perhaps_in, span_fine, text_fine, source_fine, row_text_fine, row_perhaps_fine, rows_fine, reference_row_fine, comment_row_fine, qualifier_row_fine, qualifiers_fine, lengths_fine, head_fine, counts_fine, rooms_fine, rooms_in};
+ghost use Rattle.judge_rooms.specs.Parts.{reference_rooms, comment_rooms, qualifier_rooms, feature_rooms, feature_next, rest_head};
+ghost use Rattle.judge_rooms.specs.Facts.{SpanIn, RowText, RowPerhaps};
 
-use base_arith::both;
-use spec_format::{Head, MOST, SourceText, Span, Text};
+use spec_format::{Head, MOST, SourceText, Span};
+
+// ---- the texts of spans and rows that are known to lie in the store
+
+pub fn span_text(texts: &[u8], span: Span) -> &[u8]
+    requires { SpanIn texts.now span }
+    ensures { result.now ≡ span_text texts.now span }
+{
+    &texts[span.start..span.start + span.length]
+}
+
+// The text whose start and length stand at a place of a room of rows.
+pub fn text_in<'a>(texts: &'a [u8], rows: &[usize], at: usize) -> &'a [u8]
+    requires row { at + 1 < length rows.now }
+    requires inside { RowText texts.now rows.now at }
+    ensures { result.now ≡ text_in texts.now rows.now at }
+{
+    &texts[rows[at]..rows[at] + rows[at + 1]]
+}
+
+// The same of one that may be absent: it has its length plus one.
+pub fn perhaps_in<'a>(texts: &'a [u8], rows: &[usize], at: usize) -> Option<&'a [u8]>
+    requires row { at + 1 < length rows.now }
+    requires inside { RowPerhaps texts.now rows.now at }
+    ensures { MatchOption result (perhaps_in texts.now rows.now at ≡ absent) (λ t. perhaps_in texts.now rows.now at ≡ is t.now) }
+{
+    let n = rows[at + 1];
+    if n == 0 {
+        None
+    } else {
+        Some(&texts[rows[at]..rows[at] + (n - 1)])
+    }
+}
+
+// ---- number 10
 
 // No sum is made, so none can wrap.
 pub fn span_fine(room: usize, start: usize, n: usize) -> bool
     ensures { result ≡ span_fine room start n }
 {
-    if start <= room {
-        n <= room - start
-    } else {
-        false
-    }
+    start <= room && n <= room - start
 }
 
-fn text_fine(room: usize, text: Text) -> bool
+fn text_fine(room: usize, text: Option<Span>) -> bool
     ensures { result ≡ text_fine room text }
 {
-    match text {
-        Text::Absent => true,
-        Text::At(s) => span_fine(room, s.start, s.length),
-    }
+    text.is_none_or(|s| span_fine(room, s.start, s.length))
 }
 
-fn source_fine(room: usize, source: SourceText) -> bool
+fn source_fine(room: usize, source: Option<SourceText>) -> bool
     ensures { result ≡ source_fine room source }
 {
-    match source {
-        SourceText::Absent => true,
-        SourceText::At { text, organism } => both(
-            span_fine(room, text.start, text.length),
-            text_fine(room, organism),
-        ),
-    }
+    source.is_none_or(|s| {
+        span_fine(room, s.text.start, s.text.length) && text_fine(room, s.organism)
+    })
 }
 
 // The text whose start and length stand at a place of a room of rows.
@@ -53,81 +78,48 @@ fn row_perhaps_fine(texts: &[u8], rows: &[usize], at: usize) -> bool
     requires { at + 1 < length rows.now }
     ensures { result ≡ row_perhaps_fine (reference_rooms texts.now rows.now) rows.now at }
 {
-    let n = rows[at + 1];
-    if n == 0 {
-        true
-    } else {
-        span_fine(texts.len(), rows[at], n - 1)
-    }
+    rows[at + 1] == 0 || span_fine(texts.len(), rows[at], rows[at + 1] - 1)
 }
 
+#[tactic(auto, unfolding(spec_format::specs::Rooms::reference_row_fine))]
 fn reference_row_fine(texts: &[u8], references: &[usize], at: usize) -> bool
     requires { at + 13 < length references.now }
     ensures { result ≡ reference_row_fine (reference_rooms texts.now references.now) at }
 {
-    let remark = row_perhaps_fine(texts, references, at + 12);
-    let pubmed = both(row_perhaps_fine(texts, references, at + 10), remark);
-    let journal = both(row_perhaps_fine(texts, references, at + 8), pubmed);
-    let title = both(row_text_fine(texts, references, at + 6), journal);
-    let consrtm = both(row_perhaps_fine(texts, references, at + 4), title);
-    let authors = both(row_perhaps_fine(texts, references, at + 2), consrtm);
-    both(row_text_fine(texts, references, at), authors)
+    row_text_fine(texts, references, at)
+        && row_perhaps_fine(texts, references, at + 2)
+        && row_perhaps_fine(texts, references, at + 4)
+        && row_text_fine(texts, references, at + 6)
+        && row_perhaps_fine(texts, references, at + 8)
+        && row_perhaps_fine(texts, references, at + 10)
+        && row_perhaps_fine(texts, references, at + 12)
 }
 
 fn references_fine(texts: &[u8], references: &[usize], n: usize) -> bool
     requires { 14 * n ≤ length references.now }
     ensures { result ≡ rows_fine (reference_row_fine (reference_rooms texts.now references.now)) 14 0 n }
 {
-    let mut i = 0;
-    while i < n {
-        if !reference_row_fine(texts, references, 14 * i) {
-            return false;
-        }
-        i += 1;
-    }
-    true
+    (0..n).all(|i| reference_row_fine(texts, references, 14 * i))
 }
 
+#[tactic(auto, unfolding(spec_format::specs::Rooms::comment_row_fine))]
 fn comments_fine(texts: &[u8], comments: &[usize], n: usize) -> bool
     requires { 2 * n ≤ length comments.now }
     ensures { result ≡ rows_fine (comment_row_fine (comment_rooms texts.now comments.now)) 2 0 n }
 {
-    let mut i = 0;
-    while i < n {
-        if !row_text_fine(texts, comments, 2 * i) {
-            return false;
-        }
-        i += 1;
-    }
-    true
+    (0..n).all(|i| row_text_fine(texts, comments, 2 * i))
 }
 
+#[tactic(auto, unfolding(spec_format::specs::Rooms::qualifier_row_fine))]
 fn qualifier_row_fine(texts: &[u8], qualifiers: &[usize], at: usize) -> bool
     requires { at + 3 < length qualifiers.now }
     ensures { result ≡ qualifier_row_fine (qualifier_rooms texts.now qualifiers.now) at }
 {
-    both(
-        row_text_fine(texts, qualifiers, at),
-        row_perhaps_fine(texts, qualifiers, at + 2),
-    )
-}
-
-// The rows from `first` up to `end`.
-fn qualifier_rows_fine(texts: &[u8], qualifiers: &[usize], first: usize, end: usize) -> bool
-    requires { (first ≤ end) × (4 * end ≤ length qualifiers.now) }
-    ensures { result ≡ rows_fine (qualifier_row_fine (qualifier_rooms texts.now qualifiers.now)) 4 first (end - first) }
-{
-    let mut i = first;
-    while i < end {
-        if !qualifier_row_fine(texts, qualifiers, 4 * i) {
-            return false;
-        }
-        i += 1;
-    }
-    true
+    row_text_fine(texts, qualifiers, at) && row_perhaps_fine(texts, qualifiers, at + 2)
 }
 
 // `count` qualifiers from `first` on, of which none may start before `from`.
+#[tactic(auto, unfolding(spec_format::specs::Rooms::qualifiers_fine))]
 fn qualifiers_fine(
     texts: &[u8],
     qualifiers: &[usize],
@@ -135,52 +127,42 @@ fn qualifiers_fine(
     first: usize,
     count: usize,
 ) -> bool
-    ensures { Within (qualifier_rooms texts.now qualifiers.now) from first count result }
+    ensures same { result ≡ qualifiers_fine (qualifier_rooms texts.now qualifiers.now) from first count }
+    ensures end { OnTrue result (first + count ≤ length qualifiers.now / 4) }
 {
-    if first < from {
-        return false;
-    }
-    if !span_fine(qualifiers.len() / 4, first, count) {
-        return false;
-    }
-    qualifier_rows_fine(texts, qualifiers, first, first + count)
+    from <= first
+        && span_fine(qualifiers.len() / 4, first, count)
+        && (first..first + count).all(|i| qualifier_row_fine(texts, qualifiers, 4 * i))
 }
 
-// Where the qualifiers of the next feature may start, or that this one is not in order. Its location rows are not looked at.
-#[derive(Clone, Copy)]
-pub enum Next {
-    From(usize),
-    Wrong,
-}
-
+// Where the qualifiers of the next feature may start, if this one is in order. Its location rows are not looked at.
+#[tactic(auto, unfolding(crate::specs::Parts::feature_next, spec_format::specs::Rooms::qualifiers_fine, spec_format::specs::Rooms::qualifier_row_fine))]
 pub fn feature_next(
     texts: &[u8],
     features: &[usize],
     qualifiers: &[usize],
     at: usize,
     from: usize,
-) -> Next
+) -> Option<usize>
     requires { at + 5 < length features.now }
     ensures { result ≡ feature_next (feature_rooms texts.now features.now qualifiers.now) at from }
 {
-    if !both(
-        row_text_fine(texts, features, at),
-        row_text_fine(texts, features, at + 2),
-    ) {
-        return Next::Wrong;
+    if !(row_text_fine(texts, features, at) && row_text_fine(texts, features, at + 2)) {
+        return None;
     }
     let first = features[at + 4];
     let count = features[at + 5];
     if count == 0 {
-        return Next::From(from);
+        Some(from)
+    } else if qualifiers_fine(texts, qualifiers, from, first, count) {
+        Some(first + count)
+    } else {
+        None
     }
-    if !qualifiers_fine(texts, qualifiers, from, first, count) {
-        return Next::Wrong;
-    }
-    Next::From(first + count)
 }
 
 // Rooms of rows are measured in rows.
+#[tactic(auto, unfolding(spec_format::specs::Rooms::lengths_fine))]
 fn lengths_fine(
     texts: &[u8],
     references: &[usize],
@@ -191,77 +173,41 @@ fn lengths_fine(
 ) -> bool
     ensures { result ≡ lengths_fine (rooms_in texts.now references.now comments.now [] qualifiers.now locations.now letters.now) }
 {
-    let one = both(locations.len() / 7 <= MOST, letters.len() <= MOST);
-    let two = both(qualifiers.len() / 4 <= MOST, one);
-    let three = both(comments.len() / 2 <= MOST, two);
-    let four = both(references.len() / 14 <= MOST, three);
-    both(texts.len() <= MOST, four)
+    texts.len() <= MOST
+        && references.len() / 14 <= MOST
+        && comments.len() / 2 <= MOST
+        && qualifiers.len() / 4 <= MOST
+        && locations.len() / 7 <= MOST
+        && letters.len() <= MOST
 }
 
-// The texts of LOCUS, and what else there is to test.
-fn locus_texts_fine(room: usize, name: Text, molecule: Text, division: Span, rest: bool) -> bool
-    ensures { result ≡ (text_fine room name && (text_fine room molecule && (span_fine room division.start division.length && rest))) }
-{
-    let from_division = both(span_fine(room, division.start, division.length), rest);
-    let from_molecule = both(text_fine(room, molecule), from_division);
-    both(text_fine(room, name), from_molecule)
-}
-
-fn header_texts_fine(
-    room: usize,
-    definition: Text,
-    accession: Text,
-    version: Text,
-    dblink: Text,
-    keywords: Text,
-    rest: bool,
-) -> bool
-    ensures { result ≡ (text_fine room definition && (text_fine room accession && (text_fine room version && (text_fine room dblink && (text_fine room keywords && rest))))) }
-{
-    let from_keywords = both(text_fine(room, keywords), rest);
-    let from_dblink = both(text_fine(room, dblink), from_keywords);
-    let from_version = both(text_fine(room, version), from_dblink);
-    let from_accession = both(text_fine(room, accession), from_version);
-    both(text_fine(room, definition), from_accession)
-}
-
+#[tactic(auto, unfolding(spec_format::specs::Rooms::head_fine))]
 fn head_fine(texts: &[u8], head: Head) -> bool
     ensures { result ≡ head_fine (reference_rooms texts.now []) (rest_head head) }
 {
-    let name = head.name;
-    let molecule = head.molecule;
-    let division = head.division;
-    let definition = head.definition;
-    let accession = head.accession;
-    let version = head.version;
-    let dblink = head.dblink;
-    let keywords = head.keywords;
-    let source = head.source;
     let room = texts.len();
-    let from_source = source_fine(room, source);
-    let header = header_texts_fine(
-        room,
-        definition,
-        accession,
-        version,
-        dblink,
-        keywords,
-        from_source,
-    );
-    locus_texts_fine(room, name, molecule, division, header)
+    text_fine(room, head.name)
+        && text_fine(room, head.molecule)
+        && span_fine(room, head.division.start, head.division.length)
+        && text_fine(room, head.definition)
+        && text_fine(room, head.accession)
+        && text_fine(room, head.version)
+        && text_fine(room, head.dblink)
+        && text_fine(room, head.keywords)
+        && source_fine(room, head.source)
 }
 
+#[tactic(auto, unfolding(spec_format::specs::Rooms::counts_fine))]
 fn counts_fine(references: &[usize], comments: &[usize], letters: &[u8], head: Head) -> bool
     ensures { result ≡ counts_fine (rooms_in [] references.now comments.now [] [] [] letters.now) (rest_head head) }
 {
-    let one = both(
-        head.comments <= comments.len() / 2,
-        head.letters <= letters.len(),
-    );
-    both(head.references <= references.len() / 14, one)
+    head.references <= references.len() / 14
+        && head.comments <= comments.len() / 2
+        && head.letters <= letters.len()
 }
 
 // Number 10 is not due for anything but the features, of each of which `feature_next` says it, and CONTIG.
+#[tactic(auto, unfolding(spec_format::specs::Rooms::counts_fine))]
 pub fn rest_fine(
     texts: &[u8],
     references: &[usize],
@@ -273,17 +219,9 @@ pub fn rest_fine(
 ) -> bool
     ensures { result ≡ rooms_fine (rooms_in texts.now references.now comments.now [] qualifiers.now locations.now letters.now) (rest_head head) }
 {
-    if !lengths_fine(texts, references, comments, qualifiers, locations, letters) {
-        return false;
-    }
-    if !head_fine(texts, head) {
-        return false;
-    }
-    if !counts_fine(references, comments, letters, head) {
-        return false;
-    }
-    if !references_fine(texts, references, head.references) {
-        return false;
-    }
-    comments_fine(texts, comments, head.comments)
+    lengths_fine(texts, references, comments, qualifiers, locations, letters)
+        && head_fine(texts, head)
+        && counts_fine(references, comments, letters, head)
+        && references_fine(texts, references, head.references)
+        && comments_fine(texts, comments, head.comments)
 }

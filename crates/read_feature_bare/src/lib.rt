@@ -196,7 +196,7 @@ fn put_further(s: &[u8], at: usize, indent: usize, room: &mut [u8], place: usize
     loop {
         match further_at(s, i, indent) {
             Further::Line { from, end, next } => {
-                p = base_pen::put_part(room, p, s, from, end);
+                p = base_pen::put_all(room, p, &s[from..end]);
                 i = next;
             }
             Further::Stop => return p,
@@ -213,7 +213,7 @@ pub fn put_bare(s: &[u8], at: usize, indent: usize, room: &mut [u8], place: usiz
 {
     match scan_bytes::line_at(s, at) {
         Line::Got { end, next } => {
-            let p = base_pen::put_part(room, place, s, at, end);
+            let p = base_pen::put_all(room, place, &s[at..end]);
             put_further(s, next, indent, room, p)
         }
         Line::No => place,

@@ -41,10 +41,10 @@ fn put_qualifier(
     requires { Standing s.now indent first end joined value next }
     ensures { PutTwo (pieces_text (qualifier_pieces (qualifier_in s.now indent first end joined value))) (pieces_row place (qualifier_pieces (qualifier_in s.now indent first end joined value))) texts.old place texts.new result.text rows.old row rows.new result.row }
 {
-    let start = base_pen::put_part(texts, place, s, first, end);
+    let start = base_pen::put_all(texts, place, &s[first..end]);
     match value {
         ValueAt::Absent => {
-            let after = base_pen::put_four(rows, row, place, end - first, 0, 0);
+            let after = base_pen::put_all(rows, row, &[place, end - first, 0, 0]);
             Places {
                 text: start,
                 row: after,
@@ -58,7 +58,7 @@ fn put_qualifier(
             let stop = read_feature_value::put_value(
                 s, from, indent, joined, quoted, length, next, texts, start,
             );
-            let after = base_pen::put_four(rows, row, place, end - first, start, length + 1);
+            let after = base_pen::put_all(rows, row, &[place, end - first, start, length + 1]);
             Places {
                 text: stop,
                 row: after,

@@ -387,7 +387,7 @@ fn put_feed(feed: bool, room: &mut [u8], place: usize) -> usize
     ensures { Writes room.old place (feed_text feed) room.new result }
 {
     if feed {
-        return base_pen::put_byte(room, place, b'\n');
+        return base_pen::put(room, place, b'\n');
     }
     place
 }
@@ -406,7 +406,7 @@ fn put_on(s: &[u8], at: usize, indent: usize, joined: bool, room: &mut [u8], pla
                 next,
                 ascii: _,
             } => {
-                let q = base_pen::put_part(room, p, s, i, to);
+                let q = base_pen::put_all(room, p, &s[i..to]);
                 p = put_feed(feed, room, q);
                 i = next;
             }
@@ -414,9 +414,9 @@ fn put_on(s: &[u8], at: usize, indent: usize, joined: bool, room: &mut [u8], pla
                 to,
                 next: _,
                 ascii: _,
-            } => return base_pen::put_part(room, p, s, i, to),
-            Piece::No(to) => return base_pen::put_part(room, p, s, i, to),
-            Piece::Cut(to) => return base_pen::put_part(room, p, s, i, to),
+            } => return base_pen::put_all(room, p, &s[i..to]),
+            Piece::No(to) => return base_pen::put_all(room, p, &s[i..to]),
+            Piece::Cut(to) => return base_pen::put_all(room, p, &s[i..to]),
         }
     }
 }

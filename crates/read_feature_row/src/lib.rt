@@ -76,7 +76,7 @@ fn put_text(
     ensures { Writes texts.old place (bare_text indent (drop at s.now)) texts.new result }
 {
     if line {
-        return base_pen::put_part(texts, place, s, at, at + long);
+        return base_pen::put_all(texts, place, &s[at..at + long]);
     }
     read_feature_bare::put_bare(s, at, indent, texts, place)
 }
@@ -100,7 +100,7 @@ fn make_located(
 {
     let indent = location - reached.at;
     let place = reached.text;
-    let start = base_pen::put_part(texts, place, s, first, end);
+    let start = base_pen::put_all(texts, place, &s[first..end]);
     let stop = put_text(s, location, indent, long, line, texts, start);
     let run = read_feature_qualifier_rows::put_qualifiers(
         s,

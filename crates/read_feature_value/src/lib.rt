@@ -61,7 +61,7 @@ pub fn put_value(
     if quoted {
         // The value has an opening quote, a closing one and a LF besides its text, and no byte more: so nothing in it was undone.
         if next - at - long == 3 {
-            return base_pen::put_part(room, place, s, at + 1, at + 1 + long);
+            return base_pen::put_all(room, place, &s[at + 1..at + 1 + long]);
         }
         return read_feature_quoted::put_quoted(s, at, indent, joined, room, place);
     }

@@ -35,7 +35,7 @@ fn put_text(
     let start = e.text;
     let columns = e.columns;
     let text = read_field_text::put_entry(s, start, columns, keep, texts, pens.text);
-    let row = base_pen::put_two(rows, pens.row, pens.text, n);
+    let row = base_pen::put_all(rows, pens.row, &[pens.text, n]);
     Pens { text, row }
 }
 
@@ -67,7 +67,7 @@ fn put_perhaps(
 {
     match e {
         MayEntry::Absent => {
-            let row = base_pen::put_two(rows, pens.row, 0, 0);
+            let row = base_pen::put_all(rows, pens.row, &[0, 0]);
             let text = pens.text;
             Pens { text, row }
         }

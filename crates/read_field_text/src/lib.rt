@@ -17,10 +17,10 @@ fn put_line(s: &[u8], from: usize, to: usize, keep: bool, room: &mut [u8], place
     ensures { Writes room.old place (line_after keep (part from to s.now)) room.new result }
 {
     if keep {
-        let p = base_pen::put_byte(room, place, b'\n');
-        return base_pen::put_part(room, p, s, from, to);
+        let p = base_pen::put(room, place, b'\n');
+        return base_pen::put_all(room, p, &s[from..to]);
     }
-    base_pen::put_part(room, place, s, from, to)
+    base_pen::put_all(room, place, &s[from..to])
 }
 
 fn put_further(
@@ -64,7 +64,7 @@ pub fn put_entry(
         Line::No => place,
         Line::Cut => place,
         Line::Got { end, next } => {
-            let p = base_pen::put_part(room, place, s, text, end);
+            let p = base_pen::put_all(room, place, &s[text..end]);
             put_further(s, next, columns, keep, room, p)
         }
     }

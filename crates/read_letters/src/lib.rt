@@ -233,7 +233,7 @@ fn copy_ten(s: &[u8], at: usize, room: &mut [u8], place: usize) -> usize
     ensures { Writes room.old place (ten s.now at) room.new result × (result ≡ place + 10) }
 {
     let t = ten_of(s, at);
-    base_pen::store_ten(room, place, &t);
+    base_pen::store(room, place, &t);
     place + 10
 }
 
@@ -261,9 +261,9 @@ fn put_thirty(s: &[u8], at: usize, room: &mut [u8], place: usize) -> usize
     requires { at + 33 ≤ length s.now }
     ensures { Writes room.old place (thirty_of s.now at) room.new result }
 {
-    let a = base_pen::put_part(room, place, s, at + 1, at + 11);
-    let b = base_pen::put_part(room, a, s, at + 12, at + 22);
-    base_pen::put_part(room, b, s, at + 23, at + 33)
+    let a = base_pen::put_all(room, place, &s[at + 1..at + 11]);
+    let b = base_pen::put_all(room, a, &s[at + 12..at + 22]);
+    base_pen::put_all(room, b, &s[at + 23..at + 33])
 }
 
 // The sixty letters of a line of the usual layout: one test of the room, for all of them.
@@ -290,7 +290,7 @@ fn put_from(s: &[u8], at: usize, room: &mut [u8], place: usize) -> usize
     while i < s.len() {
         let b = s[i];
         if scan_bytes::is_letter(b) {
-            p = base_pen::put_byte(room, p, b);
+            p = base_pen::put(room, p, b);
             i += 1;
             continue;
         }

@@ -15,13 +15,13 @@ fn put_seven(out: &mut [usize], at: usize, row: Row)
     requires { at ≤ 700000000 }
     ensures { out.new ≡ sets out.old at (row_numbers (row_of row)) }
 {
-    base_pen::put_number(out, at, row.form);
-    base_pen::put_number(out, at + 1, row.marks);
-    base_pen::put_number(out, at + 2, row.from);
-    base_pen::put_number(out, at + 3, row.to);
-    base_pen::put_number(out, at + 4, row.start);
-    base_pen::put_number(out, at + 5, row.length);
-    base_pen::put_number(out, at + 6, row.inside);
+    base_pen::put(out, at, row.form);
+    base_pen::put(out, at + 1, row.marks);
+    base_pen::put(out, at + 2, row.from);
+    base_pen::put(out, at + 3, row.to);
+    base_pen::put(out, at + 4, row.start);
+    base_pen::put(out, at + 5, row.length);
+    base_pen::put(out, at + 6, row.inside);
 }
 
 // The same. Past the room's end nothing is put, and who only counts rows lends none.

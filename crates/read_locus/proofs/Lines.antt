@@ -1,4 +1,5 @@
 -- A LOCUS line from its tokens: how many there are, and each test on one.
+use Rattle.std.specs.Prelude.{Option, Some, None}
 use Prim.Native.Nat.{ℕ, ◌-◌, ◌≤◌, ◌<◌}
 use mathlib.Core.Path.{◌≡◌, refl, sym, ap, ◌∙◌}
 use mathlib.Core.Bool.{Bool, true, false, not, ◌&&◌, ◌||◌}
@@ -13,50 +14,46 @@ use Rattle.spec_format.specs.Table.{Locus}
 use Rattle.spec_format.specs.Dates.{is_date}
 use Rattle.spec_format.specs.Locus.{tokens, date_token, unknown, locus_from, locus_of, locus_line}
 use Rattle.spec_format.specs.declared.Date.{Date}
-use Rattle.spec_format.specs.declared.Dated.{Dated}
-use Rattle.spec_format.specs.declared.Dated.TheVariants as dated
-use Rattle.spec_format.specs.declared.Length.{Length}
-use Rattle.spec_format.specs.declared.Length.TheVariants as bases
 use Rattle.spec_format.specs.declared.Span.{Span}
 use Rattle.read_locus_tokens.specs.declared.Token.{Token}
 use Rattle.read_locus_tokens.specs.declared.Token.TheVariants as token
 use Rattle.read_locus_tokens.specs.Parts.{cut, spanned, bases_of, plain_byte, Ends, TokenEnds, NextToken, tokens_from}
 use Rattle.read_locus_tokens.proofs.Worded.{all_tokens}
 
-abbrev pub at_bases : Length → (ℕ → Locus) → Locus
-at_bases bases.Absent f = unknown
-at_bases (bases.Bases n) f = f n
+abbrev pub at_bases : Option ℕ → (ℕ → Locus) → Locus
+at_bases None f = unknown
+at_bases (Some n) f = f n
 
-abbrev pub at_date : Dated → (Date → Locus) → Locus
-at_date dated.Absent f = unknown
-at_date (dated.On d) f = f d
+abbrev pub at_date : Option Date → (Date → Locus) → Locus
+at_date None f = unknown
+at_date (Some d) f = f d
 
-staged : (a d l v u x y : Bool) (t : Dated) (n : ℕ) (f : ℕ → Bool → Dated → Locus) →
+staged : (a d l v u x y : Bool) (t : Option Date) (n : ℕ) (f : ℕ → Bool → Option Date → Locus) →
     pick (a && (d && (l && (v && (u && ((x || y) && is_date t)))))) (f n y t) unknown ≡
-    pick a (at_bases (pick (d && (l && v)) (bases.Bases n) bases.Absent) (λ k. pick u (at_date t (λ o. pick y (f k true (dated.On o)) (pick x (f k false (dated.On o)) unknown))) unknown)) unknown
+    pick a (at_bases (pick (d && (l && v)) (Some n) None) (λ k. pick u (at_date t (λ o. pick y (f k true (Some o)) (pick x (f k false (Some o)) unknown))) unknown)) unknown
 staged false d l v u x y t n f = refl
 staged true false l v u x y t n f = refl
 staged true true false v u x y t n f = refl
 staged true true true false u x y t n f = refl
 staged true true true true false x y t n f = refl
-staged true true true true true true y dated.Absent n f = refl
-staged true true true true true false true dated.Absent n f = refl
-staged true true true true true false false dated.Absent n f = refl
-staged true true true true true true true (dated.On o) n f = refl
-staged true true true true true true false (dated.On o) n f = refl
-staged true true true true true false true (dated.On o) n f = refl
-staged true true true true true false false (dated.On o) n f = refl
+staged true true true true true true y None n f = refl
+staged true true true true true false true None n f = refl
+staged true true true true true false false None n f = refl
+staged true true true true true true true (Some o) n f = refl
+staged true true true true true true false (Some o) n f = refl
+staged true true true true true false true (Some o) n f = refl
+staged true true true true true false false (Some o) n f = refl
 
 -- the values of seven texts, of which the length, the topology and the date are given
-abbrev pub valued : List ℕ → May (List ℕ) → List ℕ → ℕ → Bool → Dated → Locus
+abbrev pub valued : List ℕ → May (List ℕ) → List ℕ → ℕ → Bool → Option Date → Locus
 valued name molecule division n circular date = record { name = is name; length = is n; molecule = molecule; circular = circular; division = division; date = date }
 
 module _ (name count unit : List ℕ) (molecule : May (List ℕ)) (topology division date : List ℕ) where
-  abbrev found : ℕ → Bool → Dated → Locus
+  abbrev found : ℕ → Bool → Option Date → Locus
   found = valued name molecule division
 
   abbrev shape_of : ℕ → Date → Locus
-  shape_of n o = pick (same topology (bytes "circular")) (found n true (dated.On o)) (pick (same topology (bytes "linear")) (found n false (dated.On o)) unknown)
+  shape_of n o = pick (same topology (bytes "circular")) (found n true (Some o)) (pick (same topology (bytes "linear")) (found n false (Some o)) unknown)
 
   in-stages : locus_from name count unit molecule topology division date ≡
       pick (all (but 58) name) (at_bases (bases_of count) (λ k. pick (same unit (bytes "bp")) (at_date (date_token date) (shape_of k)) unknown)) unknown
@@ -73,19 +70,19 @@ module _ (name count unit : List ℕ) (molecule : May (List ℕ)) (topology divi
     pub no_name : not a ≡ true → unknown ≡ whole
     no_name h = sym (in-stages ∙ rw (← ea, not-true a h))
 
-    module _ (h : not a ≡ false) (c : Length) (ec : c ≡ bases_of count) where
-      pub no_bases : c ≡ bases.Absent → unknown ≡ whole
+    module _ (h : not a ≡ false) (c : Option ℕ) (ec : c ≡ bases_of count) where
+      pub no_bases : c ≡ None → unknown ≡ whole
       no_bases k = sym (in-stages ∙ rw (← ea, not-false a h, ← ec, k))
 
-      module _ (n : ℕ) (k : c ≡ bases.Bases n) (u : Bool) (eu : u ≡ same unit (bytes "bp")) where
+      module _ (n : ℕ) (k : c ≡ Some n) (u : Bool) (eu : u ≡ same unit (bytes "bp")) where
         pub no_unit : not u ≡ true → unknown ≡ whole
         no_unit f = sym (in-stages ∙ rw (← ea, not-false a h, ← ec, k, ← eu, not-true u f))
 
-        module _ (f : not u ≡ false) (t : Dated) (et : t ≡ date_token date) where
-          pub no_date : t ≡ dated.Absent → unknown ≡ whole
+        module _ (f : not u ≡ false) (t : Option Date) (et : t ≡ date_token date) where
+          pub no_date : t ≡ None → unknown ≡ whole
           no_date g = sym (in-stages ∙ rw (← ea, not-false a h, ← ec, k, ← eu, not-false u f, ← et, g))
 
-          pub by_shape : (o : Date) → t ≡ dated.On o → (r : Locus) → r ≡ shape_of n o → r ≡ whole
+          pub by_shape : (o : Date) → t ≡ Some o → (r : Locus) → r ≡ shape_of n o → r ≡ whole
           by_shape o g r e = e ∙ sym (in-stages ∙ rw (← ea, not-false a h, ← ec, k, ← eu, not-false u f, ← et, g))
 
 -- what the next token says of the tokens

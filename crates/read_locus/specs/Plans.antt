@@ -1,30 +1,27 @@
 -- What the plan of a LOCUS line stands for, and what its makers promise.
-use Rattle.std.specs.Prelude.{ℕ, ◌≡◌, Bool, true, false, List, ◌∷◌, length}
+use Rattle.std.specs.Prelude.{ℕ, ◌≡◌, Bool, true, false, List, ◌∷◌, length, Option, Some, None}
 use Rattle.spec_format.specs.Bytes.{pick, May, absent, is, bytes, same}
 use Rattle.spec_format.specs.Table.{Locus}
 use Rattle.spec_format.specs.Locus.{unknown, locus_from}
 use Rattle.spec_format.specs.declared.Span.{Span}
-use Rattle.spec_format.specs.declared.Text.{Text}
-use Rattle.spec_format.specs.declared.Text.TheVariants as text
 use Rattle.spec_format.specs.declared.Date.{Date}
-use Rattle.spec_format.specs.declared.Dated.TheVariants as dated
 use Rattle.read_locus_tokens.specs.Parts.{spanned, Ends}
 use Rattle.read_locus.specs.declared.LocusPlan.{LocusPlan}
 use Rattle.read_locus.specs.declared.LocusPlan.TheVariants as plan
 
-abbrev pub text_in : List ℕ → Text → May (List ℕ)
-text_in s text.Absent = absent
-text_in s (text.At x) = is (spanned s x)
+abbrev pub text_in : List ℕ → Option Span → May (List ℕ)
+text_in s None = absent
+text_in s (Some x) = is (spanned s x)
 
 -- the LOCUS values whose texts lie in the slice s
 abbrev pub planned : List ℕ → LocusPlan → Locus
 planned s plan.Unknown = unknown
 planned s (plan.Known name length molecule circular division date) =
-    record { name = is (spanned s name); length = is length; molecule = text_in s molecule; circular = circular; division = spanned s division; date = dated.On date }
+    record { name = is (spanned s name); length = is length; molecule = text_in s molecule; circular = circular; division = spanned s division; date = Some date }
 
-abbrev pub TextEnds : ℕ → Text → Type 0
-TextEnds to text.Absent = Unit
-TextEnds to (text.At x) = Ends to x
+abbrev pub TextEnds : ℕ → Option Span → Type 0
+TextEnds to None = Unit
+TextEnds to (Some x) = Ends to x
 
 abbrev pub PlanEnds : ℕ → LocusPlan → Type 0
 PlanEnds to plan.Unknown = Unit
@@ -48,18 +45,18 @@ ThreeEnd to name count unit = Ends to name × (Ends to count × Ends to unit)
 abbrev pub SixEnd : ℕ → Span → Span → Span → Span → Span → Span → Type 0
 SixEnd to name count unit third fourth fifth = ThreeEnd to name count unit × ThreeEnd to third fourth fifth
 
-abbrev pub FieldsEnd : ℕ → Span → Span → Span → Text → Span → Span → Span → Type 0
+abbrev pub FieldsEnd : ℕ → Span → Span → Span → Option Span → Span → Span → Span → Type 0
 FieldsEnd to name count unit molecule topology division date = ThreeEnd to name count unit × (TextEnds to molecule × ThreeEnd to topology division date)
 
-abbrev pub fields_locus : List ℕ → Span → Span → Span → Text → Span → Span → Span → Locus
+abbrev pub fields_locus : List ℕ → Span → Span → Span → Option Span → Span → Span → Span → Locus
 fields_locus s name count unit molecule topology division date =
     locus_from (spanned s name) (spanned s count) (spanned s unit) (text_in s molecule) (spanned s topology) (spanned s division) (spanned s date)
 
 -- the values of a line, by its topology
-abbrev pub shaped_locus : List ℕ → Span → ℕ → Text → Span → Span → Date → Locus
+abbrev pub shaped_locus : List ℕ → Span → ℕ → Option Span → Span → Span → Date → Locus
 shaped_locus s name n molecule topology division date =
     pick (same (spanned s topology) (bytes "circular")) (found true) (pick (same (spanned s topology) (bytes "linear")) (found false) unknown)
   where
     found : Bool → Locus
     found circular =
-        record { name = is (spanned s name); length = is n; molecule = text_in s molecule; circular = circular; division = spanned s division; date = dated.On date }
+        record { name = is (spanned s name); length = is n; molecule = text_in s molecule; circular = circular; division = spanned s division; date = Some date }

@@ -7,7 +7,7 @@ ghost use Rattle.read_locus_tokens.specs.Parts.{cut, Ends};
 ghost use Rattle.read_locus.specs.Plans.{Planned, TextEnds, ThreeEnd, SixEnd, FieldsEnd, three_then, six_then, shaped_locus, fields_locus};
 
 use read_locus_tokens::Token;
-use spec_format::{Date, Dated, Length, Span, Text};
+use spec_format::{Date, Span};
 
 // The values of a LOCUS line; texts are spans of the slice that was read.
 #[derive(Clone, Copy)]
@@ -16,7 +16,7 @@ pub enum LocusPlan {
     Known {
         name: Span,
         length: u32,
-        molecule: Text,
+        molecule: Option<Span>,
         circular: bool,
         division: Span,
         date: Date,
@@ -28,7 +28,7 @@ fn shaped(
     s: &[u8],
     name: Span,
     bases: u32,
-    molecule: Text,
+    molecule: Option<Span>,
     topology: Span,
     division: Span,
     date: Date,
@@ -65,7 +65,7 @@ fn values(
     name: Span,
     count: Span,
     unit: Span,
-    molecule: Text,
+    molecule: Option<Span>,
     topology: Span,
     division: Span,
     date: Span,
@@ -76,13 +76,13 @@ fn values(
     if !read_locus_tokens::span_named(s, name) {
         return LocusPlan::Unknown;
     }
-    let Length::Bases(length) = read_locus_tokens::span_bases(s, count) else {
+    let Some(length) = read_locus_tokens::span_bases(s, count) else {
         return LocusPlan::Unknown;
     };
     if !read_locus_tokens::span_equal(s, unit, b"bp") {
         return LocusPlan::Unknown;
     }
-    let Dated::On(on) = read_locus_tokens::span_date(s, date) else {
+    let Some(on) = read_locus_tokens::span_date(s, date) else {
         return LocusPlan::Unknown;
     };
     shaped(s, name, length, molecule, topology, division, on)
@@ -108,12 +108,12 @@ fn from_sixth(
         end: next,
     } = read_locus_tokens::token_at(s, at, to)
     else {
-        return values(s, name, count, unit, Text::Absent, third, fourth, fifth);
+        return values(s, name, count, unit, None, third, fourth, fifth);
     };
     let Token::None = read_locus_tokens::token_at(s, next, to) else {
         return LocusPlan::Unknown;
     };
-    values(s, name, count, unit, Text::At(third), fourth, fifth, sixth)
+    values(s, name, count, unit, Some(third), fourth, fifth, sixth)
 }
 
 // From the third token on.

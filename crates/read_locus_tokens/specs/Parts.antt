@@ -1,13 +1,10 @@
 -- Tokens of a LOCUS line in a slice, and what the functions over them promise.
-use Rattle.std.specs.Prelude.{ℕ, zero, suc, ◌+◌, ◌-◌, ◌≤◌, ◌<◌, ◌^◌, ◌≡◌, Bool, true, false, ◌&&◌, ◌||◌, List, [], ◌∷◌, length, take, drop, leb}
+use Rattle.std.specs.Prelude.{ℕ, zero, suc, ◌+◌, ◌-◌, ◌≤◌, ◌<◌, ◌^◌, ◌≡◌, Bool, true, false, ◌&&◌, ◌||◌, List, [], ◌∷◌, length, take, drop, leb, Option, Some, None}
 use Rattle.spec_format.specs.Bytes.{pick, all, same, digit, blank, visible, number}
 use Rattle.spec_format.specs.Dates.{made, months}
 use Rattle.spec_format.specs.Locus.{tokens, place_in}
+use Rattle.spec_format.specs.declared.Date.{Date}
 use Rattle.spec_format.specs.declared.Span.{Span}
-use Rattle.spec_format.specs.declared.Length.{Length}
-use Rattle.spec_format.specs.declared.Length.TheVariants as bases
-use Rattle.spec_format.specs.declared.Dated.{Dated}
-use Rattle.spec_format.specs.declared.Dated.TheVariants as dated
 use Rattle.read_locus_tokens.specs.declared.Token.{Token}
 use Rattle.read_locus_tokens.specs.declared.Token.TheVariants as token
 use Rattle.read_locus_tokens.specs.declared.Decimal.{Decimal}
@@ -66,8 +63,8 @@ pub record Valued (t : List ℕ) (r : Decimal) : Type 0 where
   pub small : Below (10 ^ length t) r
 
 -- a length of 1 to 10 digits up to 4,294,967,295
-abbrev pub bases_of : List ℕ → Length
-bases_of t = pick (all digit t && (leb (length t) 10 && leb (number 0 t) 4294967295)) (bases.Bases (number 0 t)) bases.Absent
+abbrev pub bases_of : List ℕ → Option ℕ
+bases_of t = pick (all digit t && (leb (length t) 10 && leb (number 0 t) 4294967295)) (Some (number 0 t)) None
 
 -- the place of a word that may stand before those among which its place is n
 abbrev pub place_after : Bool → ℕ → ℕ
@@ -79,5 +76,5 @@ pub record Placed (t a b c : List ℕ) (n r : ℕ) : Type 0 where
   pub within : r ≤ n + 3
 
 -- a date whose day and year are digits
-abbrev pub date_of_parts : List ℕ → List ℕ → List ℕ → Dated
-date_of_parts d m y = pick (all digit d && all digit y) (made (number 0 d) (place_in m months) (number 0 y)) dated.Absent
+abbrev pub date_of_parts : List ℕ → List ℕ → List ℕ → Option Date
+date_of_parts d m y = pick (all digit d && all digit y) (made (number 0 d) (place_in m months) (number 0 y)) None

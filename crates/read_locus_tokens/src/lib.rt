@@ -7,7 +7,7 @@ ghost use Rattle.spec_format.specs.Dates.{months};
 ghost use Rattle.spec_format.specs.Locus.{place_in, date_token};
 ghost use Rattle.read_locus_tokens.specs.Parts.{cut, spanned, Ends, Scanned, NextToken, plain_byte, Valued, bases_of, Placed, date_of_parts};
 
-use spec_format::{Date, Dated, Length, Span};
+use spec_format::{Date, Span};
 
 // What stands next between blanks, and where it ends.
 #[derive(Clone, Copy)]
@@ -120,19 +120,19 @@ fn decimal_in(t: &[u8]) -> Decimal
 }
 
 // The bases of a LOCUS line.
-fn bases_in(t: &[u8]) -> Length
+fn bases_in(t: &[u8]) -> Option<u32>
     ensures { result ≡ bases_of t.now }
 {
     if 10 < t.len() {
-        return Length::Absent;
+        return None;
     }
     let Decimal::Value(n) = decimal_in(t) else {
-        return Length::Absent;
+        return None;
     };
     if 4294967295 < n {
-        return Length::Absent;
+        return None;
     }
-    Length::Bases(n as u32)
+    Some(n as u32)
 }
 
 // The place of a text among three words and those after them, where `later` is its place; 0 where it is none.
@@ -166,38 +166,38 @@ fn month_in(t: &[u8]) -> u8
 }
 
 // The date of a day, a month and a year.
-fn date_of_parts(day: &[u8], month: &[u8], year: &[u8]) -> Dated
+fn date_of_parts(day: &[u8], month: &[u8], year: &[u8]) -> Option<Date>
     requires { (length day.now ≤ 2) × (length year.now ≤ 4) }
     ensures { result ≡ date_of_parts day.now month.now year.now }
 {
     let Decimal::Value(d) = decimal_in(day) else {
-        return Dated::Absent;
+        return None;
     };
     let Decimal::Value(y) = decimal_in(year) else {
-        return Dated::Absent;
+        return None;
     };
     Date::from(d as u8, month_in(month), y as u16)
 }
 
 // A date of ten or eleven bytes, the day having one or two.
-fn date_in(t: &[u8]) -> Dated
+fn date_in(t: &[u8]) -> Option<Date>
     ensures { result ≡ date_token t.now }
 {
     if t.len() < 10 {
-        return Dated::Absent;
+        return None;
     }
     if 11 < t.len() {
-        return Dated::Absent;
+        return None;
     }
     let d = t.len() - 9;
     let month = d + 1;
     let month_end = d + 4;
     let year = d + 5;
     if t[d] != b'-' {
-        return Dated::Absent;
+        return None;
     }
     if t[month_end] != b'-' {
-        return Dated::Absent;
+        return None;
     }
     date_of_parts(&t[..d], &t[month..month_end], &t[year..])
 }
@@ -242,7 +242,7 @@ pub fn span_equal(s: &[u8], x: Span, w: &[u8]) -> bool
     base_keys::same_text(&s[start..end], w)
 }
 
-pub fn span_bases(s: &[u8], x: Span) -> Length
+pub fn span_bases(s: &[u8], x: Span) -> Option<u32>
     requires { Ends (length s.now) x }
     ensures { result ≡ bases_of (spanned s.now x) }
 {
@@ -251,7 +251,7 @@ pub fn span_bases(s: &[u8], x: Span) -> Length
     bases_in(&s[start..end])
 }
 
-pub fn span_date(s: &[u8], x: Span) -> Dated
+pub fn span_date(s: &[u8], x: Span) -> Option<Date>
     requires { Ends (length s.now) x }
     ensures { result ≡ date_token (spanned s.now x) }
 {

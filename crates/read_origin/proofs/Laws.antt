@@ -1,4 +1,5 @@
 -- The laws of ORIGIN and of the record's end: each answer by the answer of the part before.
+use Rattle.std.specs.Prelude.{Option}
 use Prim.Native.Nat.{ℕ, ◌≤◌, ◌<◌}
 use native.Mathlib.Nat.{le_refl}
 use native.Mathlib.Omega.{arith}
@@ -14,7 +15,6 @@ use Rattle.spec_format.specs.Origin.{origin_tag, at_slash, at_end, bad_byte, let
 use Rattle.spec_format.specs.Record.{Outcome, not_read, with_letters, slashes_at, promised, counted, sequence, after_origin}
 use Rattle.spec_format.specs.Strict.{stray, stray_after, strictly}
 use Rattle.spec_format.specs.Rooms.{may_length}
-use Rattle.spec_format.specs.declared.Length.{Length}
 use Rattle.spec_format.specs.declared.Unread.{Unread}
 use Rattle.spec_format.specs.declared.Unread.TheVariants as unread
 use Rattle.scan_bytes.specs.Views.{step_of, Past, Stepped, Texted, Emptied, empty_of, PastOne, Lined}
@@ -142,7 +142,7 @@ pub ruleset tagging = (
 at_end_lem : (s : List ℕ) → drop (length s) s ≡ []
 at_end_lem s = drop_of_length-le s (le_refl (length s))
 
-module _ (s : List ℕ) (at lettersAt n : ℕ) (given : Length) (r : RecordEnd) (h : Ended s at r) where
+module _ (s : List ℕ) (at lettersAt n : ℕ) (given : Option ℕ) (r : RecordEnd) (h : Ended s at r) where
   pub slashes_at_lem : (place : ℕ) → r ≡ record-end.At place → lettersAt ≤ length s → n ≡ length (sifted (drop lettersAt s)) →
       Ends s given (letters_then (sifted (drop lettersAt s)) (drop at s)) (ended.Got lettersAt n place)
   unfolding letters_then
@@ -170,12 +170,12 @@ pub ruleset slashing = (slashes_at_lem, slashes_no, slashes_never)
 -- ---- the letters
 
 -- the same end for another function of the table
-ends_as : (s : List ℕ) (given : Length) (o q : Table → Outcome) (r : EndAt) → ((t : Table) → Before given t → q t ≡ o t) → Ends s given o r → Ends s given q r
+ends_as : (s : List ℕ) (given : Option ℕ) (o q : Table → Outcome) (r : EndAt) → ((t : Table) → Before given t → q t ≡ o t) → Ends s given o r → Ends s given q r
 ends_as s given o q (ended.Got a n p) e h =
     record { is = record { is = λ t b. e t b ∙ h.is.is t b; counted = h.is.counted; lettered = h.is.lettered; within = h.is.within } }
 ends_as s given o q (ended.Refused why) e h = record { is = λ t b. e t b ∙ h.is t b }
 
-module _ (s : List ℕ) (at : ℕ) (given : Length) (strict : Bool) (r : Counted) (h : Counts s at (tally (letters_by strict (drop at s))) r) where
+module _ (s : List ℕ) (at : ℕ) (given : Option ℕ) (strict : Bool) (r : Counted) (h : Counts s at (tally (letters_by strict (drop at s))) r) where
   module _ (n next : ℕ) (e : r ≡ count.AtSlash n next) where
     slash_places : (n ≤ next) × (next ≤ length s)
     slash_places = let p : PastCounted s at (count.AtSlash n next) = subst (λ (x : Counted). PastCounted s at x) e h.place in (omega arith, p.1)
@@ -190,7 +190,7 @@ module _ (s : List ℕ) (at : ℕ) (given : Length) (strict : Bool) (r : Counted
     slash_counted = sym slash_is.counted
 
     module _ (b : Bool) (f : b ≡ promised (may_length given) n) where
-      pub letters_slash : (q : EndAt) → b ≡ true → ((g : Length) → Ends s g (letters_then (sifted (drop at s)) (drop next s)) q) →
+      pub letters_slash : (q : EndAt) → b ≡ true → ((g : Option ℕ) → Ends s g (letters_then (sifted (drop at s)) (drop next s)) q) →
           Ends s given (sequence_then strict (drop at s)) q
       unfolding letters_then sequence_then
       letters_slash q k w =
@@ -277,7 +277,7 @@ none_there s = rw (at_end_lem s)
 pub none_counted : (s : List ℕ) → 0 ≡ length (sifted (drop (length s) s))
 none_counted s = rw (none_there s)
 
-module _ (s : List ℕ) (at : ℕ) (given : Length) (strict : Bool) (r : Step) (h : Passed s at (origin_tag (drop at s)) r) where
+module _ (s : List ℕ) (at : ℕ) (given : Option ℕ) (strict : Bool) (r : Step) (h : Passed s at (origin_tag (drop at s)) r) where
   pub passed_within : (n : ℕ) → r ≡ step.Got n → n ≤ length s
   passed_within n e = (passed_places h e).1
 
@@ -287,7 +287,7 @@ module _ (s : List ℕ) (at : ℕ) (given : Length) (strict : Bool) (r : Step) (
       ends_as s given (sequence_then strict (drop n s)) (origin_then strict (drop at s)) q
       (λ t d. then_sequence strict t (drop at s) (drop n s) (origin_tag (drop at s)) (rw e at h.is)) w
 
-  pub origin_none : (q : EndAt) → r ≡ step.No → ((g : Length) → Ends s g (letters_then (sifted (drop (length s) s)) (drop at s)) q) → Ends s given (origin_then strict (drop at s)) q
+  pub origin_none : (q : EndAt) → r ≡ step.No → ((g : Option ℕ) → Ends s g (letters_then (sifted (drop (length s) s)) (drop at s)) q) → Ends s given (origin_then strict (drop at s)) q
   unfolding letters_then origin_then
   origin_none q e w =
       ends_as s given (letters_then (sifted (drop (length s) s)) (drop at s)) (origin_then strict (drop at s)) q

@@ -1,5 +1,5 @@
 -- What reading ORIGIN, the letters and the record's end answers, whatever table was read before.
-use Rattle.std.specs.Prelude.{ℕ, ◌≤◌, Bool, ◌≡◌, List, [], length, drop}
+use Rattle.std.specs.Prelude.{ℕ, ◌≤◌, Bool, ◌≡◌, List, [], length, drop, Option}
 use Rattle.spec_format.specs.Bytes.{pick, letter, starts, not_blank}
 use Rattle.spec_format.specs.Readers.{Ans, got, no, cut, bind, or_else, until, spaces1, line, line_end, utf8_of}
 use Rattle.spec_format.specs.Table.{Table}
@@ -7,7 +7,6 @@ use Rattle.spec_format.specs.Origin.{origin_tag, letters}
 use Rattle.spec_format.specs.Record.{Outcome, was_read, not_read, with_letters, slashes_at, sequence, after_origin}
 use Rattle.spec_format.specs.Strict.{stray, stray_after, strictly}
 use Rattle.spec_format.specs.Rooms.{may_length}
-use Rattle.spec_format.specs.declared.Length.{Length}
 use Rattle.spec_format.specs.declared.Unread.{Unread}
 use Rattle.spec_format.specs.declared.Unread.TheVariants as unread
 use Rattle.scan_bytes.specs.Views.{step_of, Past}
@@ -54,20 +53,20 @@ unfoldable pub origin_then : Bool → List ℕ → Table → Outcome
 origin_then strict s t = strictly strict (stray_after (origin_tag s)) (after_origin t s (origin_tag s))
 
 -- a table that has no letters yet, and LOCUS gave that length
-pub record Before (given : Length) (t : Table) : Type 0 where
+pub record Before (given : Option ℕ) (t : Table) : Type 0 where
   pub none : t.letters ≡ []
   pub length : t.locus.length ≡ may_length given
 
-pub record EndKnown (s : List ℕ) (given : Length) (o : Table → Outcome) (lettersAt count place : ℕ) : Type 0 where
+pub record EndKnown (s : List ℕ) (given : Option ℕ) (o : Table → Outcome) (lettersAt count place : ℕ) : Type 0 where
   pub is : (t : Table) → Before given t → o t ≡ was_read (with_letters t (sifted (drop lettersAt s))) (drop place s)
   pub counted : count ≡ length (sifted (drop lettersAt s))
   pub lettered : lettersAt ≤ length s
   pub within : place ≤ length s
 
-abbrev pub EndAs : List ℕ → Length → (Table → Outcome) → EndAt → Type 0
+abbrev pub EndAs : List ℕ → Option ℕ → (Table → Outcome) → EndAt → Type 0
 EndAs s given o (ended.Got lettersAt count place) = EndKnown s given o lettersAt count place
 EndAs s given o (ended.Refused why) = (t : Table) → Before given t → o t ≡ not_read why
 
 -- for each table before
-pub record Ends (s : List ℕ) (given : Length) (o : Table → Outcome) (r : EndAt) : Type 0 where
+pub record Ends (s : List ℕ) (given : Option ℕ) (o : Table → Outcome) (r : EndAt) : Type 0 where
   pub is : EndAs s given o r

@@ -1,19 +1,18 @@
 // From ORIGIN on: `origin_tag` of misc.rs, the letters and the record's end of stream_parser.rs. Nothing is written.
 #![tactic(auto)]
 
-ghost use Rattle.std.specs.Prelude.{◌≡◌, ◌≤◌, ◌<◌, length, drop};
+ghost use Rattle.std.specs.Prelude.{◌≡◌, ℕ, ◌≤◌, ◌<◌, length, drop, Option};
 ghost use Rattle.spec_format.specs.Readers.{line, utf8_of};
 ghost use Rattle.spec_format.specs.Origin.{origin_tag};
 ghost use Rattle.spec_format.specs.Record.{promised, counted};
 ghost use Rattle.spec_format.specs.Rooms.{may_length};
-ghost use Rattle.spec_format.specs.declared.Length.{Length};
 ghost use Rattle.read_letters.specs.Runs.{sifted};
 ghost use Rattle.read_origin.specs.Ends.{origin_blanks, origin_text, origin_rest, Passed, letters_then, sequence_then, origin_then, bad_by, Ends};
 
 use read_letters::Counted;
 use read_slashes::RecordEnd;
 use scan_bytes::{Line, Step};
-use spec_format::{Length, Unread};
+use spec_format::Unread;
 
 // The letters stand at `letters_at` and are `letters` many, and the record ends at `place`; or why there is none. A record without ORIGIN has
 // its letters at the slice's end, where none are.
@@ -92,29 +91,23 @@ pub fn origin_at(s: &[u8], at: usize) -> Step
 // ---- the letters, and the record's end
 
 // Whether LOCUS gives this length or none.
-fn may_number(given: Length, n: usize) -> bool
+fn may_number(given: Option<u32>, n: usize) -> bool
     ensures { result ≡ promised (may_length given) n }
 {
-    match given {
-        Length::Absent => true,
-        Length::Bases(l) => l as usize == n,
-    }
+    given.is_none_or(|l| l as usize == n)
 }
 
 // Whether LOCUS gives this length.
-fn must_number(given: Length, n: usize) -> bool
+fn must_number(given: Option<u32>, n: usize) -> bool
     ensures { result ≡ counted (may_length given) n }
 {
-    match given {
-        Length::Absent => false,
-        Length::Bases(l) => l as usize == n,
-    }
+    given.is_some_and(|l| l as usize == n)
 }
 
 // The record's end at `at`; its letters start at `first` and were counted already.
 fn slashes_after(s: &[u8], at: usize, first: usize, letters: usize) -> EndAt
     requires { (at ≤ length s.now) × (first ≤ length s.now) × (letters ≡ length (sifted (drop first s.now))) }
-    ensures { (given : Length) → Ends s.now given (letters_then (sifted (drop first s.now)) (drop at s.now)) result }
+    ensures { (given : Option ℕ) → Ends s.now given (letters_then (sifted (drop first s.now)) (drop at s.now)) result }
 {
     match read_slashes::record_end(s, at) {
         RecordEnd::At(place) => EndAt::Got {
@@ -139,7 +132,7 @@ fn bad_letter(s: &[u8], at: usize) -> Unread
 }
 
 // The letters at `at`, which must be as many as LOCUS says. The input may end with them only if LOCUS says how many there are.
-fn sequence_at(s: &[u8], at: usize, given: Length, strict: bool) -> EndAt
+fn sequence_at(s: &[u8], at: usize, given: Option<u32>, strict: bool) -> EndAt
     requires { at ≤ length s.now }
     ensures { Ends s.now given (sequence_then strict (drop at s.now)) result }
 {
@@ -165,7 +158,7 @@ fn sequence_at(s: &[u8], at: usize, given: Length, strict: bool) -> EndAt
 }
 
 // ORIGIN and the letters, or none; and the record's end.
-pub fn end_at(s: &[u8], at: usize, given: Length, strict: bool) -> EndAt
+pub fn end_at(s: &[u8], at: usize, given: Option<u32>, strict: bool) -> EndAt
     requires { at ≤ length s.now }
     ensures { Ends s.now given (origin_then strict (drop at s.now)) result }
 {

@@ -1,4 +1,5 @@
 -- Texts that may be absent, by cases; and the places of a head's texts. Assumes nothing.
+use Rattle.std.specs.Prelude.{Option, Some, None}
 use Prim.Native.Nat.{ℕ, ◌+◌, ◌-◌, ◌<◌, ◌^◌}
 use mathlib.Core.Path.{◌≡◌, refl}
 use mathlib.Core.List.{List}
@@ -7,10 +8,7 @@ use lib.ListN.{length, take, drop}
 use Rattle.spec_format.specs.Bytes.{bytes}
 use Rattle.spec_format.specs.declared.ContigText.{ContigText}
 use Rattle.spec_format.specs.declared.Span.{Span}
-use Rattle.spec_format.specs.declared.Text.{Text}
-use Rattle.spec_format.specs.declared.Text.TheVariants as text
 use Rattle.spec_format.specs.declared.SourceText.{SourceText}
-use Rattle.spec_format.specs.declared.SourceText.TheVariants as source
 use Rattle.read_locus_tokens.specs.Parts.{spanned}
 use Rattle.read_locus.specs.declared.LocusPlan.{LocusPlan}
 use Rattle.read_locus.specs.declared.LocusPlan.TheVariants as plan
@@ -34,10 +32,10 @@ pub span_put :
 span_put s l m x p q w = let e : x.start + x.length - x.start ≡ x.length = omega arith in rw e at w
 
 module _ (s l : List ℕ) (p : ℕ) where
-  pub text_none : (x : Text) → x ≡ text.Absent → Writes l p (text_of s x) l p
+  pub text_none : (x : Option Span) → x ≡ None → Writes l p (text_of s x) l p
   text_none x e = rw e writes_nil
 
-  pub text_put : (x : Text) (y : Span) (m : List ℕ) (q : ℕ) → x ≡ text.At y → Writes l p (spanned s y) m q → Writes l p (text_of s x) m q
+  pub text_put : (x : Option Span) (y : Span) (m : List ℕ) (q : ℕ) → x ≡ Some y → Writes l p (spanned s y) m q → Writes l p (text_of s x) m q
   text_put x y m q e w = rw e w
 
   pub may_none : (x : MayEntry) → x ≡ may.Absent → Writes l p (may_text s x) l p
@@ -61,17 +59,17 @@ pub ruleset putting = (span_put, text_none, text_put, may_none, may_put, source_
 
 -- ---- where they lie
 
-pub from_at : (place : ℕ) (x : Text) (y : Span) → x ≡ text.At y → text.At (record { start = place; length = y.length }) ≡ text_from place x
+pub from_at : (place : ℕ) (x : Option Span) (y : Span) → x ≡ Some y → Some (record { start = place; length = y.length }) ≡ text_from place x
 from_at place x y e = rw e
 
-pub entry_is : (place : ℕ) (x : MayEntry) (y : Entry) → x ≡ may.Is y → text.At (record { start = place; length = y.length }) ≡ entry_at place x
+pub entry_is : (place : ℕ) (x : MayEntry) (y : Entry) → x ≡ may.Is y → Some (record { start = place; length = y.length }) ≡ entry_at place x
 entry_is place x y e = rw e
 
 module _ (x : MaySource) (y : Entry) (z : MayEntry) (e : x ≡ found.Is y z) where
   pub source_small : (place : ℕ) → place + source_bytes x < 2 ^ 64 → place + y.length < 2 ^ 64
   source_small place h = let k : place + (y.length + may_length z) < 2 ^ 64 = rw e at h in omega arith
 
-  pub source_is : (place : ℕ) (t : Text) → t ≡ entry_at (place + y.length) z → source.At (record { start = place; length = y.length }) t ≡ source_at place x
+  pub source_is : (place : ℕ) (t : Option Span) → t ≡ entry_at (place + y.length) z → Some (record { text = record { start = place; length = y.length }; organism = t }) ≡ source_at place x
   source_is place t k = rw (e, k)
 
   pub length_small : (n : ℕ) → n ≡ may_length z → source_bytes x < 2 ^ 64 → y.length + n < 2 ^ 64
@@ -109,7 +107,7 @@ module _ (x : LocusPlan) (h : Header) (a : LocusHead) (e : a ≡ locus_head x) w
     sum_is n k = omega (arith, after)
 
     pub head_is :
-        (features : ℕ) (contig : ContigText) (letters : ℕ) (y : SourceText) → y ≡ source_at t.next h.source →
+        (features : ℕ) (contig : Option ContigText) (letters : ℕ) (y : Option SourceText) → y ≡ source_at t.next h.source →
         record {
           name = a.name;
           length = a.length;

@@ -1,14 +1,9 @@
 -- How many bytes the texts of a head take, and where each lies once they are put one after the other.
-use Rattle.std.specs.Prelude.{ℕ, ◌+◌, Bool, false}
+use Rattle.std.specs.Prelude.{ℕ, ◌+◌, Bool, false, Option, Some, None}
 use Rattle.spec_format.specs.declared.ContigText.{ContigText}
 use Rattle.spec_format.specs.declared.Span.{Span}
-use Rattle.spec_format.specs.declared.Text.{Text}
-use Rattle.spec_format.specs.declared.Text.TheVariants as text
 use Rattle.spec_format.specs.declared.SourceText.{SourceText}
-use Rattle.spec_format.specs.declared.SourceText.TheVariants as source
-use Rattle.spec_format.specs.declared.Length.TheVariants as bases
 use Rattle.spec_format.specs.declared.Date.{Date}
-use Rattle.spec_format.specs.declared.Dated.TheVariants as dated
 use Rattle.spec_format.specs.declared.Head.{Head}
 use Rattle.read_locus.specs.declared.LocusPlan.{LocusPlan}
 use Rattle.read_locus.specs.declared.LocusPlan.TheVariants as plan
@@ -21,9 +16,9 @@ use Rattle.read_field_all.specs.declared.Header.{Header}
 use Rattle.read_record_head.specs.declared.LocusHead.{LocusHead}
 use Rattle.read_record_head.specs.declared.HeaderTexts.{HeaderTexts}
 
-abbrev pub text_length : Text → ℕ
-text_length text.Absent = 0
-text_length (text.At x) = x.length
+abbrev pub text_length : Option Span → ℕ
+text_length None = 0
+text_length (Some x) = x.length
 
 abbrev pub locus_bytes : LocusPlan → ℕ
 locus_bytes plan.Unknown = 3
@@ -41,38 +36,38 @@ head_bytes locus h = locus_bytes locus + header_bytes h + source_bytes h.source
 
 -- ---- places
 
-abbrev pub text_from : ℕ → Text → Text
-text_from place text.Absent = text.Absent
-text_from place (text.At x) = text.At (record { start = place; length = x.length })
+abbrev pub text_from : ℕ → Option Span → Option Span
+text_from place None = None
+text_from place (Some x) = Some (record { start = place; length = x.length })
 
-abbrev pub known_head : Span → ℕ → Text → Bool → Span → Date → LocusHead
+abbrev pub known_head : Span → ℕ → Option Span → Bool → Span → Date → LocusHead
 known_head name n molecule circular division date =
     record {
-      name = text.At (record { start = 0; length = name.length });
-      length = bases.Bases n;
+      name = Some (record { start = 0; length = name.length });
+      length = Some n;
       molecule = text_from name.length molecule;
       circular = circular;
       division = record { start = name.length + text_length molecule; length = division.length };
-      date = dated.On date;
+      date = Some date;
       next = name.length + text_length molecule + division.length;
     }
 
 abbrev pub locus_head : LocusPlan → LocusHead
 locus_head plan.Unknown =
     record {
-      name = text.Absent;
-      length = bases.Absent;
-      molecule = text.Absent;
+      name = None;
+      length = None;
+      molecule = None;
       circular = false;
       division = record { start = 0; length = 3 };
-      date = dated.Absent;
+      date = None;
       next = 3;
     }
 locus_head (plan.Known name n molecule circular division date) = known_head name n molecule circular division date
 
-abbrev pub entry_at : ℕ → MayEntry → Text
-entry_at place may.Absent = text.Absent
-entry_at place (may.Is e) = text.At (record { start = place; length = e.length })
+abbrev pub entry_at : ℕ → MayEntry → Option Span
+entry_at place may.Absent = None
+entry_at place (may.Is e) = Some (record { start = place; length = e.length })
 
 abbrev pub header_texts : ℕ → Header → HeaderTexts
 header_texts place h =
@@ -85,12 +80,12 @@ header_texts place h =
       next = place + may_length h.definition + may_length h.accession + may_length h.version + may_length h.dblink + may_length h.keywords;
     }
 
-abbrev pub source_at : ℕ → MaySource → SourceText
-source_at place found.Absent = source.Absent
-source_at place (found.Is text organism) = source.At (record { start = place; length = text.length }) (entry_at (place + text.length) organism)
+abbrev pub source_at : ℕ → MaySource → Option SourceText
+source_at place found.Absent = None
+source_at place (found.Is text organism) = Some (record { text = record { start = place; length = text.length }; organism = entry_at (place + text.length) organism })
 
 -- the head, with CONTIG, which is put later, and the counts
-unfoldable pub head_in : LocusPlan → Header → ℕ → ContigText → ℕ → Head
+unfoldable pub head_in : LocusPlan → Header → ℕ → Option ContigText → ℕ → Head
 head_in locus h features contig letters =
     record {
       name = (locus_head locus).name;

@@ -1,6 +1,6 @@
 -- A table whose head stands in the slice where a plan and a header say: its texts, their bytes and its head are what the code makes of these.
 -- Assumes nothing.
-use Rattle.std.specs.Prelude.{ℕ, ◌+◌, ◌*◌, ◌≤◌, ◌<◌, ◌^◌, ◌≡◌, Bool, true, List, ◌++◌, length}
+use Rattle.std.specs.Prelude.{ℕ, ◌+◌, ◌*◌, ◌≤◌, ◌<◌, ◌^◌, ◌≡◌, Bool, true, List, ◌++◌, length, Option, Some, None}
 use Rattle.std.proofs.Math.Path.{refl}
 use Rattle.std.proofs.Common.{sym, append_assoc, append-nil, arith, length-take, length-drop}
 use Rattle.std.proofs.Math.ListN.{length-append}
@@ -10,8 +10,6 @@ use Rattle.spec_format.specs.Table.{Locus, Source, Table}
 use Rattle.spec_format.specs.Rooms.{piece_text, perhaps, pieces_text, head_pieces, source_of, organism_of, start_of, span_of, text_at, source_at, length_of, contig_at, contig_text_at, location_count, head_of}
 use Rattle.spec_format.specs.declared.ContigText.{ContigText}
 use Rattle.spec_format.specs.declared.Span.{Span}
-use Rattle.spec_format.specs.declared.Text.{Text}
-use Rattle.spec_format.specs.declared.Text.TheVariants as text
 use Rattle.spec_format.specs.declared.SourceText.{SourceText}
 use Rattle.spec_format.specs.declared.Head.{Head}
 use Rattle.read_locus_tokens.specs.Parts.{spanned, Ends}
@@ -113,21 +111,21 @@ module _ (s : List ℕ) where
   span_length : (x : Span) → Ends (length s) x → length (spanned s x) ≡ x.length
   span_length x h = simp (length-take, length-drop) (omega arith)
 
-  text_is : (x : Text) → text_of s x ≡ piece_text (perhaps (plans.text_in s x))
-  text_is text.Absent = refl
-  text_is (text.At x) = refl
+  text_is : (x : Option Span) → text_of s x ≡ piece_text (perhaps (plans.text_in s x))
+  text_is None = refl
+  text_is (Some x) = refl
 
-  text_sized : (x : Text) → TextEnds (length s) x → text_length x ≡ size (plans.text_in s x)
-  text_sized text.Absent h = refl
-  text_sized (text.At x) h = sym (span_length x h)
+  text_sized : (x : Option Span) → TextEnds (length s) x → text_length x ≡ size (plans.text_in s x)
+  text_sized None h = refl
+  text_sized (Some x) h = sym (span_length x h)
 
-  text_placed : (place : ℕ) (x : Text) → TextEnds (length s) x → text_from place x ≡ text_at place (plans.text_in s x)
-  text_placed place text.Absent h = refl
-  text_placed place (text.At x) h = rw (span_length x h)
+  text_placed : (place : ℕ) (x : Option Span) → TextEnds (length s) x → text_from place x ≡ text_at place (plans.text_in s x)
+  text_placed place None h = refl
+  text_placed place (Some x) h = rw (span_length x h)
 
-  text_within : (x : Text) → TextEnds (length s) x → text_length x ≤ length s
-  text_within text.Absent h = omega arith
-  text_within (text.At x) h = omega arith
+  text_within : (x : Option Span) → TextEnds (length s) x → text_length x ≤ length s
+  text_within None h = omega arith
+  text_within (Some x) h = omega arith
 
   locus_text_lem : (p : LocusPlan) → locus_text s p ≡ piece_text (perhaps (planned s p).name) ++ piece_text (perhaps (planned s p).molecule) ++ (planned s p).division
   locus_text_lem plan.Unknown = refl
@@ -163,7 +161,7 @@ locus_placed s (plan.Known name n molecule circular division date) h =
 -- ---- the head
 
 -- a head from where its texts lie, and the counts
-abbrev head_from : LocusHead → HeaderTexts → SourceText → ℕ → ℕ → ℕ → ContigText → ℕ → Head
+abbrev head_from : LocusHead → HeaderTexts → Option SourceText → ℕ → ℕ → ℕ → Option ContigText → ℕ → Head
 head_from l x source references comments features contig letters =
     record {
       name = l.name;
@@ -349,7 +347,7 @@ module _ (s : List ℕ) (at : ℕ) (locus : LocusPlan) (h : Header) (t : Table) 
 
   -- what `head_of` makes
   pub head_made :
-      (features : ℕ) (contig : ContigText) (letters : ℕ) → h.references ≡ length t.references → h.comments ≡ length t.comments →
+      (features : ℕ) (contig : Option ContigText) (letters : ℕ) → h.references ≡ length t.references → h.comments ≡ length t.comments →
       features ≡ length t.features → contig ≡ contig_text_at (contig_at t) (location_count t.features) t.contig → letters ≡ length t.letters →
       head_in locus h features contig letters ≡ head_of t
   unfolding head_in
@@ -360,7 +358,7 @@ module _ (s : List ℕ) (at : ℕ) (locus : LocusPlan) (h : Header) (t : Table) 
       go (locus_head locus) a (header_texts (locus_head locus).next h) b (places.source_at (header_texts (locus_head locus).next h).next h.source) d
     where
       go :
-          (x : LocusHead) → x ≡ locus_of t.locus → (y : HeaderTexts) → y ≡ header_of x.next t → (z : SourceText) →
+          (x : LocusHead) → x ≡ locus_of t.locus → (y : HeaderTexts) → y ≡ header_of x.next t → (z : Option SourceText) →
           z ≡ source_at y.next (y.next + size (source_of t.source)) t.source →
           head_from x y z h.references h.comments features contig letters ≡ head_of t
       go x a y b z d = rw (d, b, a, r, c, f, m, l) (sym (head_parts t))

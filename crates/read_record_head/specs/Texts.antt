@@ -1,9 +1,8 @@
 -- The texts of a head, from the places where they stand in the slice.
-use Rattle.std.specs.Prelude.{ℕ, ◌≤◌, true, List, [], ◌++◌, length, drop}
+use Rattle.std.specs.Prelude.{ℕ, ◌≤◌, true, List, [], ◌++◌, length, drop, Option, Some, None}
 use Rattle.spec_format.specs.Bytes.{bytes}
+use Rattle.spec_format.specs.declared.Span.{Span}
 use Rattle.spec_format.specs.Header.{field_text}
-use Rattle.spec_format.specs.declared.Text.{Text}
-use Rattle.spec_format.specs.declared.Text.TheVariants as text
 use Rattle.read_locus_tokens.specs.Parts.{spanned}
 use Rattle.read_locus.specs.declared.LocusPlan.{LocusPlan}
 use Rattle.read_locus.specs.declared.LocusPlan.TheVariants as plan
@@ -16,9 +15,9 @@ use Rattle.read_field_all.specs.declared.MaySource.{MaySource}
 use Rattle.read_field_all.specs.declared.MaySource.TheVariants as source
 use Rattle.read_field_all.specs.declared.Header.{Header}
 
-abbrev pub text_of : List ℕ → Text → List ℕ
-text_of s text.Absent = []
-text_of s (text.At x) = spanned s x
+abbrev pub text_of : List ℕ → Option Span → List ℕ
+text_of s None = []
+text_of s (Some x) = spanned s x
 
 -- name, molecule type and division; UNK where the line was not understood
 abbrev pub locus_text : List ℕ → LocusPlan → List ℕ

@@ -12,7 +12,7 @@ use read_field_all::{Header, MaySource};
 use read_field_entry::Entry;
 use read_field_optional::MayEntry;
 use read_locus::LocusPlan;
-use spec_format::{ContigText, Date, Dated, Head, Length, SourceText, Span, Text};
+use spec_format::{ContigText, Date, Head, SourceText, Span};
 
 // ---- the texts
 
@@ -21,23 +21,23 @@ fn put_span(s: &[u8], x: Span, texts: &mut [u8], place: usize) -> usize
     ensures { Writes texts.old place (spanned s.now x) texts.new result }
 {
     let from = x.start;
-    base_pen::put_part(texts, place, s, from, from + x.length)
+    base_pen::put_all(texts, place, &s[from..from + x.length])
 }
 
-fn put_text(s: &[u8], x: Text, texts: &mut [u8], place: usize) -> usize
+fn put_text(s: &[u8], x: Option<Span>, texts: &mut [u8], place: usize) -> usize
     requires { TextEnds (length s.now) x }
     ensures { Writes texts.old place (text_of s.now x) texts.new result }
 {
     match x {
-        Text::Absent => place,
-        Text::At(span) => put_span(s, span, texts, place),
+        None => place,
+        Some(span) => put_span(s, span, texts, place),
     }
 }
 
 fn put_three(
     s: &[u8],
     name: Span,
-    molecule: Text,
+    molecule: Option<Span>,
     division: Span,
     texts: &mut [u8],
     place: usize,
@@ -56,7 +56,7 @@ fn put_locus(s: &[u8], locus: LocusPlan, texts: &mut [u8], place: usize) -> usiz
     ensures { Writes texts.old place (locus_text s.now locus) texts.new result }
 {
     match locus {
-        LocusPlan::Unknown => base_pen::put_bytes(texts, place, b"UNK"),
+        LocusPlan::Unknown => base_pen::put_all(texts, place, b"UNK"),
         LocusPlan::Known {
             name,
             length: _,
@@ -130,40 +130,40 @@ pub fn put_head(s: &[u8], locus: LocusPlan, header: Header, texts: &mut [u8]) ->
 // Where the LOCUS texts lie, with the other values; `next` is the place after the texts.
 #[derive(Clone, Copy)]
 struct LocusHead {
-    name: Text,
-    length: Length,
-    molecule: Text,
+    name: Option<Span>,
+    length: Option<u32>,
+    molecule: Option<Span>,
     circular: bool,
     division: Span,
-    date: Dated,
+    date: Option<Date>,
     next: usize,
 }
 
 #[derive(Clone, Copy)]
 struct HeaderTexts {
-    definition: Text,
-    accession: Text,
-    version: Text,
-    dblink: Text,
-    keywords: Text,
+    definition: Option<Span>,
+    accession: Option<Span>,
+    version: Option<Span>,
+    dblink: Option<Span>,
+    keywords: Option<Span>,
     next: usize,
 }
 
-fn text_length(x: Text) -> usize
+fn text_length(x: Option<Span>) -> usize
     ensures { result ≡ text_length x }
 {
     match x {
-        Text::Absent => 0,
-        Text::At(span) => span.length,
+        None => 0,
+        Some(span) => span.length,
     }
 }
 
-fn text_from(place: usize, x: Text) -> Text
+fn text_from(place: usize, x: Option<Span>) -> Option<Span>
     ensures { result ≡ text_from place x }
 {
     match x {
-        Text::Absent => Text::Absent,
-        Text::At(span) => Text::At(Span {
+        None => None,
+        Some(span) => Some(Span {
             start: place,
             length: span.length,
         }),
@@ -173,7 +173,7 @@ fn text_from(place: usize, x: Text) -> Text
 fn known_head(
     name: Span,
     length: u32,
-    molecule: Text,
+    molecule: Option<Span>,
     circular: bool,
     division: Span,
     date: Date,
@@ -184,18 +184,18 @@ fn known_head(
     let a = name.length;
     let b = a + text_length(molecule);
     LocusHead {
-        name: Text::At(Span {
+        name: Some(Span {
             start: 0,
             length: a,
         }),
-        length: Length::Bases(length),
+        length: Some(length),
         molecule: text_from(a, molecule),
         circular,
         division: Span {
             start: b,
             length: division.length,
         },
-        date: Dated::On(date),
+        date: Some(date),
         next: b + division.length,
     }
 }
@@ -206,15 +206,15 @@ fn locus_head(locus: LocusPlan) -> LocusHead
 {
     match locus {
         LocusPlan::Unknown => LocusHead {
-            name: Text::Absent,
-            length: Length::Absent,
-            molecule: Text::Absent,
+            name: None,
+            length: None,
+            molecule: None,
             circular: false,
             division: Span {
                 start: 0,
                 length: 3,
             },
-            date: Dated::Absent,
+            date: None,
             next: 3,
         },
         LocusPlan::Known {
@@ -228,12 +228,12 @@ fn locus_head(locus: LocusPlan) -> LocusHead
     }
 }
 
-fn entry_at(place: usize, e: MayEntry) -> Text
+fn entry_at(place: usize, e: MayEntry) -> Option<Span>
     ensures { result ≡ entry_at place e }
 {
     match e {
-        MayEntry::Absent => Text::Absent,
-        MayEntry::Is(entry) => Text::At(Span {
+        MayEntry::Absent => None,
+        MayEntry::Is(entry) => Some(Span {
             start: place,
             length: entry.length,
         }),
@@ -263,19 +263,19 @@ fn header_texts(h: Header, place: usize) -> HeaderTexts
     }
 }
 
-fn source_at(place: usize, x: MaySource) -> SourceText
+fn source_at(place: usize, x: MaySource) -> Option<SourceText>
     requires { place + source_bytes x < 2 ^ 64 }
     ensures { result ≡ source_at place x }
 {
     match x {
-        MaySource::Absent => SourceText::Absent,
-        MaySource::Is { text, organism } => SourceText::At {
+        MaySource::Absent => None,
+        MaySource::Is { text, organism } => Some(SourceText {
             text: Span {
                 start: place,
                 length: text.length,
             },
             organism: entry_at(place + text.length, organism),
-        },
+        }),
     }
 }
 
@@ -305,7 +305,7 @@ pub fn head_of(
     locus: LocusPlan,
     header: Header,
     features: usize,
-    contig: ContigText,
+    contig: Option<ContigText>,
     letters: usize,
 ) -> Head
     requires { head_bytes locus header < 2 ^ 64 }

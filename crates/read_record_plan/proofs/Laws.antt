@@ -1,4 +1,5 @@
 -- The laws of the parts of a record: each answer by the answer of the part before.
+use Rattle.std.specs.Prelude.{Option}
 use Prim.Native.Nat.{ℕ, ◌≤◌}
 use mathlib.Core.Bool.{Bool, true, false}
 use mathlib.Core.Path.{◌≡◌, refl, sym, ap, subst, ◌∙◌}
@@ -14,7 +15,6 @@ use Rattle.spec_format.specs.Header.{Field, every, text_in}
 use Rattle.spec_format.specs.Record.{Middle, not_read, middle, deep_in, table_from, read_record}
 use Rattle.spec_format.specs.Strict.{letters_from, record_by}
 use Rattle.spec_format.specs.Rooms.{may_length}
-use Rattle.spec_format.specs.declared.Length.{Length}
 use Rattle.spec_format.specs.declared.Unread.{Unread}
 use Rattle.spec_format.specs.declared.Unread.TheVariants as unread
 use Rattle.spec_strict.specs.Laws.{strictly_none}
@@ -48,11 +48,11 @@ use Rattle.read_record_plan.specs.Plans.{length_in, rest_then, table_with, RestK
 -- ---- after the header
 
 -- a table of what was read up to here has no letters yet
-table_before : (given : Length) (l : Locus) (fs : List Field) (m : Middle) → l.length ≡ may_length given → Before given (table_from l fs m)
+table_before : (given : Option ℕ) (l : Locus) (fs : List Field) (m : Middle) → l.length ≡ may_length given → Before given (table_from l fs m)
 unfolding table_from
 table_before given l fs m e = record { none = refl; length = e }
 
-module _ (s : List ℕ) (at : ℕ) (given : Length) (strict : Bool) (r : MiddleAt) (h : Middles s (deep_in (drop at s)) (middle (drop at s)) r) where
+module _ (s : List ℕ) (at : ℕ) (given : Option ℕ) (strict : Bool) (r : MiddleAt) (h : Middles s (deep_in (drop at s)) (middle (drop at s)) r) where
   as_told : (x : MiddleAt) → r ≡ x → MiddleAs s (deep_in (drop at s)) (middle (drop at s)) x
   as_told x e = subst (λ (x : MiddleAt). MiddleAs s (deep_in (drop at s)) (middle (drop at s)) x) e h.is
 
@@ -119,7 +119,7 @@ module _ (s : List ℕ) (at : ℕ) (p : LocusPlan) (strict : Bool) (h : Header) 
   pub header_within : h.next ≤ length s
   header_within = g.within
 
-  module _ (r : RestAt) (n : Length) (e : h.twice ≡ false) (m : n ≡ length_in p) (w : Rests s n (rest_then strict (drop h.next s)) r) where
+  module _ (r : RestAt) (n : Option ℕ) (e : h.twice ≡ false) (m : n ≡ length_in p) (w : Rests s n (rest_then strict (drop h.next s)) r) where
     then_rest : header_then strict (planned s p) (drop at s) ≡ rest_then strict (drop h.next s) (planned s p) (fields_at (drop at s))
     unfolding header_then rest_then
     then_rest = rw (g.ended, once names h.twice g.twice e)

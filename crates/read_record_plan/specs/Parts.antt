@@ -1,5 +1,5 @@
 -- The parts of the table that a plan stands for, and how small they are.
-use Rattle.std.specs.Prelude.{ℕ, suc, ◌+◌, ◌*◌, ◌≤◌, ◌≡◌, refl, Bool, true, false, List, [], ◌∷◌, length, drop, eqb}
+use Rattle.std.specs.Prelude.{ℕ, suc, ◌+◌, ◌*◌, ◌≤◌, ◌≡◌, refl, Bool, true, false, List, [], ◌∷◌, length, drop, eqb, Option, Some, None}
 use Rattle.std.proofs.Common.{arith, length-append, length-take, length-drop}
 use Rattle.spec_format.specs.Bytes.{May, absent, is, bytes, each, letter}
 use Rattle.spec_format.specs.Table.{Locus, Source, Table}
@@ -8,8 +8,6 @@ use Rattle.spec_format.specs.Origin.{skipped}
 use Rattle.spec_format.specs.Record.{table_from}
 use Rattle.spec_format.specs.Rooms.{perhaps, piece_text, pieces_text, source_of, organism_of, head_pieces, reference_pieces, comment_pieces, texts_of, feature_text, qualifier_count, location_count, contig_text, contig_rows}
 use Rattle.spec_format.specs.declared.Span.{Span}
-use Rattle.spec_format.specs.declared.Text.{Text}
-use Rattle.spec_format.specs.declared.Text.TheVariants as text
 use Rattle.read_letters.specs.Runs.{sifted}
 use Rattle.read_locus.specs.declared.LocusPlan.{LocusPlan}
 use Rattle.read_locus.specs.declared.LocusPlan.TheVariants as locus
@@ -108,9 +106,9 @@ locus_small : (s : List ℕ) (p : LocusPlan) → locus_long (planned s p) ≤ 3 
 locus_small s locus.Unknown = omega arith
 locus_small s (locus.Known name n molecule circular division date) = go molecule
   where
-    go : (m : Text) → locus_long (planned s (locus.Known name n m circular division date)) ≤ 3 * length s + 3
-    go text.Absent = omega (arith, span_small s name, span_small s division)
-    go (text.At x) = omega (arith, span_small s name, span_small s division, span_small s x)
+    go : (m : Option Span) → locus_long (planned s (locus.Known name n m circular division date)) ≤ 3 * length s + 3
+    go None = omega (arith, span_small s name, span_small s division)
+    go (Some x) = omega (arith, span_small s name, span_small s division, span_small s x)
 
 -- n is the length of the slice
 pub record SmallParts (n : ℕ) (t : Table) : Type 0 where

@@ -1,5 +1,5 @@
 -- What the plan of a record says of the record that is read there.
-use Rattle.std.specs.Prelude.{ℕ, ◌≤◌, Bool, ◌≡◌, List, length, drop}
+use Rattle.std.specs.Prelude.{ℕ, ◌≤◌, Bool, ◌≡◌, List, length, drop, Option, Some, None}
 use Rattle.spec_format.specs.Bytes.{pick}
 use Rattle.spec_format.specs.Readers.{bind, while_fits}
 use Rattle.spec_format.specs.Table.{Locus, Table}
@@ -9,8 +9,6 @@ use Rattle.spec_format.specs.Record.{Outcome, was_read, not_read, most, with_let
 use Rattle.spec_format.specs.Strict.{letters_below, letters_after, stray_after, strictly}
 use Rattle.spec_format.specs.Rooms.{may_length}
 use Rattle.spec_format.specs.declared.Unread.TheVariants as unread
-use Rattle.spec_format.specs.declared.Length.{Length}
-use Rattle.spec_format.specs.declared.Length.TheVariants as bases
 use Rattle.read_letters.specs.Runs.{sifted}
 use Rattle.read_locus.specs.declared.LocusPlan.{LocusPlan}
 use Rattle.read_locus.specs.declared.LocusPlan.TheVariants as plans
@@ -24,9 +22,9 @@ use Rattle.read_record_plan.specs.declared.Plan.{Plan}
 use Rattle.read_record_plan.specs.declared.PlanAt.{PlanAt}
 use Rattle.read_record_plan.specs.declared.PlanAt.TheVariants as plan
 
-abbrev pub length_in : LocusPlan → Length
-length_in plans.Unknown = bases.Absent
-length_in (plans.Known name n molecule circular division date) = bases.Bases n
+abbrev pub length_in : LocusPlan → Option ℕ
+length_in plans.Unknown = None
+length_in (plans.Known name n molecule circular division date) = Some n
 
 -- ---- after the header, whatever LOCUS and header were read, with the strict switch or without
 
@@ -44,15 +42,15 @@ pub record RestStands (s : List ℕ) (r : Rest) : Type 0 where
   pub lettered : r.letters_at ≤ length s
   pub within : r.place ≤ length s
 
-pub record RestKnown (s : List ℕ) (given : Length) (o : Locus → List Field → Outcome) (r : Rest) : Type 0 where
+pub record RestKnown (s : List ℕ) (given : Option ℕ) (o : Locus → List Field → Outcome) (r : Rest) : Type 0 where
   pub is : (l : Locus) (fs : List Field) → l.length ≡ may_length given → o l fs ≡ was_read (table_with s l fs r) (drop r.place s)
   pub stands : RestStands s r
 
-abbrev pub RestAs : List ℕ → Length → (Locus → List Field → Outcome) → RestAt → Type 0
+abbrev pub RestAs : List ℕ → Option ℕ → (Locus → List Field → Outcome) → RestAt → Type 0
 RestAs s given o (rest.Got r) = RestKnown s given o r
 RestAs s given o (rest.Refused why) = (l : Locus) (fs : List Field) → l.length ≡ may_length given → o l fs ≡ not_read why
 
-pub record Rests (s : List ℕ) (given : Length) (o : Locus → List Field → Outcome) (r : RestAt) : Type 0 where
+pub record Rests (s : List ℕ) (given : Option ℕ) (o : Locus → List Field → Outcome) (r : RestAt) : Type 0 where
   pub is : RestAs s given o r
 
 -- ---- a whole record

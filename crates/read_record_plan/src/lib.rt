@@ -15,7 +15,7 @@ use read_locus_at::LocusAt;
 use read_origin::EndAt;
 use read_record_middle::MiddleAt;
 use scan_bytes::Step;
-use spec_format::{Length, Unread};
+use spec_format::Unread;
 
 // What stands after the header, up to `place`.
 #[derive(Clone, Copy)]
@@ -51,11 +51,11 @@ pub enum PlanAt {
 }
 
 // The length that LOCUS gives.
-fn locus_length(plan: LocusPlan) -> Length
+fn locus_length(plan: LocusPlan) -> Option<u32>
     ensures { result ≡ length_in plan }
 {
     match plan {
-        LocusPlan::Unknown => Length::Absent,
+        LocusPlan::Unknown => None,
         LocusPlan::Known {
             name: _,
             length,
@@ -63,12 +63,12 @@ fn locus_length(plan: LocusPlan) -> Length
             circular: _,
             division: _,
             date: _,
-        } => Length::Bases(length),
+        } => Some(length),
     }
 }
 
 // All that follows the header.
-fn rest_at(s: &[u8], at: usize, given: Length, strict: bool) -> RestAt
+fn rest_at(s: &[u8], at: usize, given: Option<u32>, strict: bool) -> RestAt
     requires { (at ≤ length s.now) × (length s.now ≤ most) }
     ensures { Rests s.now given (rest_then strict (drop at s.now)) result }
 {

@@ -1,9 +1,8 @@
 -- What a plan takes of the rooms, its head, and whether rooms of given lengths hold that much.
-use Rattle.std.specs.Prelude.{ℕ, ◌+◌, ◌/◌, Bool, ◌&&◌, leb}
+use Rattle.std.specs.Prelude.{ℕ, ◌+◌, ◌/◌, Bool, ◌&&◌, leb, Option, Some, None}
 use Rattle.spec_format.specs.declared.Head.{Head}
 use Rattle.spec_format.specs.declared.Sizes.{Sizes}
 use Rattle.spec_format.specs.declared.ContigText.{ContigText}
-use Rattle.spec_format.specs.declared.ContigText.TheVariants as contig
 use Rattle.read_field_optional.specs.Fields.{may_length}
 use Rattle.read_field_optional.specs.declared.MayEntry.{MayEntry}
 use Rattle.read_field_optional.specs.declared.MayEntry.TheVariants as may
@@ -35,9 +34,9 @@ sizes_in p =
     }
 
 -- CONTIG at a place in the store, its rows from `row` on
-abbrev pub contig_entry : ℕ → MayEntry → ℕ → ℕ → ContigText
-contig_entry place may.Absent row rows = contig.Absent
-contig_entry place (may.Is e) row rows = contig.At (record { start = place; length = e.length }) row rows
+abbrev pub contig_entry : ℕ → MayEntry → ℕ → ℕ → Option ContigText
+contig_entry place may.Absent row rows = None
+contig_entry place (may.Is e) row rows = Some (record { text = record { start = place; length = e.length }; row = row; rows = rows })
 
 unfoldable pub head_plan : Plan → Head
 head_plan p =

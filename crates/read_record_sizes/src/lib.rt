@@ -43,19 +43,19 @@ pub fn sizes_of(plan: Plan) -> Sizes
 }
 
 // CONTIG's text at a place in the store, and its rows, which come after those of the features.
-fn contig_text(place: usize, contig: MayEntry, row: usize, rows: usize) -> ContigText
+fn contig_text(place: usize, contig: MayEntry, row: usize, rows: usize) -> Option<ContigText>
     ensures { result ≡ contig_entry place contig row rows }
 {
     match contig {
-        MayEntry::Absent => ContigText::Absent,
-        MayEntry::Is(e) => ContigText::At {
+        MayEntry::Absent => None,
+        MayEntry::Is(e) => Some(ContigText {
             text: Span {
                 start: place,
                 length: e.length,
             },
             row,
             rows,
-        },
+        }),
     }
 }
 

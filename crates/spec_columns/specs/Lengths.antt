@@ -1,11 +1,9 @@
 -- Lengths of numbers and dates as they are written.
-use Rattle.std.specs.Prelude.{ℕ, zero, suc, ◌-◌, ◌*◌, ◌/◌, ◌≤◌, ◌<◌, Bool, true, false, ◌≡◌, refl, List, [], ◌∷◌, length, get_or, eqb, ltb}
+use Rattle.std.specs.Prelude.{ℕ, zero, suc, ◌-◌, ◌*◌, ◌/◌, ◌≤◌, ◌<◌, Bool, true, false, ◌≡◌, refl, List, [], ◌∷◌, length, get_or, eqb, ltb, Option, Some, None}
 use Rattle.std.proofs.Common.{not-suc-le-zero, arith, length-append, eqb-true, ltb-false, lt-ltb}
 use Rattle.spec_format.specs.Bytes.{pick, all, digits, decimal}
 use Rattle.spec_format.specs.Dates.{months, month_name, date_text, printed_date, made, is_date}
 use Rattle.spec_format.specs.declared.Date.{Date}
-use Rattle.spec_format.specs.declared.Dated.{Dated}
-use Rattle.spec_format.specs.declared.Dated.TheVariants as dated
 use Rattle.spec_format.specs.Table.{Table}
 use Rattle.spec_format.specs.Write.{length_or, length_text}
 use Rattle.spec_format.specs.WellFormed.{date_fine}
@@ -65,7 +63,7 @@ month_is d m y e = go (ltb d 1) (ltb 31 d) (ltb m 1) refl (ltb 12 m) refl e
   where
     go :
         (a b x : Bool) → ltb m 1 ≡ x → (z : Bool) → ltb 12 m ≡ z →
-        is_date (pick a dated.Absent (pick b dated.Absent (pick x dated.Absent (pick z dated.Absent (pick (ltb 9999 y) dated.Absent (dated.On (record { day = d; month = m; year = y }))))))) ≡ true →
+        is_date (pick a None (pick b None (pick x None (pick z None (pick (ltb 9999 y) None (Some (record { day = d; month = m; year = y }))))))) ≡ true →
         (0 < m) × (m ≤ 12)
     go false false false p false q e = (omega (arith, ltb-false m 1 p), ltb-false 12 m q)
     go true b x p z q e = let f : ◌≡◌ {A = ℕ} 0 1 = cc in absurd (omega arith)
@@ -78,7 +76,7 @@ unfolding date_text
 text_length_lem d h = simp length-append (rw h)
 
 -- a date in its range, or the one printed where there is none, has eleven bytes
-pub date_length : (d : Dated) → date_fine d ≡ true → length (date_text (printed_date d)) ≡ 11
+pub date_length : (d : Option Date) → date_fine d ≡ true → length (date_text (printed_date d)) ≡ 11
 unfolding date_text month_name
-date_length dated.Absent e = refl
-date_length (dated.On d) e = let m = month_is d.day d.month d.year e in text_length_lem d (month_length d.month m.0 m.1)
+date_length None e = refl
+date_length (Some d) e = let m = month_is d.day d.month d.year e in text_length_lem d (month_length d.month m.0 m.1)

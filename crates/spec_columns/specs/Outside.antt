@@ -1,8 +1,7 @@
 -- Where the writer leaves the columns of the flat file: the smallest tables, computed.
-use Rattle.std.specs.Prelude.{ℕ, Bool, true, false, ◌&&◌, not, ◌≡◌, refl, List, [], ◌∷◌, replicate}
+use Rattle.std.specs.Prelude.{ℕ, Bool, true, false, ◌&&◌, not, ◌≡◌, refl, List, [], ◌∷◌, replicate, None}
 use Rattle.spec_format.specs.Bytes.{absent, is, bytes, all, digits}
 use Rattle.spec_format.specs.Dates.{month_name, date_text}
-use Rattle.spec_format.specs.declared.Dated.TheVariants as dated
 use Rattle.spec_format.specs.Table.{Feature, Table}
 use Rattle.spec_format.specs.Location.{rows_in}
 use Rattle.spec_format.specs.Locus.{tokens}
@@ -15,7 +14,7 @@ use Rattle.spec_columns.specs.LocusLine.{locus_values, line_of}
 abbrev pub short : List ℕ → List ℕ → List ℕ → Table
 short name molecule division =
     record {
-      locus = record { name = is name; length = is 0; molecule = is molecule; circular = false; division = division; date = dated.Absent };
+      locus = record { name = is name; length = is 0; molecule = is molecule; circular = false; division = division; date = None };
       definition = absent;
       accession = absent;
       version = absent;

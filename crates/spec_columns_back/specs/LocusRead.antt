@@ -1,10 +1,9 @@
 -- A LOCUS line with the public columns: its cells, and values that are such as document 01 takes. It is read as these values: proofs/LocusRead.antt.
-use Rattle.std.specs.Prelude.{ℕ, ◌+◌, ◌-◌, true, ◌≡◌, List, [], ◌∷◌, ◌++◌, length, leb}
+use Rattle.std.specs.Prelude.{ℕ, ◌+◌, ◌-◌, true, ◌≡◌, List, [], ◌∷◌, ◌++◌, length, leb, Some}
 use Rattle.spec_format.specs.Bytes.{May, absent, is, bytes, spaces, some, all, same, among, visible, digit, but, number}
 use Rattle.spec_format.specs.Dates.{made, is_date, date_text}
 use Rattle.spec_format.specs.Table.{Locus}
 use Rattle.spec_format.specs.declared.Date.{Date}
-use Rattle.spec_format.specs.declared.Dated.TheVariants as dated
 use Rattle.spec_public.specs.Public.{LocusValues}
 
 -- the public words for the strands, which may also be missing
@@ -43,7 +42,7 @@ values_of v d =
       molecule = if_some (v.strand ++ v.molecule);
       circular = same v.topology (bytes "circular");
       division = v.division;
-      date = dated.On d;
+      date = Some d;
     }
 
 -- ---- the line's cells

@@ -1,17 +1,10 @@
 -- A head as 33 numbers, and the head that numbers stand for. A text that may be absent is its start and its length plus one, and 0, 0 where it is absent, as in rows.
-use Rattle.std.specs.Prelude.{ℕ, zero, suc, ◌+◌, Bool, false, not, cond, ◌&&◌, List, [], ◌∷◌, ◌++◌, length, get_or, eqb, ltb, leb}
+use Rattle.std.specs.Prelude.{ℕ, zero, suc, ◌+◌, Bool, false, not, cond, ◌&&◌, List, [], ◌∷◌, ◌++◌, length, get_or, eqb, ltb, leb, Option, Some, None}
 use Rattle.spec_format.specs.Bytes.{pick}
+use Rattle.spec_format.specs.declared.Date.{Date}
 use Rattle.spec_format.specs.declared.Span.{Span}
-use Rattle.spec_format.specs.declared.Text.{Text}
-use Rattle.spec_format.specs.declared.Text.TheVariants as text
 use Rattle.spec_format.specs.declared.SourceText.{SourceText}
-use Rattle.spec_format.specs.declared.SourceText.TheVariants as source
 use Rattle.spec_format.specs.declared.ContigText.{ContigText}
-use Rattle.spec_format.specs.declared.ContigText.TheVariants as contig
-use Rattle.spec_format.specs.declared.Length.{Length}
-use Rattle.spec_format.specs.declared.Length.TheVariants as bases
-use Rattle.spec_format.specs.declared.Dated.{Dated}
-use Rattle.spec_format.specs.declared.Dated.TheVariants as dated
 use Rattle.spec_format.specs.declared.Head.{Head}
 
 -- the largest number that a usize holds
@@ -27,29 +20,29 @@ above n = pick (ltb n largest) (n + 1) n
 abbrev pub span_numbers : Span → List ℕ
 span_numbers s = s.start ∷ s.length ∷ []
 
-abbrev pub text_numbers : Text → List ℕ
-text_numbers text.Absent = 0 ∷ 0 ∷ []
-text_numbers (text.At s) = s.start ∷ above s.length ∷ []
+abbrev pub text_numbers : Option Span → List ℕ
+text_numbers None = 0 ∷ 0 ∷ []
+text_numbers (Some s) = s.start ∷ above s.length ∷ []
 
-abbrev pub source_numbers : SourceText → List ℕ
-source_numbers source.Absent = 0 ∷ 0 ∷ 0 ∷ 0 ∷ []
-source_numbers (source.At s o) = s.start ∷ above s.length ∷ [] ++ text_numbers o
+abbrev pub source_numbers : Option SourceText → List ℕ
+source_numbers None = 0 ∷ 0 ∷ 0 ∷ 0 ∷ []
+source_numbers (Some s) = s.text.start ∷ above s.text.length ∷ [] ++ text_numbers s.organism
 
 -- the text, and its first location row and how many there are
-abbrev pub contig_numbers : ContigText → List ℕ
-contig_numbers contig.Absent = 0 ∷ 0 ∷ 0 ∷ 0 ∷ []
-contig_numbers (contig.At s row rows) = s.start ∷ above s.length ∷ row ∷ rows ∷ []
+abbrev pub contig_numbers : Option ContigText → List ℕ
+contig_numbers None = 0 ∷ 0 ∷ 0 ∷ 0 ∷ []
+contig_numbers (Some c) = c.text.start ∷ above c.text.length ∷ c.row ∷ c.rows ∷ []
 
-abbrev pub length_numbers : Length → List ℕ
-length_numbers bases.Absent = 0 ∷ []
-length_numbers (bases.Bases n) = (n + 1) ∷ []
+abbrev pub length_numbers : Option ℕ → List ℕ
+length_numbers None = 0 ∷ []
+length_numbers (Some n) = (n + 1) ∷ []
 
 abbrev pub flag : Bool → ℕ
 flag b = cond b 1 0
 
-abbrev pub date_numbers : Dated → List ℕ
-date_numbers dated.Absent = 0 ∷ 0 ∷ 0 ∷ []
-date_numbers (dated.On d) = d.day ∷ d.month ∷ d.year ∷ []
+abbrev pub date_numbers : Option Date → List ℕ
+date_numbers None = 0 ∷ 0 ∷ 0 ∷ []
+date_numbers (Some d) = d.day ∷ d.month ∷ d.year ∷ []
 
 unfoldable pub locus_numbers : Head → List ℕ
 locus_numbers h =
@@ -69,46 +62,46 @@ head_numbers h = locus_numbers h ++ field_numbers h ++ rest_numbers h
 
 -- ---- the head that numbers stand for
 
-abbrev pub text_from : ℕ → ℕ → Text
-text_from start zero = text.Absent
-text_from start (suc n) = text.At (record { start = start; length = n })
+abbrev pub text_from : ℕ → ℕ → Option Span
+text_from start zero = None
+text_from start (suc n) = Some (record { start = start; length = n })
 
-abbrev pub source_from : ℕ → ℕ → Text → SourceText
-source_from start zero o = source.Absent
-source_from start (suc n) o = source.At (record { start = start; length = n }) o
+abbrev pub source_from : ℕ → ℕ → Option Span → Option SourceText
+source_from start zero o = None
+source_from start (suc n) o = Some (record { text = record { start = start; length = n }; organism = o })
 
-abbrev pub contig_from : ℕ → ℕ → ℕ → ℕ → ContigText
-contig_from start zero row rows = contig.Absent
-contig_from start (suc n) row rows = contig.At (record { start = start; length = n }) row rows
+abbrev pub contig_from : ℕ → ℕ → ℕ → ℕ → Option ContigText
+contig_from start zero row rows = None
+contig_from start (suc n) row rows = Some (record { text = record { start = start; length = n }; row = row; rows = rows })
 
-abbrev pub length_from : ℕ → Length
-length_from zero = bases.Absent
-length_from (suc n) = bases.Bases n
+abbrev pub length_from : ℕ → Option ℕ
+length_from zero = None
+length_from (suc n) = Some n
 
 -- the lower of two numbers
 abbrev pub lower : ℕ → ℕ → ℕ
 lower top n = pick (ltb top n) top n
 
 -- a number that is too large for a date stands for another that no date has, so number 11 is due for it
-abbrev pub on_date : ℕ → ℕ → ℕ → Dated
-on_date d m y = dated.On (record { day = lower 255 d; month = lower 255 m; year = lower 65535 y })
+abbrev pub on_date : ℕ → ℕ → ℕ → Option Date
+on_date d m y = Some (record { day = lower 255 d; month = lower 255 m; year = lower 65535 y })
 
-abbrev pub date_from : ℕ → ℕ → ℕ → Dated
-date_from d m y = pick (eqb d 0 && (eqb m 0 && eqb y 0)) dated.Absent (on_date d m y)
+abbrev pub date_from : ℕ → ℕ → ℕ → Option Date
+date_from d m y = pick (eqb d 0 && (eqb m 0 && eqb y 0)) None (on_date d m y)
 
-abbrev pub text_in : List ℕ → ℕ → Text
+abbrev pub text_in : List ℕ → ℕ → Option Span
 text_in ns i = text_from (get_or ns i 0) (get_or ns (i + 1) 0)
 
 abbrev pub span_in : List ℕ → ℕ → Span
 span_in ns i = record { start = get_or ns i 0; length = get_or ns (i + 1) 0 }
 
-abbrev pub source_in : List ℕ → ℕ → SourceText
+abbrev pub source_in : List ℕ → ℕ → Option SourceText
 source_in ns i = source_from (get_or ns i 0) (get_or ns (i + 1) 0) (text_in ns (i + 2))
 
-abbrev pub contig_in : List ℕ → ℕ → ContigText
+abbrev pub contig_in : List ℕ → ℕ → Option ContigText
 contig_in ns i = contig_from (get_or ns i 0) (get_or ns (i + 1) 0) (get_or ns (i + 2) 0) (get_or ns (i + 3) 0)
 
-abbrev pub date_in : List ℕ → ℕ → Dated
+abbrev pub date_in : List ℕ → ℕ → Option Date
 date_in ns i = date_from (get_or ns i 0) (get_or ns (i + 1) 0) (get_or ns (i + 2) 0)
 
 unfoldable pub head_in : List ℕ → Head
@@ -137,22 +130,22 @@ head_in ns =
 unfoldable pub outside : Head
 outside =
     record {
-      name = text.Absent;
-      length = bases.Absent;
-      molecule = text.Absent;
+      name = None;
+      length = None;
+      molecule = None;
       circular = false;
       division = record { start = largest; length = 0 };
-      date = dated.Absent;
-      definition = text.Absent;
-      accession = text.Absent;
-      version = text.Absent;
-      dblink = text.Absent;
-      keywords = text.Absent;
-      source = source.Absent;
+      date = None;
+      definition = None;
+      accession = None;
+      version = None;
+      dblink = None;
+      keywords = None;
+      source = None;
       references = 0;
       comments = 0;
       features = 0;
-      contig = contig.Absent;
+      contig = None;
       letters = 0;
     }
 

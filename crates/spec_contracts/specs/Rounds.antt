@@ -1,15 +1,10 @@
 -- What the function behind the programs promises: a record read into rooms, and written again from them. It rules out one that writes though nothing was read, and one that tells no line.
-use Rattle.std.specs.Prelude.{ℕ, Bool, false, List, ◌≡◌, replicate}
+use Rattle.std.specs.Prelude.{ℕ, Bool, false, List, ◌≡◌, replicate, None}
 use Rattle.spec_format.specs.Rooms.{Rooms, read_answer, rooms_after}
-use Rattle.spec_format.specs.declared.ContigText.TheVariants as contig
-use Rattle.spec_format.specs.declared.Dated.TheVariants as date
 use Rattle.spec_format.specs.declared.Head.{Head}
 use Rattle.spec_format.specs.declared.How.{How}
-use Rattle.spec_format.specs.declared.Length.TheVariants as bases
 use Rattle.spec_format.specs.declared.ReadAnswer.{ReadAnswer}
 use Rattle.spec_format.specs.declared.ReadAnswer.TheVariants as read
-use Rattle.spec_format.specs.declared.SourceText.TheVariants as source
-use Rattle.spec_format.specs.declared.Text.TheVariants as text
 use Rattle.spec_format.specs.declared.WriteAnswer.{WriteAnswer}
 use Rattle.spec_lines.specs.Troubles.{read_spot}
 use Rattle.base_rows.specs.declared.Feature.{Feature}
@@ -27,22 +22,22 @@ empty_rows = replicate 8192 empty_row
 abbrev pub empty_head : Head
 empty_head =
     record {
-      name = text.Absent;
-      length = bases.Absent;
-      molecule = text.Absent;
+      name = None;
+      length = None;
+      molecule = None;
       circular = false;
       division = record { start = 0; length = 0 };
-      date = date.Absent;
-      definition = text.Absent;
-      accession = text.Absent;
-      version = text.Absent;
-      dblink = text.Absent;
-      keywords = text.Absent;
-      source = source.Absent;
+      date = None;
+      definition = None;
+      accession = None;
+      version = None;
+      dblink = None;
+      keywords = None;
+      source = None;
       references = 0;
       comments = 0;
       features = 0;
-      contig = contig.Absent;
+      contig = None;
       letters = 0;
     }
 

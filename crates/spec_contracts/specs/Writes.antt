@@ -1,13 +1,11 @@
 -- What the writer promises: the answer, and what it leaves in the slice that it is lent. It rules out a writer that leaves part of the text unwritten, one that changes the slice and
 -- then refuses, and a keeping one that always refuses by a rule or never does.
-use Rattle.std.specs.Prelude.{ℕ, ◌<◌, ◌≡◌, Bool, true, false, List, length}
+use Rattle.std.specs.Prelude.{ℕ, ◌<◌, ◌≡◌, Bool, true, false, List, length, Option, Some, None}
 use Rattle.spec_format.specs.Answers.{plain_answer, keeping_answer, slice_after}
 use Rattle.spec_format.specs.Rooms.{Rooms, table_of}
 use Rattle.spec_format.specs.Table.{Table}
 use Rattle.spec_format.specs.Write.{written}
 use Rattle.spec_format.specs.declared.Head.{Head}
-use Rattle.spec_format.specs.declared.Length.{Length}
-use Rattle.spec_format.specs.declared.Length.TheVariants as bases
 use Rattle.spec_format.specs.declared.WriteAnswer.{WriteAnswer}
 use Rattle.spec_format.specs.declared.How.{How}
 
@@ -23,9 +21,9 @@ abbrev pub text_due : How → Table → List ℕ
 text_due how t = written how.width how.truncate how.escape t
 
 -- every length that can be passed has 32 bits
-abbrev pub LengthFits : Length → Type 0
-LengthFits bases.Absent = Unit
-LengthFits (bases.Bases n) = n < 4294967296
+abbrev pub LengthFits : Option ℕ → Type 0
+LengthFits None = Unit
+LengthFits (Some n) = n < 4294967296
 
 -- THE WRITER'S ANSWER, and the slice afterwards; `fits` is a fact that the call's types give
 pub record WriteAnswered (how : How) (r : Rooms) (h : Head) (old new : List ℕ) (a : WriteAnswer) : Type 0 where

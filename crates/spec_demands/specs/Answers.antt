@@ -1,5 +1,5 @@
 -- Why the demands hold: what the answers of the definitions say, number by number.
-use Rattle.std.specs.Prelude.{ℕ, ◌*◌, ◌/◌, ◌<◌, Bool, ◌&&◌, ◌≡◌, leb, length, replicate}
+use Rattle.std.specs.Prelude.{ℕ, ◌*◌, ◌/◌, ◌<◌, Bool, ◌&&◌, ◌≡◌, leb, length, replicate, Option, Some, None}
 use Rattle.std.proofs.Common.{arith, sym, ap, ◌∙◌, le-leb}
 use Rattle.std.proofs.Math.Bool.{true, false}
 use mathlib.Core.List.{List}
@@ -17,8 +17,6 @@ use Rattle.spec_format.specs.WellFormed.{width_fine, well_formed}
 use Rattle.spec_format.specs.Write.{written}
 use Rattle.spec_format.specs.declared.Head.{Head}
 use Rattle.spec_format.specs.declared.How.{How}
-use Rattle.spec_format.specs.declared.Length.{Length}
-use Rattle.spec_format.specs.declared.Length.TheVariants as bases
 use Rattle.spec_format.specs.declared.ReadAnswer.{ReadAnswer}
 use Rattle.spec_format.specs.declared.ReadAnswer.TheVariants as read
 use Rattle.spec_format.specs.declared.Sizes.{Sizes}
@@ -247,9 +245,9 @@ done_count how r h n k e = by (what_is_due how r h)
         go true g = let x = f n in cc
         go false g = let x = f n in impossible cc
 
-pub length_below : (l : Length) → LengthFits l → (n : ℕ) → l ≡ bases.Bases n → n < 4294967296
-length_below bases.Absent f n e = impossible cc
-length_below (bases.Bases m) f n e = let x : m ≡ n = cc in omega (arith, f)
+pub length_below : (l : Option ℕ) → LengthFits l → (n : ℕ) → l ≡ Some n → n < 4294967296
+length_below None f n e = impossible cc
+length_below (Some m) f n e = let x : m ≡ n = cc in omega (arith, f)
 
 -- no writer takes a width of 0
 pub no_width : (keeping truncate escape : Bool) (r : Rooms) (h : Head) (n : ℕ) → write_number (answer_by keeping 0 truncate escape r h n) ≡ 12

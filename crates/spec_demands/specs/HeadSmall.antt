@@ -1,21 +1,15 @@
 -- The head that is read back can be told as numbers: its texts lie in a room, its length has 32 bits, its date is one.
-use Rattle.std.specs.Prelude.{ℕ, ◌≤◌, ◌<◌, Bool, true, false, List, ◌≡◌, refl, ltb, length, take, drop}
+use Rattle.std.specs.Prelude.{ℕ, ◌≤◌, ◌<◌, Bool, true, false, List, ◌≡◌, refl, ltb, length, take, drop, Option, Some, None}
 use Rattle.std.proofs.Common.{arith, length-take, length-drop, leb-true, ltb-false}
 use Rattle.spec_format.specs.Impossible.{impossible}
 use Rattle.spec_format.specs.Record.{most}
 use Rattle.spec_format.specs.Rooms.{Rooms, table_of, rooms_fine, lengths_fine, head_of, text_at, source_at, contig_text_at, length_of, may_text, may_source, may_contig, may_length}
 use Rattle.spec_format.specs.WellFormed.{date_fine, locus_fine, well_formed}
+use Rattle.spec_format.specs.declared.Date.{Date}
+use Rattle.spec_format.specs.declared.Span.{Span}
 use Rattle.spec_format.specs.declared.ContigText.{ContigText}
-use Rattle.spec_format.specs.declared.ContigText.TheVariants as contig
-use Rattle.spec_format.specs.declared.Dated.{Dated}
-use Rattle.spec_format.specs.declared.Dated.TheVariants as dated
 use Rattle.spec_format.specs.declared.Head.{Head}
-use Rattle.spec_format.specs.declared.Length.{Length}
-use Rattle.spec_format.specs.declared.Length.TheVariants as bases
 use Rattle.spec_format.specs.declared.SourceText.{SourceText}
-use Rattle.spec_format.specs.declared.SourceText.TheVariants as source
-use Rattle.spec_format.specs.declared.Text.{Text}
-use Rattle.spec_format.specs.declared.Text.TheVariants as text
 use Rattle.spec_rooms.specs.LayoutLengths.{and_left, and_right}
 use Rattle.spec_contracts.specs.Numbers.{largest}
 use Rattle.spec_contracts.specs.Writes.{LengthFits}
@@ -28,28 +22,28 @@ cut_short store start n m =
     omega (arith, m)
 
 module _ (store : List ℕ) (m : length store ≤ most) where
-  text_small : (at : ℕ) (t : Text) → TextSmall (text_at at (may_text store t))
-  text_small at text.Absent = tt
-  text_small at (text.At s) = cut_short store s.start s.length m
+  text_small : (at : ℕ) (t : Option Span) → TextSmall (text_at at (may_text store t))
+  text_small at None = tt
+  text_small at (Some s) = cut_short store s.start s.length m
 
-  source_small : (at o : ℕ) (t : SourceText) → SourceSmall (source_at at o (may_source store t))
-  source_small at o source.Absent = tt
-  source_small at o (source.At s p) = (cut_short store s.start s.length m, text_small o p)
+  source_small : (at o : ℕ) (t : Option SourceText) → SourceSmall (source_at at o (may_source store t))
+  source_small at o None = tt
+  source_small at o (Some s) = (cut_short store s.text.start s.text.length m, text_small o s.organism)
 
-contig_small : (r : Rooms) → length r.texts ≤ most → (at row : ℕ) (c : ContigText) → ContigSmall (contig_text_at at row (may_contig r c))
-contig_small r m at row contig.Absent = tt
-contig_small r m at row (contig.At s first rows) = cut_short r.texts s.start s.length m
+contig_small : (r : Rooms) → length r.texts ≤ most → (at row : ℕ) (c : Option ContigText) → ContigSmall (contig_text_at at row (may_contig r c))
+contig_small r m at row None = tt
+contig_small r m at row (Some c) = cut_short r.texts c.text.start c.text.length m
 
-length_small : (l : Length) → LengthFits l → LengthSmall (length_of (may_length l))
-length_small bases.Absent f = tt
-length_small (bases.Bases n) f = f
+length_small : (l : Option ℕ) → LengthFits l → LengthSmall (length_of (may_length l))
+length_small None f = tt
+length_small (Some n) f = f
 
-date_small : (d : Dated) → date_fine d ≡ true → DateSmall d
-date_small dated.Absent e = tt
-date_small (dated.On d) e = go (ltb d.day 1) refl (ltb 31 d.day) refl (ltb d.month 1) refl (ltb 12 d.month) refl (ltb 9999 d.year) refl
+date_small : (d : Option Date) → date_fine d ≡ true → DateSmall d
+date_small None e = tt
+date_small (Some d) e = go (ltb d.day 1) refl (ltb 31 d.day) refl (ltb d.month 1) refl (ltb 12 d.month) refl (ltb 9999 d.year) refl
   where
     go : (a : Bool) → ltb d.day 1 ≡ a → (b : Bool) → ltb 31 d.day ≡ b → (c : Bool) → ltb d.month 1 ≡ c → (f : Bool) → ltb 12 d.month ≡ f → (g : Bool) → ltb 9999 d.year ≡ g →
-        DateSmall (dated.On d)
+        DateSmall (Some d)
     go false p false q false s false u false v =
         let x = ltb-false d.day 1 p in
         let y = ltb-false 31 d.day q in

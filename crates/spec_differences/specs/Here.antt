@@ -1,5 +1,5 @@
 -- What docs/DIFFERENCES.md says under "Here", in its order, computed from the definitions by one statement over a list. Left out is the width of section 6, which every writing shows.
-use Rattle.std.specs.Prelude.{ℕ, ◌-◌, Bool, true, false, cond, ◌≡◌, refl, List, [], ◌∷◌, ◌++◌, map, length, take, drop, replicate}
+use Rattle.std.specs.Prelude.{ℕ, ◌-◌, Bool, true, false, cond, ◌≡◌, refl, List, [], ◌∷◌, ◌++◌, map, length, take, drop, replicate, Option, Some, None}
 use Rattle.spec_format.specs.Bytes.{May, absent, is, bytes, decimal, spaces, pick, each, concat}
 use Rattle.spec_format.specs.Bytes.{number, digits}
 use Rattle.spec_format.specs.Dates.{month_name, date_text}
@@ -20,9 +20,8 @@ use Rattle.spec_format.specs.Utf8.{chars, utf8}
 use Rattle.spec_format.specs.WellFormed.{reference_texts, header_texts, locus_fine, qualifier_fine, feature_fine, letters_fine, well_formed}
 use Rattle.spec_format.specs.Wrap.{fill, closing, lines_after, wrapped, wrap_text, last_comma, break_at, comma_lines, wrap_location}
 use Rattle.spec_format.specs.Write.{length_text, white, blanked, words, joined, printed_name, locus_text, field_lines, reference_lines, header_lines}
+use Rattle.spec_format.specs.declared.Date.{Date}
 use Rattle.spec_format.specs.Write.{comma_key, bare_key, value_lines, qualifier_lines, feature_lines, features_lines, letter_lines, origin_lines, written}
-use Rattle.spec_format.specs.declared.Dated.{Dated}
-use Rattle.spec_format.specs.declared.Dated.TheVariants as dated
 
 -- an answer: what is computed, and what the page says
 pub record Answer : Type 0 where
@@ -50,9 +49,9 @@ may_number : May ℕ → List ℕ
 may_number absent = bytes "-"
 may_number (is n) = decimal n
 
-may_date : Dated → List ℕ
-may_date dated.Absent = bytes "-"
-may_date (dated.On d) = date_text d
+may_date : Option Date → List ℕ
+may_date None = bytes "-"
+may_date (Some d) = date_text d
 
 -- name, length, molecule type, topology, division, date
 locus_values_lem : Outcome → List ℕ
@@ -128,7 +127,7 @@ origin_read s = lettered s (read_at s 0)
 table_of : List ℕ → ℕ → List ℕ → List ℕ → List ℕ → List ℕ → List ℕ → Table
 table_of name count kind location key text letters =
     record {
-      locus = record { name = is name; length = is count; molecule = absent; circular = false; division = bytes "SYN"; date = dated.On (record { day = 1; month = 3; year = 2024 }) };
+      locus = record { name = is name; length = is count; molecule = absent; circular = false; division = bytes "SYN"; date = Some (record { day = 1; month = 3; year = 2024 }) };
       definition = absent;
       accession = absent;
       version = absent;

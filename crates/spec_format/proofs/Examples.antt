@@ -1,9 +1,10 @@
 -- The eleven marked examples of document 01, proved about the definitions by one statement over a list.
-use Prim.Native.Nat.{ℕ, ◌+◌}
+use Rattle.std.specs.Prelude.{Some}
+use Prim.Native.Nat.{ℕ}
 use mathlib.Core.Bool.{Bool, true, false}
 use mathlib.Core.Path.{◌≡◌, refl}
 use mathlib.Core.List.{List, [], ◌∷◌, ◌++◌, map}
-use lib.ListN.{length, take, drop, replicate}
+use lib.ListN.{take, drop, replicate}
 use Rattle.spec_format.specs.Bytes.{absent, is, bytes, spaces, number, digits}
 use Rattle.spec_format.specs.Utf8.{utf8, chars}
 use Rattle.spec_format.specs.Readers.{Ans, got, no, cut, tag, until, line, line_end, members, members_up_to, end, end_up_to}
@@ -20,7 +21,6 @@ use Rattle.spec_format.specs.Rooms.{layout, head_of, pieces_text, pieces_row, te
 use Rattle.spec_format.specs.Rooms.{location_numbers, location_count, location_row_in, location_fine, feature_row_fine}
 use Rattle.spec_format.specs.Numbers.{write_number}
 use Rattle.spec_format.specs.Answers.{plain_answer, keeping_answer}
-use Rattle.spec_format.specs.declared.Dated.TheVariants as dated
 
 -- an example: what is computed, and what it should be
 pub record Example : Type 0 where
@@ -42,7 +42,7 @@ read text = value_read (qualifier 21 (spaces 21 ++ text ++ bytes "\n//\n"))
 record_of : List ℕ → ℕ → List ℕ → Table
 record_of name n note =
     record {
-      locus = record { name = is name; length = is n; molecule = absent; circular = false; division = bytes "SYN"; date = dated.On (record { day = 1; month = 3; year = 2024 }) };
+      locus = record { name = is name; length = is n; molecule = absent; circular = false; division = bytes "SYN"; date = Some (record { day = 1; month = 3; year = 2024 }) };
       definition = absent;
       accession = absent;
       version = absent;

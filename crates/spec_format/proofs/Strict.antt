@@ -1,6 +1,6 @@
 -- Document 02, ticket 7, computed by one statement over a list: which number short slices have with the strict switch.
 use Prim.Native.Nat.{ℕ}
-use mathlib.Core.Bool.{true, false}
+use mathlib.Core.Bool.{true}
 use mathlib.Core.Path.{◌≡◌, refl}
 use mathlib.Core.List.{List, [], ◌∷◌, ◌++◌, map}
 use Rattle.spec_bases.specs.Bases.{set_of}

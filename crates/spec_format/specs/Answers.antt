@@ -1,5 +1,5 @@
 -- What the writers answer and leave in the slice that they write to. "Writer: 12, 10, 11, 13, 6."
-use Rattle.std.specs.Prelude.{ℕ, Bool, true, false, List, length, leb}
+use Rattle.std.specs.Prelude.{ℕ, Bool, true, List, length, leb}
 use Rattle.spec_format.specs.Bytes.{pick}
 use Rattle.spec_format.specs.Write.{written}
 use Rattle.spec_format.specs.WellFormed.{width_fine, well_formed}

@@ -1,27 +1,23 @@
 -- Dates: their range, the one that is printed where there is none, and how one is printed.
-use Rattle.std.specs.Prelude.{ℕ, ◌+◌, ◌-◌, ◌/◌, ◌%◌, Bool, true, false, List, [], ◌∷◌, ◌++◌, get_or, ltb}
+use Rattle.std.specs.Prelude.{ℕ, ◌+◌, ◌-◌, ◌/◌, ◌%◌, Bool, List, [], ◌∷◌, ◌++◌, get_or, ltb, Option, Some, None, is_some, unwrap_or}
 use Rattle.spec_format.specs.Bytes.{bytes, pick}
 use Rattle.spec_format.specs.declared.Date.{Date}
-use Rattle.spec_format.specs.declared.Dated.{Dated}
-use Rattle.spec_format.specs.declared.Dated.TheVariants as dated
 
 -- day 1 to 31, month 1 to 12, year 0 to 9999
-abbrev pub made : ℕ → ℕ → ℕ → Dated
+abbrev pub made : ℕ → ℕ → ℕ → Option Date
 made d m y =
-    pick (ltb d 1) dated.Absent (pick (ltb 31 d) dated.Absent (pick (ltb m 1) dated.Absent (pick (ltb 12 m) dated.Absent (pick (ltb 9999 y) dated.Absent
-    (dated.On (record { day = d; month = m; year = y }))))))
+    pick (ltb d 1) None (pick (ltb 31 d) None (pick (ltb m 1) None (pick (ltb 12 m) None (pick (ltb 9999 y) None
+    (Some (record { day = d; month = m; year = y }))))))
 
-abbrev pub is_date : Dated → Bool
-is_date (dated.On d) = true
-is_date dated.Absent = false
+abbrev pub is_date : Option Date → Bool
+is_date d = is_some d
 
 -- "a record without a date prints 01-JAN-1970"
 abbrev pub first_date : Date
 first_date = record { day = 1; month = 1; year = 1970 }
 
-abbrev pub printed_date : Dated → Date
-printed_date (dated.On d) = d
-printed_date dated.Absent = first_date
+abbrev pub printed_date : Option Date → Date
+printed_date d = unwrap_or d first_date
 
 abbrev pub months : List (List ℕ)
 months =

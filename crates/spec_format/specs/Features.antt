@@ -1,5 +1,5 @@
 -- Reading, the feature table: feature_table.rs, with departure 3 for kinds and ticket 1 for locations.
-use Rattle.std.specs.Prelude.{ℕ, ◌+◌, Bool, true, false, ◌&&◌, ◌||◌, not, List, [], ◌∷◌, ◌++◌, length, eqb}
+use Rattle.std.specs.Prelude.{ℕ, ◌+◌, Bool, false, ◌&&◌, ◌||◌, not, List, [], ◌∷◌, ◌++◌, length, eqb}
 use Rattle.spec_format.specs.Bytes.{pick, May, absent, is, bytes, spaces, some, starts, all, same, concat, visible, not_blank, space, slash}
 use Rattle.spec_format.specs.Readers.{Ans, got, no, cut, bind, mapped, passing, or_else, tag, until1, spaces1, line, line_end, utf8_of, Turn, more, stop, loop, many0}
 use Rattle.spec_format.specs.Table.{Qualifier, Feature}

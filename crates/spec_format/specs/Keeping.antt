@@ -1,5 +1,5 @@
 -- The keeping rules, each a named part, and the one test that they make (number 13).
-use Rattle.std.specs.Prelude.{ℕ, suc, ◌+◌, Bool, true, false, ◌&&◌, not, List, [], ◌∷◌, ◌++◌, length, eqb, ltb, leb}
+use Rattle.std.specs.Prelude.{ℕ, suc, ◌+◌, Bool, true, false, ◌&&◌, not, List, [], ◌∷◌, length, eqb, ltb, leb}
 use Rattle.spec_format.specs.Bytes.{pick, May, absent, is, bytes, some, starts, all, same, visible, space, quote, but}
 use Rattle.spec_format.specs.Dates.{is_date}
 use Rattle.spec_format.specs.Table.{Locus, Reference, Qualifier, Feature, Table}

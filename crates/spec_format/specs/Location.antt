@@ -1,6 +1,6 @@
 -- Reading a location (document 02, ticket 1): its text into rows, "after the INSDC feature table". The text is given whole, and the first trouble from
 -- left to right decides. `crates/spec_location` has the same as a grammar: what a tree prints is read as that tree, and nothing else is read.
-use Rattle.std.specs.Prelude.{ℕ, zero, suc, ◌+◌, ◌-◌, Bool, true, false, ◌&&◌, ◌||◌, not, List, [], ◌∷◌, ◌++◌, length, eqb, leb}
+use Rattle.std.specs.Prelude.{ℕ, zero, suc, ◌+◌, ◌-◌, Bool, true, false, ◌&&◌, ◌||◌, List, [], ◌∷◌, ◌++◌, length, eqb, leb}
 use Rattle.spec_format.specs.Bytes.{pick, May, absent, is, bytes, some, starts, visible, digit, letter, but, number}
 use Rattle.spec_format.specs.Table.{LocationRow}
 

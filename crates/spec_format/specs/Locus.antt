@@ -1,11 +1,10 @@
 -- Reading, the beginning: the lines before LOCUS (`skip_preamble` of misc.rs) and the LOCUS line (locus.rs, with document 01's own tokens).
-use Rattle.std.specs.Prelude.{ℕ, zero, suc, ◌-◌, true, false, ◌&&◌, ◌||◌, List, [], ◌∷◌, length, take, drop, get_or, eqb, leb}
+use Rattle.std.specs.Prelude.{ℕ, zero, suc, ◌-◌, true, false, ◌&&◌, ◌||◌, List, [], ◌∷◌, length, take, drop, get_or, eqb, leb, Option, None}
 use Rattle.spec_format.specs.Bytes.{pick, May, absent, is, bytes, some, starts, all, same, visible, digit, blank, not_blank, but, number}
 use Rattle.spec_format.specs.Readers.{Ans, got, no, cut, bind, mapped, tag, until1, line, utf8_of, Turn, more, stop, end}
 use Rattle.spec_format.specs.Dates.{made, is_date, months}
+use Rattle.spec_format.specs.declared.Date.{Date}
 use Rattle.spec_format.specs.Table.{Locus}
-use Rattle.spec_format.specs.declared.Dated.{Dated}
-use Rattle.spec_format.specs.declared.Dated.TheVariants as dated
 
 -- "Lines before one beginning `LOCUS` are skipped": a UTF-8 line more, or the line of LOCUS
 abbrev pub skipping : List ℕ → Ans Unit → Ans (Turn (List ℕ))
@@ -34,17 +33,17 @@ place_in w [] = 0
 place_in w (m ∷ ms) = elim (same w m) [ true ↦ 1 | false ↦ elim (place_in w ms) [ zero ↦ 0 | suc k ↦ suc (suc k) ] ]
 
 -- "day of 1 or 2 digits, 1 to 31, `-`, JAN to DEC, `-`, four digits": the day, and the nine bytes after it
-unfoldable pub date_of : List ℕ → List ℕ → Dated
+unfoldable pub date_of : List ℕ → List ℕ → Option Date
 date_of d e =
     pick (leb (length d) 2 && (some d && (all digit d && (eqb (get_or e 0 0) 45 && (eqb (get_or e 4 0) 45 && all digit (drop 5 e))))))
-    (made (number 0 d) (place_in (take 3 (drop 1 e)) months) (number 0 (drop 5 e))) dated.Absent
+    (made (number 0 d) (place_in (take 3 (drop 1 e)) months) (number 0 (drop 5 e))) None
 
-unfoldable pub date_token : List ℕ → Dated
+unfoldable pub date_token : List ℕ → Option Date
 date_token t = date_of (take (length t - 9) t) (drop (length t - 9) t)
 
 -- "Any other LOCUS line keeps no name and no length: linear, no molecule type, no date, division UNK"
 abbrev pub unknown : Locus
-unknown = record { name = absent; length = absent; molecule = absent; circular = false; division = bytes "UNK"; date = dated.Absent }
+unknown = record { name = absent; length = absent; molecule = absent; circular = false; division = bytes "UNK"; date = None }
 
 -- "name without `:`, length of 1 to 10 digits up to 4,294,967,295, `bp`, .. `linear` or `circular`, division, date"
 unfoldable pub locus_from : List ℕ → List ℕ → List ℕ → May (List ℕ) → List ℕ → List ℕ → List ℕ → Locus

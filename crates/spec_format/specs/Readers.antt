@@ -1,5 +1,5 @@
 -- What a reader answers, and nom's streaming combinators, by which the Rust's readers are put together.
-use Rattle.std.specs.Prelude.{ℕ, zero, suc, Bool, true, false, List, [], ◌∷◌, ◌++◌, length, eqb}
+use Rattle.std.specs.Prelude.{ℕ, zero, suc, Bool, true, false, List, [], ◌∷◌, length, eqb}
 use Rattle.spec_format.specs.Bytes.{pick, some, but, May, absent, is}
 use Rattle.spec_format.specs.Utf8.{utf8}
 

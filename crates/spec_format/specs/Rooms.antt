@@ -1,20 +1,14 @@
 -- A table in lent rooms: what it takes of each (`sizes`), what it leaves there (`layout`), the table that rooms hold (`table_of`), and the
 -- answers of the reader with number 6 on top. The store holds the texts in the table's own order, rows follow one another, letters too.
-use Rattle.std.specs.Prelude.{ℕ, zero, suc, ◌+◌, ◌-◌, ◌*◌, ◌/◌, Bool, true, false, ◌&&◌, ◌||◌, List, [], ◌∷◌, ◌++◌, length, take, drop, get_or, eqb, leb}
+use Rattle.std.specs.Prelude.{ℕ, zero, suc, ◌+◌, ◌-◌, ◌*◌, ◌/◌, Bool, true, false, ◌&&◌, ◌||◌, List, [], ◌∷◌, ◌++◌, length, take, drop, get_or, eqb, leb, Option, Some, None}
 use Rattle.spec_format.specs.Bytes.{pick, May, absent, is, each, all, same}
 use Rattle.spec_format.specs.Table.{Source, Reference, Qualifier, LocationRow, Feature, Contig, Table}
 use Rattle.spec_format.specs.Location.{Reading, one, none, too_deep, reading}
 use Rattle.spec_format.specs.Record.{Outcome, was_read, not_read, most}
 use Rattle.spec_format.specs.Strict.{read_by}
 use Rattle.spec_format.specs.declared.Span.{Span}
-use Rattle.spec_format.specs.declared.Text.{Text}
-use Rattle.spec_format.specs.declared.Text.TheVariants as text
 use Rattle.spec_format.specs.declared.SourceText.{SourceText}
-use Rattle.spec_format.specs.declared.SourceText.TheVariants as source
 use Rattle.spec_format.specs.declared.ContigText.{ContigText}
-use Rattle.spec_format.specs.declared.ContigText.TheVariants as contig
-use Rattle.spec_format.specs.declared.Length.{Length}
-use Rattle.spec_format.specs.declared.Length.TheVariants as bases
 use Rattle.spec_format.specs.declared.Head.{Head}
 use Rattle.spec_format.specs.declared.Sizes.{Sizes}
 use Rattle.spec_format.specs.declared.ReadAnswer.{ReadAnswer}
@@ -193,21 +187,21 @@ start_of t n = length (pieces_text (take n (head_pieces t)))
 abbrev pub span_of : ℕ → List ℕ → Span
 span_of at t = record { start = at; length = length t }
 
-abbrev pub text_at : ℕ → May (List ℕ) → Text
-text_at at absent = text.Absent
-text_at at (is t) = text.At (span_of at t)
+abbrev pub text_at : ℕ → May (List ℕ) → Option Span
+text_at at absent = None
+text_at at (is t) = Some (span_of at t)
 
-abbrev pub source_at : ℕ → ℕ → May Source → SourceText
-source_at at o absent = source.Absent
-source_at at o (is s) = source.At (span_of at s.text) (text_at o s.organism)
+abbrev pub source_at : ℕ → ℕ → May Source → Option SourceText
+source_at at o absent = None
+source_at at o (is s) = Some (record { text = span_of at s.text; organism = text_at o s.organism })
 
-abbrev pub contig_text_at : ℕ → ℕ → May Contig → ContigText
-contig_text_at at row absent = contig.Absent
-contig_text_at at row (is c) = contig.At (span_of at c.text) row (length c.rows)
+abbrev pub contig_text_at : ℕ → ℕ → May Contig → Option ContigText
+contig_text_at at row absent = None
+contig_text_at at row (is c) = Some (record { text = span_of at c.text; row = row; rows = length c.rows })
 
-abbrev pub length_of : May ℕ → Length
-length_of absent = bases.Absent
-length_of (is n) = bases.Bases n
+abbrev pub length_of : May ℕ → Option ℕ
+length_of absent = None
+length_of (is n) = Some n
 
 unfoldable pub head_of : Table → Head
 head_of t =
@@ -239,17 +233,17 @@ cut store start n = take n (drop start store)
 abbrev pub span_text : List ℕ → Span → List ℕ
 span_text store s = cut store s.start s.length
 
-abbrev pub may_text : List ℕ → Text → May (List ℕ)
-may_text store text.Absent = absent
-may_text store (text.At s) = is (span_text store s)
+abbrev pub may_text : List ℕ → Option Span → May (List ℕ)
+may_text store None = absent
+may_text store (Some s) = is (span_text store s)
 
-abbrev pub may_source : List ℕ → SourceText → May Source
-may_source store source.Absent = absent
-may_source store (source.At s o) = is (record { text = span_text store s; organism = may_text store o })
+abbrev pub may_source : List ℕ → Option SourceText → May Source
+may_source store None = absent
+may_source store (Some s) = is (record { text = span_text store s.text; organism = may_text store s.organism })
 
-abbrev pub may_length : Length → May ℕ
-may_length bases.Absent = absent
-may_length (bases.Bases n) = is n
+abbrev pub may_length : Option ℕ → May ℕ
+may_length None = absent
+may_length (Some n) = is n
 
 -- the text whose start and length stand at a place of a room of rows
 abbrev pub text_in : List ℕ → List ℕ → ℕ → List ℕ
@@ -283,9 +277,9 @@ location_row_in r at =
 abbrev pub locations_from : Rooms → ℕ → ℕ → List LocationRow
 locations_from r row rows = rows_from (location_row_in r) 7 row rows
 
-abbrev pub may_contig : Rooms → ContigText → May Contig
-may_contig r contig.Absent = absent
-may_contig r (contig.At s row rows) = is (record { text = span_text r.texts s; rows = locations_from r row rows })
+abbrev pub may_contig : Rooms → Option ContigText → May Contig
+may_contig r None = absent
+may_contig r (Some c) = is (record { text = span_text r.texts c.text; rows = locations_from r c.row c.rows })
 
 unfoldable pub reference_in : Rooms → ℕ → Reference
 reference_in r at =
@@ -345,13 +339,13 @@ table_of r h =
 abbrev pub span_fine : ℕ → ℕ → ℕ → Bool
 span_fine room start n = leb start room && leb n (room - start)
 
-abbrev pub text_fine : ℕ → Text → Bool
-text_fine room text.Absent = true
-text_fine room (text.At s) = span_fine room s.start s.length
+abbrev pub text_fine : ℕ → Option Span → Bool
+text_fine room None = true
+text_fine room (Some s) = span_fine room s.start s.length
 
-abbrev pub source_fine : ℕ → SourceText → Bool
-source_fine room source.Absent = true
-source_fine room (source.At s o) = span_fine room s.start s.length && text_fine room o
+abbrev pub source_fine : ℕ → Option SourceText → Bool
+source_fine room None = true
+source_fine room (Some s) = span_fine room s.text.start s.text.length && text_fine room s.organism
 
 -- the text at a place of a room of rows; one that may be absent
 abbrev pub row_text_fine : Rooms → List ℕ → ℕ → Bool
@@ -382,9 +376,9 @@ unfoldable pub location_fine : Bool → Rooms → List ℕ → ℕ → ℕ → B
 location_fine gaps r text row rows =
     (eqb rows 0 || span_fine (length r.locations / 7) row rows) && read_as (reading gaps text) (locations_from r row rows)
 
-abbrev pub contig_text_fine : Rooms → ContigText → Bool
-contig_text_fine r contig.Absent = true
-contig_text_fine r (contig.At s row rows) = span_fine (length r.texts) s.start s.length && location_fine true r (span_text r.texts s) row rows
+abbrev pub contig_text_fine : Rooms → Option ContigText → Bool
+contig_text_fine r None = true
+contig_text_fine r (Some c) = span_fine (length r.texts) c.text.start c.text.length && location_fine true r (span_text r.texts c.text) c.row c.rows
 
 -- n rows from row i on, of w numbers each, are fine
 unfoldable pub rows_fine : (ℕ → Bool) → ℕ → ℕ → ℕ → Bool

@@ -1,8 +1,8 @@
 -- The table: what a record holds ("The table" of document 01, and ticket 1's location rows). Two tables are equal if each text, row, number and letter is; where
 -- texts, qualifiers and location rows lie in rooms is no part of a table.
-use Rattle.std.specs.Prelude.{ℕ, Bool, List}
+use Rattle.std.specs.Prelude.{ℕ, Bool, List, Option}
+use Rattle.spec_format.specs.declared.Date.{Date}
 use Rattle.spec_format.specs.Bytes.{May}
-use Rattle.spec_format.specs.declared.Dated.{Dated}
 
 pub record Locus : Type 0 where
   pub name : May (List ℕ)
@@ -10,7 +10,7 @@ pub record Locus : Type 0 where
   pub molecule : May (List ℕ)
   pub circular : Bool
   pub division : List ℕ
-  pub date : Dated
+  pub date : Option Date
 
 pub record Source : Type 0 where
   pub text : List ℕ

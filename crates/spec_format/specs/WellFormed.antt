@@ -1,5 +1,5 @@
 -- Numbers 11 and 12: which texts the writer can lay out, and which widths there are.
-use Rattle.std.specs.Prelude.{ℕ, ◌-◌, Bool, true, false, ◌&&◌, List, [], ◌∷◌, ◌++◌, length, leb}
+use Rattle.std.specs.Prelude.{ℕ, ◌-◌, Bool, true, false, ◌&&◌, List, [], ◌∷◌, length, leb, Option, Some, None}
 use Rattle.spec_format.specs.Bytes.{pick, May, absent, is, some, all, between, visible, printing, letter, but}
 use Rattle.spec_format.specs.Utf8.{utf8}
 use Rattle.spec_format.specs.Dates.{made, is_date}
@@ -7,9 +7,8 @@ use Rattle.spec_format.specs.Table.{Source, Reference, Qualifier, Feature, Conti
 use Rattle.spec_format.specs.Features.{kind_text}
 use Rattle.spec_format.specs.Location.{locates}
 use Rattle.spec_format.specs.Record.{promised}
+use Rattle.spec_format.specs.declared.Date.{Date}
 use Rattle.spec_format.specs.Write.{printed_name, comma_key}
-use Rattle.spec_format.specs.declared.Dated.{Dated}
-use Rattle.spec_format.specs.declared.Dated.TheVariants as dated
 
 -- number 12: "width not 60 to 132"
 abbrev pub width_fine : ℕ → Bool
@@ -37,9 +36,9 @@ header_texts p t =
 -- ---- number 11: "a text the writer cannot lay out"
 
 -- "printed name empty or, like division and any molecule type (left out or not), with bytes outside 32 to 126"; "day not 1 to 31, .."
-abbrev pub date_fine : Dated → Bool
-date_fine dated.Absent = true
-date_fine (dated.On d) = is_date (made d.day d.month d.year)
+abbrev pub date_fine : Option Date → Bool
+date_fine None = true
+date_fine (Some d) = is_date (made d.day d.month d.year)
 
 unfoldable pub locus_fine : Bool → Bool → Table → Bool
 locus_fine truncate escape t =

@@ -2,7 +2,7 @@
 #![tactic(auto)]
 
 ghost use Rattle.std.specs.Prelude.{◌≡◌};
-ghost use Rattle.spec_format.specs.Dates.{made, first_date, printed_date};
+ghost use Rattle.spec_format.specs.Dates.{made, printed_date};
 
 // The most bytes that a slice may have, and a room of a table; of rows as many.
 pub const MOST: usize = 16777216;
@@ -15,32 +15,19 @@ pub struct Span {
     pub length: usize,
 }
 
-// A text that may be absent.
-#[derive(Clone, Copy)]
-pub enum Text {
-    Absent,
-    At(Span),
-}
-
 // SOURCE, and ORGANISM only where SOURCE is.
 #[derive(Clone, Copy)]
-pub enum SourceText {
-    Absent,
-    At { text: Span, organism: Text },
+pub struct SourceText {
+    pub text: Span,
+    pub organism: Option<Span>,
 }
 
 // CONTIG: its text, the first of its location rows, and how many there are.
 #[derive(Clone, Copy)]
-pub enum ContigText {
-    Absent,
-    At { text: Span, row: usize, rows: usize },
-}
-
-// The length that a LOCUS line gives.
-#[derive(Clone, Copy)]
-pub enum Length {
-    Absent,
-    Bases(u32),
+pub struct ContigText {
+    pub text: Span,
+    pub row: usize,
+    pub rows: usize,
 }
 
 #[derive(Clone, Copy)]
@@ -48,12 +35,6 @@ pub struct Date {
     pub day: u8,
     pub month: u8,
     pub year: u16,
-}
-
-#[derive(Clone, Copy)]
-pub enum Dated {
-    Absent,
-    On(Date),
 }
 
 impl Date {
@@ -65,68 +46,43 @@ impl Date {
     };
 
     // The maker: a date whose day, month and year are in range, or none.
-    pub fn from(day: u8, month: u8, year: u16) -> Dated
+    pub fn from(day: u8, month: u8, year: u16) -> Option<Date>
         ensures { result ≡ made day month year }
     {
-        if day < 1 {
-            return Dated::Absent;
+        if (1..=31).contains(&day) && (1..=12).contains(&month) && year <= 9999 {
+            Some(Date { day, month, year })
+        } else {
+            None
         }
-        if 31 < day {
-            return Dated::Absent;
-        }
-        if month < 1 {
-            return Dated::Absent;
-        }
-        if 12 < month {
-            return Dated::Absent;
-        }
-        if 9999 < year {
-            return Dated::Absent;
-        }
-        Dated::On(Date {
-            day: day,
-            month: month,
-            year: year,
-        })
-    }
-
-    // What is printed for a record without a date.
-    pub fn first() -> Date
-        ensures { result ≡ first_date }
-    {
-        Self::FIRST
     }
 }
 
-// The date that a record prints.
-pub fn printed_date(d: Dated) -> Date
+// The date that a record prints: its own, or the first.
+pub fn printed_date(d: Option<Date>) -> Date
     ensures { result ≡ printed_date d }
 {
-    match d {
-        Dated::On(on) => on,
-        Dated::Absent => Date::first(),
-    }
+    d.unwrap_or(Date::FIRST)
 }
 
 // What a table holds outside the rooms: LOCUS values, where the single texts lie, how many rows and letters there are.
 #[derive(Clone, Copy)]
 pub struct Head {
-    pub name: Text,
-    pub length: Length,
-    pub molecule: Text,
+    pub name: Option<Span>,
+    pub length: Option<u32>,
+    pub molecule: Option<Span>,
     pub circular: bool,
     pub division: Span,
-    pub date: Dated,
-    pub definition: Text,
-    pub accession: Text,
-    pub version: Text,
-    pub dblink: Text,
-    pub keywords: Text,
-    pub source: SourceText,
+    pub date: Option<Date>,
+    pub definition: Option<Span>,
+    pub accession: Option<Span>,
+    pub version: Option<Span>,
+    pub dblink: Option<Span>,
+    pub keywords: Option<Span>,
+    pub source: Option<SourceText>,
     pub references: usize,
     pub comments: usize,
     pub features: usize,
-    pub contig: ContigText,
+    pub contig: Option<ContigText>,
     pub letters: usize,
 }
 

@@ -1,5 +1,5 @@
 -- Why the promises hold: the longer proofs that Promise.antt cites.
-use Rattle.std.specs.Prelude.{ℕ, ◌-◌, ◌<◌, ◌≤◌, Bool, ◌↔◌, ◌≡◌, length, take, leb}
+use Rattle.std.specs.Prelude.{ℕ, ◌-◌, ◌<◌, ◌≤◌, Bool, ◌↔◌, ◌≡◌, length, take, leb, Option, Some, None}
 use Rattle.std.proofs.Common.{arith, ap, sym, ◌∙◌, le-leb}
 use Rattle.std.proofs.Math.Bool.{true, false}
 use Rattle.std.proofs.Math.Path.{refl}
@@ -15,8 +15,6 @@ use Rattle.spec_format.specs.Rooms.{Rooms, table_of, locations_read, lengths_fin
 use Rattle.spec_format.specs.Answers.{room, keeping_answer, plain_answer, slice_after}
 use Rattle.spec_format.specs.Numbers.{write_number, write_value}
 use Rattle.spec_format.specs.declared.Head.{Head}
-use Rattle.spec_format.specs.declared.Length.{Length}
-use Rattle.spec_format.specs.declared.Length.TheVariants as given
 use Rattle.spec_format.specs.declared.ReadAnswer.TheVariants as read
 use Rattle.spec_format.specs.declared.Unwritten.{Unwritten}
 use Rattle.spec_format.specs.declared.Unwritten.TheVariants as unwritten
@@ -43,13 +41,13 @@ length_fits_lem t h = go t.locus.length refl
     go absent e = refl
     go (is n) e = let l : n < 4294967296 = h n e in le-leb n 4294967295 (omega arith)
 
-pub head_length_fits : (r : Rooms) (h : Head) → ((n : ℕ) → h.length ≡ given.Bases n → n < 4294967296) → length_fits (table_of r h) ≡ true
+pub head_length_fits : (r : Rooms) (h : Head) → ((n : ℕ) → h.length ≡ Some n → n < 4294967296) → length_fits (table_of r h) ≡ true
 unfolding table_of
 head_length_fits r h f = go h.length refl
   where
-    go : (o : Length) → h.length ≡ o → if_is (λ n. leb n 4294967295) (may_length o) ≡ true
-    go given.Absent e = refl
-    go (given.Bases n) e = let l : n < 4294967296 = f n e in le-leb n 4294967295 (omega arith)
+    go : (o : Option ℕ) → h.length ≡ o → if_is (λ n. leb n 4294967295) (may_length o) ≡ true
+    go None e = refl
+    go (Some n) e = let l : n < 4294967296 = f n e in le-leb n 4294967295 (omega arith)
 
 pub can_keep :
     (W : ℕ) (truncate escape : Bool) (t : Table) → well_formed W truncate escape t ≡ true → keeps W truncate escape t ≡ true → locations_read t ≡ true →

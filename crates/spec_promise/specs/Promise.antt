@@ -1,5 +1,5 @@
 -- WHAT IS PROMISED. Each statement can be read without its proof. With the strict switch on a record comes back too: proofs/Promise.antt.
-use Rattle.std.specs.Prelude.{ℕ, ◌-◌, ◌<◌, ◌≤◌, Bool, true, false, ◌↔◌, ◌≡◌, List, ◌++◌, length, take, leb}
+use Rattle.std.specs.Prelude.{ℕ, ◌-◌, ◌<◌, ◌≤◌, Bool, true, false, ◌↔◌, ◌≡◌, List, ◌++◌, length, take, leb, Some}
 use Rattle.std.proofs.Common.{sym, ap, ◌∙◌, arith}
 use Rattle.spec_format.specs.Bytes.{is, each, all}
 use Rattle.spec_format.specs.Table.{Table}
@@ -11,7 +11,6 @@ use Rattle.spec_format.specs.Keeping.{keeps}
 use Rattle.spec_format.specs.Rooms.{Rooms, table_of, locations_read, lengths_fine, rooms_fine, sizes, fits, head_of, read_answer, rooms_after}
 use Rattle.spec_format.specs.Answers.{keeping_answer, plain_answer, slice_after}
 use Rattle.spec_format.specs.declared.Head.{Head}
-use Rattle.spec_format.specs.declared.Length.TheVariants as given
 use Rattle.spec_format.specs.declared.ReadAnswer.TheVariants as read
 use Rattle.spec_format.specs.declared.Unwritten.TheVariants as unwritten
 use Rattle.spec_format.specs.declared.WriteAnswer.TheVariants as answer
@@ -90,7 +89,7 @@ pub rooms_come_back :
     (strict : Bool) (W : ℕ) (truncate escape : Bool) (r : Rooms) (h : Head) (old new : List ℕ) (k : ℕ) →
     keeping_answer W truncate escape r h (length old) ≡ answer.Done k →
     new ≡ slice_after (keeping_answer W truncate escape r h (length old)) (written W truncate escape (table_of r h)) old →
-    ((n : ℕ) → h.length ≡ given.Bases n → n < 4294967296) → k ≤ most →
+    ((n : ℕ) → h.length ≡ Some n → n < 4294967296) → k ≤ most →
     letters_fit strict (table_of r h) ≡ true → (q : Rooms) → fits (sizes (table_of r h)) q ≡ true → Back strict r h (take k new) k q
 rooms_come_back strict W truncate escape r h old new k e s n m c q f =
     let l = head_length_fits r h (λ j d. omega (arith, n j d)) in

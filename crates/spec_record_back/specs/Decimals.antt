@@ -1,12 +1,11 @@
 -- How long decimal numbers are and that they are digits; and dates.
-use Rattle.std.specs.Prelude.{ℕ, zero, suc, ◌+◌, ◌/◌, ◌%◌, ◌<◌, ◌≤◌, Bool, true, false, ◌&&◌, ◌≡◌, refl, List, [], ◌∷◌, ◌++◌, length, eqb, ltb}
+use Rattle.std.specs.Prelude.{ℕ, zero, suc, ◌+◌, ◌/◌, ◌%◌, ◌<◌, ◌≤◌, Bool, true, false, ◌&&◌, ◌≡◌, refl, List, [], ◌∷◌, ◌++◌, length, eqb, ltb, Some}
 use Rattle.std.proofs.Common.{arith, ap, ◌∙◌, length-append, eqb-true, ltb-true, ltb-false, le-ltb, le-leb}
 use Rattle.std.proofs.lemmas.Bool.{eqb-false}
 use Rattle.spec_format.specs.Bytes.{some, all, visible, digit, number, digits}
 use Rattle.spec_format.specs.Dates.{made, is_date, months, month_name, date_text}
 use Rattle.spec_format.specs.Locus.{place_in, date_of, date_token}
 use Rattle.spec_format.specs.declared.Date.{Date}
-use Rattle.spec_format.specs.declared.Dated.TheVariants as dated
 use Rattle.spec_texts_back.specs.Tests.{and_left, and_right, all_append}
 use Rattle.spec_location.specs.Decimals.{digit_of}
 use Rattle.spec_format.specs.Impossible.{impossible}
@@ -106,7 +105,7 @@ in-range d m y h = go (ltb d 1) refl (ltb 31 d) refl (ltb m 1) refl (ltb 12 m) r
           year = omega (arith, ltb-false 9999 y t);
         }
 
-made_back : (d m y : ℕ) → InRange d m y → made d m y ≡ dated.On (record { day = d; month = m; year = y })
+made_back : (d m y : ℕ) → InRange d m y → made d m y ≡ Some (record { day = d; month = m; year = y })
 made_back d m y r =
     cc
     (le-ltb d 1 r.day₁, le-ltb 31 d r.day₂, le-ltb m 1 r.month₁, le-ltb 12 m r.month₂, le-ltb 9999 y r.year)
@@ -145,7 +144,7 @@ digit_seen x h = cc (le-leb 33 (48 + x) (omega arith), le-leb (48 + x) 126 (omeg
 
 -- what a date prints as is read as that date, and is one token
 pub record DateBack (d : Date) : Type 0 where
-  pub read : date_token (date_text d) ≡ dated.On d
+  pub read : date_token (date_text d) ≡ Some d
   pub seen : all visible (date_text d) ≡ true
 
 pub date_back : (d : Date) → is_date (made d.day d.month d.year) ≡ true → DateBack d

@@ -1,5 +1,5 @@
 -- The LOCUS line: its values, parted by any gaps, are read; and so what is written of a table that keeps the rules is read as the same values.
-use Rattle.std.specs.Prelude.{ℕ, zero, suc, ◌+◌, ◌-◌, ◌≤◌, Bool, true, false, ◌&&◌, ◌||◌, ◌≡◌, refl, List, [], ◌∷◌, ◌++◌, length, eqb, leb}
+use Rattle.std.specs.Prelude.{ℕ, zero, suc, ◌+◌, ◌-◌, ◌≤◌, Bool, true, false, ◌&&◌, ◌||◌, ◌≡◌, refl, List, [], ◌∷◌, ◌++◌, length, eqb, leb, Option, Some, None}
 use Rattle.std.proofs.Common.{arith, ap, ◌∙◌, append_assoc, append-nil, le-leb, leb-true, ne_eqb}
 use Rattle.std.proofs.lemmas.Bool.{eqb-false, not-true}
 use Rattle.spec_format.specs.Bytes.{May, absent, is, bytes, spaces, some, starts, all, same, visible, printing, digit, blank, not_blank, but, number, decimal}
@@ -11,8 +11,6 @@ use Rattle.spec_format.specs.Write.{name_or, length_text, printed_name, molecule
 use Rattle.spec_format.specs.WellFormed.{if_is, date_fine, locus_fine}
 use Rattle.spec_format.specs.Keeping.{spaceless, present, locus_kept}
 use Rattle.spec_format.specs.declared.Date.{Date}
-use Rattle.spec_format.specs.declared.Dated.{Dated}
-use Rattle.spec_format.specs.declared.Dated.TheVariants as dated
 use Rattle.spec_texts_back.specs.Tests.{and_left, and_right, all_head, all_tail, all_append, all_imp, all_and, all_first, starts_more}
 use Rattle.spec_texts_back.specs.Pieces.{until_back, all_spaces, no_end, line_back, visible_no_end}
 use Rattle.spec_location.specs.Decimals.{decimal_back}
@@ -173,9 +171,9 @@ pub record Count (count : List ℕ) : Type 0 where
 
 from_back :
     (name count division date : List ℕ) (m : May (List ℕ)) (c : Bool) (d : Date) → all (but 58) name ≡ true → Count count →
-    date_token date ≡ dated.On d →
+    date_token date ≡ Some d →
     locus_from name count (bytes "bp") m (topology_text c) division date ≡
-    record { name = is name; length = is (number 0 count); molecule = m; circular = c; division = division; date = dated.On d }
+    record { name = is name; length = is (number 0 count); molecule = m; circular = c; division = division; date = Some d }
 unfolding locus_from
 from_back name count division date m c d h k e = cc (k.digits, k.ten, k.fits, topology_fine c, topology_is c)
 
@@ -197,9 +195,9 @@ all_visible name count division date (is m) c p =
 
 line_values :
     (g : Gaps) (name count division date : List ℕ) (m : May (List ℕ)) (c : Bool) (on : Date) → Parts name count division date m →
-    all (but 58) name ≡ true → Count count → date_token date ≡ dated.On on →
+    all (but 58) name ≡ true → Count count → date_token date ≡ Some on →
     locus_line (line_text g name count m c division date) ≡
-    record { name = is name; length = is (number 0 count); molecule = m; circular = c; division = division; date = dated.On on }
+    record { name = is name; length = is (number 0 count); molecule = m; circular = c; division = division; date = Some on }
 unfolding locus_line
 line_values g name count division date m c on p h k t =
     rw (line_tokens g name count division date m c p, all_visible name count division date m c p, of_back name count division date m c)
@@ -247,9 +245,9 @@ locus_steps x rest h k =
 -- A LINE OF SUCH VALUES, whatever its gaps, is read as the values
 pub values_back :
     (g : Gaps) (name count division date : List ℕ) (m : May (List ℕ)) (c : Bool) (on : Date) (rest : List ℕ) →
-    Parts name count division date m → all (but 58) name ≡ true → Count count → date_token date ≡ dated.On on →
+    Parts name count division date m → all (but 58) name ≡ true → Count count → date_token date ≡ Some on →
     locus (bytes "LOCUS       " ++ (line_text g name count m c division date ++ 10 ∷ rest)) ≡
-    got (record { name = is name; length = is (number 0 count); molecule = m; circular = c; division = division; date = dated.On on }) rest
+    got (record { name = is name; length = is (number 0 count); molecule = m; circular = c; division = division; date = Some on }) rest
 values_back g name count division date m c on rest p h k e =
     locus_steps (line_text g name count m c division date) rest (text_starts g name count division date m c p) (text_no_end g name count division date m c p) ∙
     ap (λ (l : Locus). got l rest) (line_values g name count division date m c on p h k e)
@@ -284,7 +282,7 @@ regroup l n g c b m d s t e division date f rest = simp append_assoc
 -- the line that is written, of the values that it has
 text_is :
     (t : Table) (name : List ℕ) (n : ℕ) (on : Date) (rest : List ℕ) → t.locus.name ≡ is name → t.locus.length ≡ is n →
-    t.locus.date ≡ dated.On on →
+    t.locus.date ≡ Some on →
     locus_text false false t ++ rest ≡
     bytes "LOCUS       " ++
     (line_text (gaps name (decimal n) (molecule_text false t.locus.molecule) (topology_text t.locus.circular)) name (decimal n) t.locus.molecule
@@ -313,15 +311,15 @@ unfolding date_text
 date_some d = refl
 
 values_are :
-    (l : Locus) (name : List ℕ) (n : ℕ) (on : Date) → l.name ≡ is name → l.length ≡ is n → l.date ≡ dated.On on →
+    (l : Locus) (name : List ℕ) (n : ℕ) (on : Date) → l.name ≡ is name → l.length ≡ is n → l.date ≡ Some on →
     ◌≡◌ {A = Locus}
-    (record { name = is name; length = is n; molecule = l.molecule; circular = l.circular; division = l.division; date = dated.On on }) l
+    (record { name = is name; length = is n; molecule = l.molecule; circular = l.circular; division = l.division; date = Some on }) l
 values_are l name n on p q r = rw (← p, ← q, ← r)
 
 line_kept :
     (t : Table) (name : List ℕ) (n : ℕ) (on : Date) (rest : List ℕ) → t.locus.name ≡ is name → t.locus.length ≡ is n →
-    t.locus.date ≡ dated.On on → Parts name (decimal n) t.locus.division (date_text on) t.locus.molecule → all (but 58) name ≡ true →
-    n ≤ 4294967295 → date_token (date_text on) ≡ dated.On on → locus (locus_text false false t ++ rest) ≡ got t.locus rest
+    t.locus.date ≡ Some on → Parts name (decimal n) t.locus.division (date_text on) t.locus.molecule → all (but 58) name ≡ true →
+    n ≤ 4294967295 → date_token (date_text on) ≡ Some on → locus (locus_text false false t ++ rest) ≡ got t.locus rest
 line_kept t name n on rest p q r parts h k e =
     let g : Gaps = gaps name (decimal n) (molecule_text false t.locus.molecule) (topology_text t.locus.circular) in
     let v =
@@ -395,11 +393,11 @@ locus_back t rest fine kept fits = go (facts t fine kept) t.locus.name refl t.lo
   where
     go :
         Facts t.locus (name_or t.locus.name t.accession) → (o : May (List ℕ)) → t.locus.name ≡ o → (u : May ℕ) → t.locus.length ≡ u →
-        (v : Dated) → t.locus.date ≡ v → locus (locus_text false false t ++ rest) ≡ got t.locus rest
+        (v : Option Date) → t.locus.date ≡ v → locus (locus_text false false t ++ rest) ≡ got t.locus rest
     go f absent p u q v r = let h = f.name in cc
     go f (is name) p absent q v r = let h = f.length in cc
-    go f (is name) p (is n) q dated.Absent r = let h = f.date in cc
-    go f (is name) p (is n) q (dated.On on) r =
+    go f (is name) p (is n) q None r = let h = f.date in cc
+    go f (is name) p (is n) q (Some on) r =
         let colonless : all (but 58) name ≡ true = rw p at f.colonless in
         let size : leb n 4294967295 ≡ true = rw q at fits in
         let back : DateBack on = date_back on (rw r at f.date_range) in

@@ -1,6 +1,6 @@
 -- Location rows are those of their texts: where number 10 is not due, and what that says of a text which has a reading.
 use Prim.Native.Nat.{ℕ, zero, suc, ◌+◌, ◌*◌, ◌/◌}
-use Rattle.std.proofs.Common.{arith, ap, sym, eqb-true, eq-eqb}
+use Rattle.std.proofs.Common.{arith, ap, sym, eqb-true, eq-eqb, Option, Some, None}
 use Rattle.std.specs.Prelude.{Bool, ◌||◌, ◌≡◌, List, [], ◌∷◌, length, drop, get_or}
 use Rattle.std.proofs.Math.Bool.{true, false}
 use Rattle.std.proofs.Math.Path.{refl}
@@ -14,7 +14,6 @@ use Rattle.spec_format.specs.Rooms.{text_fine, source_fine, row_text_fine, read_
 use Rattle.spec_format.specs.Rooms.{rows_fine, reference_row_fine, comment_row_fine, qualifiers_fine, feature_row_fine, features_fine, lengths_fine, head_fine}
 use Rattle.spec_format.specs.Rooms.{counts_fine, rooms_fine}
 use Rattle.spec_format.specs.declared.ContigText.{ContigText}
-use Rattle.spec_format.specs.declared.ContigText.TheVariants as contig
 use Rattle.spec_format.specs.declared.Head.{Head}
 use Rattle.spec_rooms.specs.LayoutLengths.{and_left, and_right}
 
@@ -107,10 +106,10 @@ module _ (r : Rooms) where
   features_read_lem zero i from h = refl
   features_read_lem (suc n) i from h = features_step i from n (features_read_lem n (i + 1)) h
 
-  contig_read_lem : (c : ContigText) → contig_text_fine r c ≡ true → contig_read (may_contig r c) ≡ true
-  contig_read_lem contig.Absent h = refl
-  contig_read_lem (contig.At s row rows) h =
-      location_read true (span_text r.texts s) row rows (and_right (span_fine (length r.texts) s.start s.length) _ h)
+  contig_read_lem : (c : Option ContigText) → contig_text_fine r c ≡ true → contig_read (may_contig r c) ≡ true
+  contig_read_lem None h = refl
+  contig_read_lem (Some c) h =
+      location_read true (span_text r.texts c.text) c.row c.rows (and_right (span_fine (length r.texts) c.text.start c.text.length) _ h)
 
 -- the last of the head's tests
 contig_of_head : (r : Rooms) (h : Head) → head_fine r h ≡ true → contig_text_fine r h.contig ≡ true

@@ -1,14 +1,12 @@
 -- Each keeping rule earns its place: for each, a table that breaks it and no other, which is well-formed and does not come back, beside the same
 -- table mended, which keeps all rules and comes back. One statement over a list; what is stricter than needed is said in docs/DECISIONS.md. The rule on locations has
 -- none: no well-formed table breaks it (`location_rule_holds`).
-use Rattle.std.specs.Prelude.{ℕ, ◌+◌, Bool, true, false, ◌&&◌, ◌≡◌, refl, List, [], ◌∷◌, ◌++◌, map, length, replicate}
+use Rattle.std.specs.Prelude.{ℕ, ◌+◌, Bool, true, false, ◌&&◌, ◌≡◌, refl, List, [], ◌∷◌, ◌++◌, map, length, replicate, Option, Some, None}
 use Rattle.spec_format.specs.Bytes.{May, absent, is, bytes, same}
 use Rattle.spec_format.specs.Table.{Locus, Reference, Qualifier, LocationRow, Feature, Table}
 use Rattle.spec_format.specs.Location.{run, past, behind, base_number, bases, accession, leaf, plain as plain-location, begin, members_in, location_from, reading, rows_in, locates}
 use Rattle.spec_format.specs.Deep.{so_far, deep_feature, deep_contig}
 use Rattle.spec_format.specs.Record.{Outcome, was_read, not_read}
-use Rattle.spec_format.specs.declared.Dated.{Dated}
-use Rattle.spec_format.specs.declared.Dated.TheVariants as dated
 use Rattle.spec_format.specs.Answers.{keeping_answer}
 use Rattle.spec_format.specs.Numbers.{write_number}
 use Rattle.spec_format.specs.Bytes.{digits}
@@ -30,6 +28,7 @@ use Rattle.spec_format.specs.Wrap.{fill, closing, lines_after, wrapped, wrap_tex
 use Rattle.spec_format.specs.Write.{length_text, white, blanked, words, joined, printed_name, locus_text, field_lines, reference_lines, header_lines}
 use Rattle.spec_location.specs.Tests.{and_left, and_right}
 use Rattle.spec_location.specs.Bytes.{locates_slash}
+use Rattle.spec_format.specs.declared.Date.{Date}
 use Rattle.spec_format.specs.Write.{comma_key, bare_key, value_lines, qualifier_lines, feature_lines, features_lines, letter_lines, origin_lines, written}
 
 -- ---- equal texts, in tables whose shapes the examples have
@@ -46,11 +45,11 @@ same_number absent (is b) = false
 same_number (is a) absent = false
 same_number (is a) (is b) = same (a ∷ []) (b ∷ [])
 
-same_date : Dated → Dated → Bool
-same_date dated.Absent dated.Absent = true
-same_date dated.Absent (dated.On b) = false
-same_date (dated.On a) dated.Absent = false
-same_date (dated.On a) (dated.On b) = same (a.day ∷ a.month ∷ a.year ∷ []) (b.day ∷ b.month ∷ b.year ∷ [])
+same_date : Option Date → Option Date → Bool
+same_date None None = true
+same_date None (Some b) = false
+same_date (Some a) None = false
+same_date (Some a) (Some b) = same (a.day ∷ a.month ∷ a.year ∷ []) (b.day ∷ b.month ∷ b.year ∷ [])
 
 same_locus : Locus → Locus → Bool
 same_locus a b =
@@ -109,13 +108,13 @@ table l d rs fs =
       letters = [];
     }
 
-day : Dated
-day = dated.On (record { day = 1; month = 3; year = 2024 })
+day : Option Date
+day = Some (record { day = 1; month = 3; year = 2024 })
 
-locus_of_lem : May (List ℕ) → May ℕ → May (List ℕ) → List ℕ → Dated → Locus
+locus_of_lem : May (List ℕ) → May ℕ → May (List ℕ) → List ℕ → Option Date → Locus
 locus_of_lem n l m v d = record { name = n; length = l; molecule = m; circular = true; division = v; date = d }
 
-with_locus : May (List ℕ) → May ℕ → May (List ℕ) → List ℕ → Dated → Table
+with_locus : May (List ℕ) → May ℕ → May (List ℕ) → List ℕ → Option Date → Table
 with_locus n l m v d = table (locus_of_lem n l m v d) absent [] []
 
 plain : Locus
@@ -167,7 +166,7 @@ examples =
     -- length present
     rule (with_locus (is (bytes "P")) absent absent (bytes "SYN") day) (with_locus (is (bytes "P")) (is 0) absent (bytes "SYN") day) ∷
     -- date present
-    rule (with_locus (is (bytes "P")) (is 0) absent (bytes "SYN") dated.Absent) (with_locus (is (bytes "P")) (is 0) absent (bytes "SYN") day) ∷
+    rule (with_locus (is (bytes "P")) (is 0) absent (bytes "SYN") None) (with_locus (is (bytes "P")) (is 0) absent (bytes "SYN") day) ∷
     -- name without `:`
     rule (named (bytes "a:b")) (named (bytes "a.b")) ∷
     -- name spaceless

@@ -6,11 +6,12 @@ mod reading;
 mod stored;
 mod writing;
 
+use app_rooms::{OUT, room};
 use std::fs::File;
 use std::io;
 
 fn replay_file(rt: &HostRuntime, name: &str, counts: &mut [usize]) -> io::Result<()> {
-    let mut s = app_rooms::out_room();
+    let mut s: [u8; OUT] = room(0);
     let mut file = File::open(rt, name)?;
     let n = app_rooms::fill(&mut file, &mut s)?;
     stored::replay_all(&mut rt.stdout(), name.as_bytes(), &s[..n], counts)

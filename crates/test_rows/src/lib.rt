@@ -69,15 +69,12 @@ fn put_row(features: &mut [usize], at: usize, row: Feature) -> usize
 {
     let kind = row.kind;
     let location = row.location;
-    let next = base_pen::put_four(
+    let next = base_pen::put_all(
         features,
         at,
-        kind.start,
-        kind.length,
-        location.start,
-        location.length,
+        &[kind.start, kind.length, location.start, location.length],
     );
-    base_pen::put_four(features, next, row.first, row.count, row.row, row.rows)
+    base_pen::put_all(features, next, &[row.first, row.count, row.row, row.rows])
 }
 
 // The first n rows put into a flat room again.

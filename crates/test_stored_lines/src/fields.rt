@@ -73,7 +73,7 @@ fn with_digit(value: usize, b: u8) -> usize {
 // Puts the number that has been read, if there is one, and tells how many there are then.
 fn put_read(room: &mut [usize], so_far: Listing) -> usize {
     if so_far.some {
-        return base_pen::put_number(room, so_far.count, so_far.value);
+        return base_pen::put(room, so_far.count, so_far.value);
     }
     so_far.count
 }
@@ -236,7 +236,7 @@ fn what_adds(place: Place, b: u8) -> Added {
 fn put_added(room: &mut [u8], count: usize, what: Added) -> usize {
     match what {
         Added::Nothing => count,
-        Added::Byte(b) => base_pen::put_byte(room, count, b),
+        Added::Byte(b) => base_pen::put(room, count, b),
     }
 }
 

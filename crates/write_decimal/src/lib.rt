@@ -1,52 +1,36 @@
 // Numbers in decimal, as they are and right-aligned.
 #![tactic(auto)]
 
-ghost use Rattle.std.specs.Prelude.{◌≡◌, ◌-◌};
-ghost use Rattle.spec_format.specs.Bytes.{digits, decimal};
+ghost use Rattle.std.specs.Prelude.{◌≡◌, ◌≤◌, length};
+ghost use Rattle.spec_format.specs.Bytes.{decimal};
 ghost use Rattle.spec_format.specs.Write.{right_aligned};
 ghost use Rattle.base_pen.specs.Pen.{Writes};
-ghost use Rattle.write_decimal.specs.Decimal.{Width};
 
-use base_arith::left_of;
-use base_pen::{put_byte, put_spaces};
-
-// How many digits n has.
-pub fn width(n: u32) -> usize
-    ensures { Width n result }
-{
-    let mut m = n;
-    let mut d = 1;
-    while 10 <= m {
-        m = m / 10;
-        d += 1;
-    }
-    d
-}
-
-// n in decimal, of f digits at most.
-fn put_digits(out: &mut [u8], at: usize, n: u32, f: usize) -> usize
-    ensures { Writes out.old at (digits f n) out.new result }
-{
-    if f < 1 {
-        return at;
-    }
-    if n < 10 {
-        return put_byte(out, at, b'0' + n as u8);
-    }
-    let p = put_digits(out, at, n / 10, f - 1);
-    put_byte(out, p, b'0' + (n % 10) as u8)
-}
+use base_pen::{put, put_spaces};
 
 pub fn put_decimal(out: &mut [u8], at: usize, n: u32) -> usize
     ensures { Writes out.old at (decimal n) out.new result }
 {
-    put_digits(out, at, n, 10)
+    let last = if n < 10 {
+        at
+    } else {
+        put_decimal(out, at, n / 10)
+    };
+    put(out, last, b'0' + (n % 10) as u8)
+}
+
+// How many digits n has: what it takes of an empty room.
+pub fn width(n: u32) -> usize
+    ensures value { result ≡ length (decimal n) }
+    ensures most { result ≤ 10 }
+{
+    put_decimal(&mut [], 0, n)
 }
 
 // n right-aligned in nine columns.
 pub fn put_nine(out: &mut [u8], at: usize, n: u32) -> usize
     ensures { Writes out.old at (right_aligned 9 (decimal n)) out.new result }
 {
-    let p = put_spaces(out, at, left_of(9, width(n)));
+    let p = put_spaces(out, at, 9usize.saturating_sub(width(n)));
     put_decimal(out, p, n)
 }

@@ -11,7 +11,7 @@ ghost use Rattle.spec_format.specs.Record.{most};
 
 use base_arith::left_of;
 use base_keys::{bare_key, comma_key};
-use base_pen::{put_byte, put_bytes, put_spaces};
+use base_pen::{put, put_all, put_spaces};
 use write_field::put_padded;
 use write_wrap_location::put_commas;
 use write_wrap_text::put_wrapped;
@@ -20,8 +20,8 @@ fn put_key(out: &mut [u8], at: usize, k: &[u8]) -> usize
     ensures { Writes out.old at (key_text k.now) out.new result }
 {
     let a = put_spaces(out, at, 21);
-    let b = put_byte(out, a, b'/');
-    put_bytes(out, b, k)
+    let b = put(out, a, b'/');
+    put_all(out, b, k)
 }
 
 // A qualifier without a value.
@@ -29,7 +29,7 @@ pub fn put_flag(out: &mut [u8], at: usize, k: &[u8]) -> usize
     ensures { Writes out.old at (key_text k.now ++ bytes "\n") out.new result }
 {
     let next = put_key(out, at, k);
-    put_byte(out, next, b'\n')
+    put(out, next, b'\n')
 }
 
 // A qualifier with a value.
@@ -38,7 +38,7 @@ pub fn put_value(out: &mut [u8], at: usize, k: &[u8], v: &[u8], width: usize) ->
     ensures { Writes out.old at (value_lines width k.now v.now) out.new result }
 {
     let a = put_key(out, at, k);
-    let b = put_byte(out, a, b'=');
+    let b = put(out, a, b'=');
     let taken = 23 + k.len();
     if comma_key(k) {
         return put_commas(out, b, v, taken, 21, width);
@@ -46,7 +46,7 @@ pub fn put_value(out: &mut [u8], at: usize, k: &[u8], v: &[u8], width: usize) ->
     if bare_key(k) {
         return put_wrapped(out, b, v, taken, 21, false, width);
     }
-    let d = put_byte(out, b, b'"');
+    let d = put(out, b, b'"');
     put_wrapped(out, d, v, taken + 1, 21, true, width)
 }
 
@@ -57,7 +57,7 @@ pub fn put_feature(out: &mut [u8], at: usize, kind: &[u8], location: &[u8], widt
 {
     let a = put_spaces(out, at, 5);
     let b = put_padded(out, a, kind, 15);
-    let d = put_byte(out, b, b' ');
+    let d = put(out, b, b' ');
     let taken = 6 + kind.len() + left_of(15, kind.len());
     put_commas(out, d, location, taken, 21, width)
 }
@@ -66,6 +66,6 @@ pub fn put_contig(out: &mut [u8], at: usize, contig: &[u8], width: usize) -> usi
     requires { (length contig.now ≤ most) × (60 ≤ width) × (width ≤ 132) }
     ensures { Writes out.old at (wrap_location width (bytes "CONTIG      ") 12 contig.now) out.new result }
 {
-    let next = put_bytes(out, at, b"CONTIG      ");
+    let next = put_all(out, at, b"CONTIG      ");
     put_commas(out, next, contig, 12, 12, width)
 }

@@ -1,12 +1,11 @@
 -- A row that is a struct, and the same row among the flat numbers: they are the same feature, tested and written alike.
-use Rattle.std.specs.Prelude.{ℕ, ◌+◌, ◌*◌, ◌/◌, ◌≤◌, ◌≡◌, List, length, get_or}
+use Rattle.std.specs.Prelude.{Option, Some, None, slice_get, ℕ, ◌+◌, ◌*◌, ◌/◌, ◌≤◌, ◌≡◌, List, length, get_or}
 use Rattle.std.proofs.Common.{arith}
 use Rattle.judge_feature.specs.Rules.{FeatureKnown}
 use Rattle.spec_format.specs.Rooms.{feature_in, qualifier_in, location_row_in, qualifiers_fine, qualifier_row_fine}
 use Rattle.base_rows.specs.Flat.{flat_length, fetched_stands}
-use Rattle.base_rows.specs.Rows.{row_at, numbers, flat}
+use Rattle.base_rows.specs.Rows.{numbers, flat}
 use Rattle.base_rows.specs.declared.Feature.{Feature}
-use Rattle.base_rows.specs.declared.Fetched.TheVariants.{Row}
 use Rattle.judge_rooms.specs.Facts.{FeatureIn}
 use Rattle.judge_rooms.specs.Parts.{feature_rooms, feature_next}
 use Rattle.spec_format.specs.Record.{most}
@@ -14,7 +13,7 @@ use Rattle.spec_format.specs.Record.{most}
 pub rows_in : (rows : List Feature) → length (flat rows) / 8 ≡ length rows
 rows_in rows = omega (arith, flat_length rows)
 
-module _ (t q : List ℕ) (rows : List Feature) (i : ℕ) (f : Feature) (e : row_at rows i ≡ Row f) where
+module _ (t q : List ℕ) (rows : List Feature) (i : ℕ) (f : Feature) (e : slice_get rows i ≡ Some f) where
   -- as the definitions ask for it
   location_length : get_or (flat rows) (8 * i + 2 + 1) 0 ≡ f.location.length
   location_length = let y : 8 * i + 3 ≡ 8 * i + 2 + 1 = omega arith in rw y at (fetched_stands rows i f e).location_length

@@ -3,7 +3,7 @@
 #![tactic(auto)]
 
 ghost use Rattle.std.specs.Prelude.{◌≡◌, ◌||◌, not, ◌+◌, ◌-◌, ◌≤◌};
-ghost use Rattle.judge_feature.specs.Rules.{width_of, feature_of, QualifierKnown, QualifiersKnown, FeatureKnown};
+ghost use Rattle.judge_feature.specs.Rules.{feature_of, QualifierKnown, QualifiersKnown, FeatureKnown};
 ghost use Rattle.spec_format.specs.Bytes.{each};
 ghost use Rattle.spec_format.specs.Rooms.{text_in, rows_from, qualifier_in, feature_in};
 ghost use Rattle.spec_format.specs.Wrap.{wrap_location};
@@ -17,7 +17,7 @@ ghost use Rattle.write_feature_row.specs.FirstLine.{FirstLineKnown};
 use base_rows::Feature;
 use judge_feature::feature_passes;
 use judge_header::Rule;
-use judge_rooms::{Next, feature_next};
+use judge_rooms::feature_next;
 use write_feature::{put_feature, put_flag, put_value};
 
 fn row_numbers(row: Feature) -> [usize; 8]
@@ -37,8 +37,8 @@ fn row_numbers(row: Feature) -> [usize; 8]
     ]
 }
 
-// Where the qualifiers of the next row may start, or that this one is not in order but for its location rows.
-pub fn row_next(row: Feature, texts: &[u8], qualifiers: &[usize], from: usize) -> Next
+// Where the qualifiers of the next row may start, if this one is in order but for its location rows.
+pub fn row_next(row: Feature, texts: &[u8], qualifiers: &[usize], from: usize) -> Option<usize>
     ensures { result ≡ feature_next (feature_rooms texts.now (numbers row) qualifiers.now) 0 from }
 {
     let flat = row_numbers(row);
@@ -46,7 +46,7 @@ pub fn row_next(row: Feature, texts: &[u8], qualifiers: &[usize], from: usize) -
 }
 
 pub fn row_passes(rule: Rule, row: Feature, texts: &[u8], qualifiers: &[usize]) -> bool
-    requires { (60 ≤ width_of rule) × FeatureKnown texts.now (numbers row) qualifiers.now 0 }
+    requires { FeatureKnown texts.now (numbers row) qualifiers.now 0 }
     ensures { result ≡ feature_of rule (feature_in (feature_rooms texts.now (numbers row) qualifiers.now) 0) }
 {
     let flat = row_numbers(row);
@@ -61,7 +61,7 @@ pub fn row_kept(
     texts: &[u8],
     qualifiers: &[usize],
 ) -> bool
-    requires { (60 ≤ width) × FeatureKnown texts.now (numbers row) qualifiers.now 0 }
+    requires { FeatureKnown texts.now (numbers row) qualifiers.now 0 }
     ensures { result ≡ (not keeping || feature_of (Rule.Kept width) (feature_in (feature_rooms texts.now (numbers row) qualifiers.now) 0)) }
 {
     if keeping {

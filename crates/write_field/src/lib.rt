@@ -7,14 +7,14 @@ ghost use Rattle.base_pen.specs.Pen.{Writes};
 ghost use Rattle.spec_format.specs.Record.{most};
 
 use base_arith::left_of;
-use base_pen::{put_bytes, put_spaces};
+use base_pen::{put_all, put_spaces};
 use write_wrap_text::put_wrapped;
 
 // A word, with spaces up to n columns.
 pub fn put_padded(out: &mut [u8], at: usize, word: &[u8], n: usize) -> usize
     ensures { Writes out.old at (padded n word.now) out.new result }
 {
-    let next = put_bytes(out, at, word);
+    let next = put_all(out, at, word);
     put_spaces(out, next, left_of(n, word.len()))
 }
 

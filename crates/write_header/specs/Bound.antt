@@ -1,14 +1,12 @@
 -- How long the header's lines can become, of texts in a store of at most 16,777,216 bytes.
-use Rattle.std.specs.Prelude.{ℕ, zero, suc, ◌+◌, ◌*◌, ◌≤◌, List, [], ◌++◌, length, get_or}
+use Rattle.std.specs.Prelude.{ℕ, zero, suc, ◌+◌, ◌*◌, ◌≤◌, List, [], ◌++◌, length, get_or, Option, Some, None}
 use Rattle.std.proofs.Common.{mul-suc, arith, length-append, length-take, length-drop}
 use Rattle.spec_format.specs.Bytes.{bytes, each}
 use Rattle.spec_format.specs.Rooms.{Rooms, cut, may_text, may_source, text_in, perhaps_text, perhaps_in, rows_from, reference_in, comment_in, table_of}
 use Rattle.spec_format.specs.Write.{field_lines, maybe_lines, source_lines, reference_lines, header_lines}
+use Rattle.spec_format.specs.declared.Span.{Span}
 use Rattle.spec_format.specs.declared.Head.{Head}
-use Rattle.spec_format.specs.declared.Text.{Text}
-use Rattle.spec_format.specs.declared.Text.TheVariants as text
 use Rattle.spec_format.specs.declared.SourceText.{SourceText}
-use Rattle.spec_format.specs.declared.SourceText.TheVariants as source
 use Rattle.write_field.specs.Field.{field_length}
 use Rattle.spec_format.specs.Record.{most}
 
@@ -38,18 +36,18 @@ module _ (W : ℕ) (store : List ℕ) (small : length store ≤ most) where
   span_most : (word : List ℕ) (start n : ℕ) → length word ≤ 12 → AtMost (field_lines W word (cut store start n)) 402653221
   span_most word start n h = record { is = omega (arith, field_length W word (cut store start n) h, cut_most store start n) }
 
-  text_most : (word : List ℕ) (t : Text) → length word ≤ 12 → AtMost (maybe_lines W word (may_text store t)) 402653221
-  text_most word text.Absent h = none_most
-  text_most word (text.At s) h = span_most word s.start s.length h
+  text_most : (word : List ℕ) (t : Option Span) → length word ≤ 12 → AtMost (maybe_lines W word (may_text store t)) 402653221
+  text_most word None h = none_most
+  text_most word (Some s) h = span_most word s.start s.length h
 
   perhaps_most : (word : List ℕ) (start n : ℕ) → length word ≤ 12 → AtMost (maybe_lines W word (perhaps_text store start n)) 402653221
   perhaps_most word start zero h = none_most
   perhaps_most word start (suc n) h = span_most word start n h
 
-  source_most : (s : SourceText) → AtMost (source_lines W (may_source store s)) 805306442
-  source_most source.Absent = none_most
-  source_most (source.At s o) =
-      both_most (span_most (bytes "SOURCE") s.start s.length (omega arith)) (text_most (bytes "  ORGANISM") o (omega arith))
+  source_most : (s : Option SourceText) → AtMost (source_lines W (may_source store s)) 805306442
+  source_most None = none_most
+  source_most (Some s) =
+      both_most (span_most (bytes "SOURCE") s.text.start s.text.length (omega arith)) (text_most (bytes "  ORGANISM") s.organism (omega arith))
 
   -- the texts of a row
   row_most : (word rows : List ℕ) (at : ℕ) → length word ≤ 12 → AtMost (field_lines W word (text_in store rows at)) 402653221
@@ -85,7 +83,7 @@ module _ (W : ℕ) (r : Rooms) (small : length r.texts ≤ most) where
   unfolding comment_in
   comment_most at = row_most W r.texts small (bytes "COMMENT") r.comments at (omega arith)
 
-  abbrev one : (word : List ℕ) (t : Text) → length word ≤ 12 → AtMost (maybe_lines W word (may_text r.texts t)) 402653221
+  abbrev one : (word : List ℕ) (t : Option Span) → length word ≤ 12 → AtMost (maybe_lines W word (may_text r.texts t)) 402653221
   one word t h = text_most W r.texts small word t h
 
   pub header_most : (h : Head) → AtMost (header_lines W (table_of r h)) (2818572547 + 2818572547 * h.references + 402653221 * h.comments)

@@ -12,7 +12,7 @@ ghost use Rattle.judge_header.specs.Rules.{Known, RowKnown, PerhapsKnown, Refere
 ghost use Rattle.write_header.specs.Header.{FirstKnown, first_texts, reference_start};
 ghost use Rattle.spec_format.specs.Record.{most};
 
-use spec_format::{Head, SourceText, Text};
+use spec_format::{Head, SourceText, Span};
 use write_field::put_field;
 
 // A text of the store, after its word.
@@ -38,25 +38,31 @@ fn put_maybe(
     at: usize,
     word: &[u8],
     texts: &[u8],
-    text: Text,
+    text: Option<Span>,
     width: usize,
 ) -> usize
     requires { (length word.now ≤ 12) × (length texts.now ≤ most) × TextIn texts.now text × (60 ≤ width) × (width ≤ 132) }
     ensures { Writes out.old at (maybe_lines width word.now (may_text texts.now text)) out.new result }
 {
     match text {
-        Text::Absent => at,
-        Text::At(s) => put_span(out, at, word, texts, s.start, s.length, width),
+        None => at,
+        Some(s) => put_span(out, at, word, texts, s.start, s.length, width),
     }
 }
 
-fn put_source(out: &mut [u8], at: usize, texts: &[u8], source: SourceText, width: usize) -> usize
+fn put_source(
+    out: &mut [u8],
+    at: usize,
+    texts: &[u8],
+    source: Option<SourceText>,
+    width: usize,
+) -> usize
     requires { (length texts.now ≤ most) × SourceIn texts.now source × (60 ≤ width) × (width ≤ 132) }
     ensures { Writes out.old at (source_lines width (may_source texts.now source)) out.new result }
 {
     match source {
-        SourceText::Absent => at,
-        SourceText::At { text, organism } => {
+        None => at,
+        Some(SourceText { text, organism }) => {
             let a = put_span(out, at, b"SOURCE", texts, text.start, text.length, width);
             put_maybe(out, a, b"  ORGANISM", texts, organism, width)
         }

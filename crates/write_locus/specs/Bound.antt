@@ -1,5 +1,5 @@
 -- How long the LOCUS line of a table in rooms can be.
-use Rattle.std.specs.Prelude.{◌≡◌, ℕ, suc, ◌+◌, ◌-◌, ◌*◌, ◌≤◌, Bool, true, false, ◌&&◌, List, [], ◌++◌, length, take, ltb}
+use Rattle.std.specs.Prelude.{◌≡◌, ℕ, suc, ◌+◌, ◌-◌, ◌*◌, ◌≤◌, Bool, true, false, ◌&&◌, List, [], ◌++◌, length, take, ltb, Option, Some, None}
 use Rattle.std.proofs.Common.{arith, lt_of_not-le, length-append, length-take, length-drop}
 use Rattle.std.proofs.Math.Decide.{dec_le}
 use Rattle.std.proofs.lemmas.List.{length-replicate}
@@ -10,8 +10,6 @@ use Rattle.spec_format.specs.Write.{words, joined, padded, name_or, length_or, n
 use Rattle.spec_format.specs.declared.Date.{Date}
 use Rattle.spec_format.specs.declared.Head.{Head}
 use Rattle.spec_format.specs.declared.Span.{Span}
-use Rattle.spec_format.specs.declared.Text.{Text}
-use Rattle.spec_format.specs.declared.Text.TheVariants as text
 use Rattle.write_decimal.specs.Decimal.{length_decimal}
 use Rattle.write_locus_words.specs.Words.{joined_length}
 use Rattle.write_locus_parts.specs.Locus.{month_is, month_none}
@@ -33,10 +31,10 @@ truncated_length on n name = go (on && ltb 28 (length name + 1 + n))
 span_length : (store : List ℕ) (s : Span) → length (span_text store s) ≤ length store
 span_length store s = simp (length-take, length-drop) (omega arith)
 
-name_length : (store : List ℕ) (name accession : Text) → length (name_or (may_text store name) (may_text store accession)) ≤ length store + 8
-name_length store text.Absent text.Absent = omega arith
-name_length store text.Absent (text.At s) = omega (arith, span_length store s)
-name_length store (text.At s) accession = omega (arith, span_length store s)
+name_length : (store : List ℕ) (name accession : Option Span) → length (name_or (may_text store name) (may_text store accession)) ≤ length store + 8
+name_length store None None = omega arith
+name_length store None (Some s) = omega (arith, span_length store s)
+name_length store (Some s) accession = omega (arith, span_length store s)
 
 columns_length : (name : List ℕ) (n : ℕ) → length (name_and_length name (decimal n)) ≤ length name + 38
 columns_length name n =
@@ -51,9 +49,9 @@ columns_length name n =
 padded_length : (n : ℕ) (w : List ℕ) → length (padded n w) ≤ length w + n
 padded_length n w = omega (arith, length-append w (spaces (n - length w)), length-replicate {A = ℕ} (n - length w) 32)
 
-molecule_length : (truncate : Bool) (store : List ℕ) (m : Text) → length (molecule_text truncate (may_text store m)) ≤ length store
-molecule_length truncate store text.Absent = omega arith
-molecule_length truncate store (text.At s) = go (truncate && ltb 7 (length (span_text store s)))
+molecule_length : (truncate : Bool) (store : List ℕ) (m : Option Span) → length (molecule_text truncate (may_text store m)) ≤ length store
+molecule_length truncate store None = omega arith
+molecule_length truncate store (Some s) = go (truncate && ltb 7 (length (span_text store s)))
   where
     go : (b : Bool) → length (pick b [] (span_text store s)) ≤ length store
     go true = omega arith

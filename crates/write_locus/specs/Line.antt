@@ -1,5 +1,5 @@
 -- The LOCUS line in three parts, for a length that is given, and that it is the format's for the length of the table.
-use Rattle.std.specs.Prelude.{◌≡◌, refl, ℕ, ◌≤◌, Bool, take}
+use Rattle.std.specs.Prelude.{◌≡◌, refl, ℕ, ◌≤◌, Bool, take, Option, Some, None}
 use Rattle.std.proofs.Math.Path.{ap}
 use Rattle.std.proofs.Common.{◌∙◌, arith}
 use mathlib.Core.List.{List, [], ◌++◌, append_assoc}
@@ -9,10 +9,9 @@ use Rattle.spec_format.specs.Dates.{date_text, printed_date}
 use Rattle.spec_format.specs.Rooms.{Rooms, span_text, may_text, may_length, table_of}
 use Rattle.spec_format.specs.Table.{Table}
 use Rattle.spec_format.specs.Write.{padded, name_or, length_or, length_text, name_and_length, printed_name, molecule_text, topology_text, locus_text}
-use Rattle.spec_format.specs.declared.Dated.{Dated}
+use Rattle.spec_format.specs.declared.Date.{Date}
+use Rattle.spec_format.specs.declared.Span.{Span}
 use Rattle.spec_format.specs.declared.Head.{Head}
-use Rattle.spec_format.specs.declared.Text.{Text}
-use Rattle.spec_format.specs.declared.Text.TheVariants as text
 use Rattle.write_locus_name.specs.Names.{chosen, printed_of}
 use Rattle.judge_rooms.specs.Facts.{TextIn}
 use Rattle.judge_rooms.specs.Parts.{reference_rooms}
@@ -21,14 +20,14 @@ abbrev pub or_untitled : May (List ℕ) → List ℕ
 or_untitled absent = bytes "UNTITLED"
 or_untitled (is t) = t
 
-chosen_is : (store : List ℕ) (name accession : Text) → or_untitled (may_text store (chosen name accession)) ≡ name_or (may_text store name) (may_text store accession)
-chosen_is store text.Absent text.Absent = refl
-chosen_is store text.Absent (text.At s) = refl
-chosen_is store (text.At s) accession = refl
+chosen_is : (store : List ℕ) (name accession : Option Span) → or_untitled (may_text store (chosen name accession)) ≡ name_or (may_text store name) (may_text store accession)
+chosen_is store None None = refl
+chosen_is store None (Some s) = refl
+chosen_is store (Some s) accession = refl
 
-pub chosen_in : (store : List ℕ) (name accession chose : Text) → chose ≡ chosen name accession → TextIn store name → TextIn store accession → TextIn store chose
-chosen_in store text.Absent accession chose e a b = rw e b
-chosen_in store (text.At s) accession chose e a b = rw e a
+pub chosen_in : (store : List ℕ) (name accession chose : Option Span) → chose ≡ chosen name accession → TextIn store name → TextIn store accession → TextIn store chose
+chosen_in store None accession chose e a b = rw e b
+chosen_in store (Some s) accession chose e a b = rw e a
 
 -- the printed name beside the length n
 unfoldable pub name_with : Bool → Bool → ℕ → Table → List ℕ
@@ -40,7 +39,7 @@ line_start truncate escape n t = bytes "LOCUS       " ++ name_and_length (name_w
 unfoldable pub line_middle : Bool → May (List ℕ) → Bool → List ℕ
 line_middle truncate molecule circular = padded 7 (molecule_text truncate molecule) ++ bytes " " ++ padded 8 (topology_text circular) ++ bytes " "
 
-unfoldable pub line_end : List ℕ → Dated → List ℕ
+unfoldable pub line_end : List ℕ → Option Date → List ℕ
 line_end division date = division ++ bytes " " ++ date_text (printed_date date) ++ bytes "\n"
 
 unfoldable pub line_with : Bool → Bool → ℕ → Table → List ℕ
@@ -48,14 +47,14 @@ line_with truncate escape n t =
     line_start truncate escape n t ++ line_middle truncate t.locus.molecule t.locus.circular ++ line_end t.locus.division t.locus.date
 
 pub name_with_lem :
-    (truncate escape : Bool) (store : List ℕ) (h : Head) (n : ℕ) (chose : Text) → n ≡ length_or (may_length h.length) h.letters →
+    (truncate escape : Bool) (store : List ℕ) (h : Head) (n : ℕ) (chose : Option Span) → n ≡ length_or (may_length h.length) h.letters →
     chose ≡ chosen h.name h.accession → printed_of truncate escape (decimal n) (or_untitled (may_text store chose)) ≡
     name_with truncate escape (length_or (may_length h.length) h.letters) (table_of (reference_rooms store []) h)
 unfolding name_with table_of
 name_with_lem truncate escape store h n chose e f = rw (e, f, chosen_is store h.name h.accession)
 
 pub start_with :
-    (truncate escape : Bool) (store : List ℕ) (h : Head) (n : ℕ) (chose : Text) → n ≡ length_or (may_length h.length) h.letters →
+    (truncate escape : Bool) (store : List ℕ) (h : Head) (n : ℕ) (chose : Option Span) → n ≡ length_or (may_length h.length) h.letters →
     chose ≡ chosen h.name h.accession →
     bytes "LOCUS       " ++ name_and_length (printed_of truncate escape (decimal n) (or_untitled (may_text store chose))) (decimal n) ++ bytes " bp    " ≡
     line_start truncate escape (length_or (may_length h.length) h.letters) (table_of (reference_rooms store []) h)

@@ -12,20 +12,17 @@ ghost use Rattle.judge_rooms.specs.Parts.{reference_rooms};
 ghost use Rattle.write_locus.specs.Line.{or_untitled, name_with, line_start, line_middle, line_end, line_with};
 ghost use Rattle.spec_format.specs.Record.{most};
 
-use base_pen::{put_byte, put_bytes, put_part, put_spaces};
-use spec_format::{Dated, Head, Length, Span, Text, printed_date};
+use base_pen::{put, put_all, put_spaces};
+use spec_format::{Date, Head, Span, printed_date};
 use write_locus_name::{chosen_name, printed_name_fine, put_printed_name};
 use write_locus_parts::{put_date, put_molecule, put_topology};
 
 // The length that is printed: LOCUS's, else the letter count.
-fn printed_length(bases: Length, letters: usize) -> u32
+fn printed_length(bases: Option<u32>, letters: usize) -> u32
     requires { letters ≤ most }
     ensures { result ≡ length_or (may_length bases) letters }
 {
-    match bases {
-        Length::Absent => letters as u32,
-        Length::Bases(n) => n,
-    }
+    bases.unwrap_or(letters as u32)
 }
 
 // The printed name of a text that is there, and the length.
@@ -51,7 +48,7 @@ fn put_name(
     out: &mut [u8],
     at: usize,
     texts: &[u8],
-    name: Text,
+    name: Option<Span>,
     n: u32,
     truncate: bool,
     escape: bool,
@@ -60,8 +57,8 @@ fn put_name(
     ensures { Writes out.old at (name_and_length (printed_of truncate escape (decimal n) (or_untitled (may_text texts.now name))) (decimal n)) out.new result }
 {
     match name {
-        Text::Absent => put_printed_name(out, at, b"UNTITLED", n, truncate, escape),
-        Text::At(s) => put_span_name(out, at, texts, s, n, truncate, escape),
+        None => put_printed_name(out, at, b"UNTITLED", n, truncate, escape),
+        Some(s) => put_span_name(out, at, texts, s, n, truncate, escape),
     }
 }
 
@@ -76,13 +73,13 @@ fn span_fine(texts: &[u8], name: Span, n: u32, truncate: bool, escape: bool) -> 
 }
 
 // Number 11's test of the printed name of a text.
-fn text_fine(texts: &[u8], name: Text, n: u32, truncate: bool, escape: bool) -> bool
+fn text_fine(texts: &[u8], name: Option<Span>, n: u32, truncate: bool, escape: bool) -> bool
     requires { (length texts.now ≤ most) × TextIn texts.now name }
     ensures { result ≡ name_test (printed_of truncate escape (decimal n) (or_untitled (may_text texts.now name))) }
 {
     match name {
-        Text::Absent => printed_name_fine(b"UNTITLED", n, truncate, escape),
-        Text::At(s) => span_fine(texts, s, n, truncate, escape),
+        None => printed_name_fine(b"UNTITLED", n, truncate, escape),
+        Some(s) => span_fine(texts, s, n, truncate, escape),
     }
 }
 
@@ -119,15 +116,15 @@ fn put_molecule_text(
     out: &mut [u8],
     at: usize,
     texts: &[u8],
-    molecule: Text,
+    molecule: Option<Span>,
     truncate: bool,
 ) -> usize
     requires { TextIn texts.now molecule }
     ensures { Writes out.old at (padded 7 (molecule_text truncate (may_text texts.now molecule))) out.new result }
 {
     match molecule {
-        Text::Absent => put_spaces(out, at, 7),
-        Text::At(s) => put_span_molecule(out, at, texts, s, truncate),
+        None => put_spaces(out, at, 7),
+        Some(s) => put_span_molecule(out, at, texts, s, truncate),
     }
 }
 
@@ -147,7 +144,7 @@ fn put_start(
     let accession = head.accession;
     let bases = head.length;
     let n = printed_length(bases, head.letters);
-    let a = put_bytes(out, at, b"LOCUS       ");
+    let a = put_all(out, at, b"LOCUS       ");
     let b = put_name(
         out,
         a,
@@ -157,7 +154,7 @@ fn put_start(
         truncate,
         escape,
     );
-    put_bytes(out, b, b" bp    ")
+    put_all(out, b, b" bp    ")
 }
 
 // The molecule type and the topology.
@@ -165,7 +162,7 @@ fn put_middle(
     out: &mut [u8],
     at: usize,
     texts: &[u8],
-    molecule: Text,
+    molecule: Option<Span>,
     circular: bool,
     truncate: bool,
 ) -> usize
@@ -173,21 +170,27 @@ fn put_middle(
     ensures { Writes out.old at (line_middle truncate (may_text texts.now molecule) circular) out.new result }
 {
     let a = put_molecule_text(out, at, texts, molecule, truncate);
-    let b = put_byte(out, a, b' ');
+    let b = put(out, a, b' ');
     let c = put_topology(out, b, circular);
-    put_byte(out, c, b' ')
+    put(out, c, b' ')
 }
 
 // The division and the date.
-fn put_line_end(out: &mut [u8], at: usize, texts: &[u8], division: Span, date: Dated) -> usize
+fn put_line_end(
+    out: &mut [u8],
+    at: usize,
+    texts: &[u8],
+    division: Span,
+    date: Option<Date>,
+) -> usize
     requires { SpanIn texts.now division }
     ensures { Writes out.old at (line_end (span_text texts.now division) date) out.new result }
 {
     let start = division.start;
-    let a = put_part(out, at, texts, start, start + division.length);
-    let b = put_byte(out, a, b' ');
+    let a = put_all(out, at, &texts[start..start + division.length]);
+    let b = put(out, a, b' ');
     let c = put_date(out, b, printed_date(date));
-    put_byte(out, c, b'\n')
+    put(out, c, b'\n')
 }
 
 // The whole line.

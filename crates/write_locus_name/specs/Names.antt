@@ -1,15 +1,14 @@
 -- The name that a LOCUS line prints, and number 11's test of it.
-use Rattle.std.specs.Prelude.{ℕ, ◌+◌, ◌-◌, ◌≤◌, ◌<◌, ◌≡◌, Bool, true, false, ◌&&◌, List, length, take}
+use Rattle.std.specs.Prelude.{ℕ, ◌+◌, ◌-◌, ◌≤◌, ◌<◌, ◌≡◌, Bool, true, false, ◌&&◌, List, length, take, Option}
+use Rattle.std.specs.Option.{option_or}
 use Rattle.std.proofs.Common.{arith, take_all, lt-ltb, le-ltb}
 use Rattle.spec_format.specs.Bytes.{some, all, printing}
+use Rattle.spec_format.specs.declared.Span.{Span}
 use Rattle.spec_format.specs.Write.{truncated, escaped_name}
-use Rattle.spec_format.specs.declared.Text.{Text}
-use Rattle.spec_format.specs.declared.Text.TheVariants as text
 
 -- the name to print: LOCUS's, else ACCESSION
-abbrev pub chosen : Text → Text → Text
-chosen text.Absent accession = accession
-chosen (text.At s) accession = text.At s
+abbrev pub chosen : Option Span → Option Span → Option Span
+chosen name accession = option_or name accession
 
 -- what number 11 asks of a printed name
 abbrev pub name_test : List ℕ → Bool

@@ -9,20 +9,17 @@ ghost use Rattle.write_locus_name.specs.Names.{Kept, chosen, name_test, printed_
 ghost use Rattle.spec_format.specs.Record.{most};
 
 use base_arith::{both, left_of};
-use base_pen::{put_bytes, put_spaces};
+use base_pen::{put_all, put_spaces};
 use judge_text::printing_all;
-use spec_format::Text;
+use spec_format::Span;
 use write_decimal::{put_decimal, width};
 use write_locus_words::{put_joined, two_words, words_print};
 
 // LOCUS's name, else ACCESSION.
-pub fn chosen_name(name: Text, accession: Text) -> Text
+pub fn chosen_name(name: Option<Span>, accession: Option<Span>) -> Option<Span>
     ensures { result ≡ chosen name accession }
 {
-    match name {
-        Text::Absent => accession,
-        Text::At(s) => Text::At(s),
-    }
+    name.or(accession)
 }
 
 // A name as it is, or its words joined by `_` where that is asked for and there are two or more.
@@ -33,7 +30,7 @@ fn put_escaped_name(out: &mut [u8], at: usize, name: &[u8], escape: bool) -> usi
     if both(escape, two_words(name)) {
         return put_joined(out, at, name);
     }
-    put_bytes(out, at, name)
+    put_all(out, at, name)
 }
 
 // The escaped name is not empty, and its bytes are 32 to 126.

@@ -8,7 +8,7 @@ ghost use Rattle.base_pen.specs.Pen.{Writes};
 ghost use Rattle.write_locus_parts.specs.Locus.{day_text, year_text};
 
 use base_arith::left_of;
-use base_pen::{put_byte, put_bytes, put_part, put_spaces};
+use base_pen::{put, put_all, put_spaces};
 use spec_format::Date;
 use write_field::put_padded;
 
@@ -31,17 +31,17 @@ pub fn put_topology(out: &mut [u8], at: usize, circular: bool) -> usize
     ensures { Writes out.old at (padded 8 (topology_text circular)) out.new result }
 {
     if circular {
-        return put_bytes(out, at, b"circular");
+        return put_all(out, at, b"circular");
     }
-    put_bytes(out, at, b"linear  ")
+    put_all(out, at, b"linear  ")
 }
 
 fn put_day(out: &mut [u8], at: usize, day: u8) -> usize
     ensures { Writes out.old at (day_text day) out.new result }
 {
-    let a = put_byte(out, at, b'0' + day / 10);
-    let b = put_byte(out, a, b'0' + day % 10);
-    put_byte(out, b, b'-')
+    let a = put(out, at, b'0' + day / 10);
+    let b = put(out, a, b'0' + day % 10);
+    put(out, b, b'-')
 }
 
 // Three letters; none for a month that there is not.
@@ -53,17 +53,17 @@ fn put_month(out: &mut [u8], at: usize, month: u8) -> usize
     }
     let names = MONTHS;
     let from = left_of(month as usize, 1) * 3;
-    put_part(out, at, &names, from, from + 3)
+    put_all(out, at, &names[from..from + 3])
 }
 
 fn put_year(out: &mut [u8], at: usize, year: u16) -> usize
     ensures { Writes out.old at (year_text year) out.new result }
 {
-    let a = put_byte(out, at, b'-');
-    let b = put_byte(out, a, b'0' + (year / 10 / 10 / 10) as u8);
-    let c = put_byte(out, b, b'0' + (year / 10 / 10 % 10) as u8);
-    let d = put_byte(out, c, b'0' + (year / 10 % 10) as u8);
-    put_byte(out, d, b'0' + (year % 10) as u8)
+    let a = put(out, at, b'-');
+    let b = put(out, a, b'0' + (year / 10 / 10 / 10) as u8);
+    let c = put(out, b, b'0' + (year / 10 / 10 % 10) as u8);
+    let d = put(out, c, b'0' + (year / 10 % 10) as u8);
+    put(out, d, b'0' + (year % 10) as u8)
 }
 
 pub fn put_date(out: &mut [u8], at: usize, date: Date) -> usize

@@ -9,7 +9,7 @@ ghost use Rattle.write_locus_words.specs.Words.{white_one, white_two, white_thre
 ghost use Rattle.spec_format.specs.Record.{most};
 
 use base_arith::{both, left_of};
-use base_pen::put_byte;
+use base_pen::put;
 use scan_bytes::{is_between, is_blank};
 
 fn either(a: bool, b: bool) -> bool
@@ -158,10 +158,10 @@ fn put_next(out: &mut [u8], at: usize, place: Place, b: u8) -> usize
         return at;
     }
     if is_after(place) {
-        let next = put_byte(out, at, b'_');
-        return put_byte(out, next, b);
+        let next = put(out, at, b'_');
+        return put(out, next, b);
     }
-    put_byte(out, at, b)
+    put(out, at, b)
 }
 
 // The words, joined by `_`.

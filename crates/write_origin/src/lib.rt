@@ -12,7 +12,7 @@ ghost use Rattle.write_origin.specs.Measure.{letters_length};
 ghost use Rattle.write_origin.specs.Whole.{spaced, thirty, sixty, Lines};
 ghost use Rattle.spec_format.specs.Record.{most};
 
-use base_pen::{put_byte, put_bytes, put_part, store_ten};
+use base_pen::{put, put_all, store};
 use write_decimal::put_nine;
 
 // What stands before letter i, counted from 0.
@@ -21,12 +21,12 @@ fn put_mark(out: &mut [u8], at: usize, i: usize) -> usize
     ensures { Writes out.old at (line_start i ++ ten_start i) out.new result }
 {
     if i % 60 == 0 {
-        let a = put_byte(out, at, b'\n');
+        let a = put(out, at, b'\n');
         let b = put_nine(out, a, (i + 1) as u32);
-        return put_byte(out, b, b' ');
+        return put(out, b, b' ');
     }
     if i % 10 == 0 {
-        return put_byte(out, at, b' ');
+        return put(out, at, b' ');
     }
     at
 }
@@ -49,10 +49,10 @@ fn put_tens(out: &mut [u8], at: usize, letters: &[u8], from: usize) -> usize
     while i < letters.len() {
         let a = put_mark(out, p, i);
         let end = ten_end(i, letters.len());
-        p = put_part(out, a, letters, i, end);
+        p = put_all(out, a, &letters[i..end]);
         i = end;
     }
-    put_byte(out, p, b'\n')
+    put(out, p, b'\n')
 }
 
 // ---- whole lines
@@ -109,21 +109,14 @@ fn ten_from(letters: &[u8], i: usize) -> [u8; 10]
     ]
 }
 
-fn store(out: &mut [u8], at: usize, b: u8)
-    requires { at < length out.old }
-    ensures { Wrote out.old at (b ∷ []) out.new (at + 1) }
-{
-    out[at] = b;
-}
-
 // A space and ten letters, which fit.
 fn store_spaced(out: &mut [u8], at: usize, letters: &[u8], i: usize)
     requires { (at + 11 ≤ length out.old) × (i + 10 ≤ length letters.now) }
     ensures { Wrote out.old at (spaced letters.now i) out.new (at + 11) }
 {
-    store(out, at, b' ');
+    store(out, at, b" ");
     let ten = ten_from(letters, i);
-    store_ten(out, at + 1, &ten);
+    store(out, at + 1, &ten);
 }
 
 fn store_thirty(out: &mut [u8], at: usize, letters: &[u8], i: usize)
@@ -141,7 +134,7 @@ fn store_line(out: &mut [u8], at: usize, letters: &[u8], i: usize)
     ensures { Wrote out.old at (sixty letters.now i) out.new (at + 76) }
 {
     let number = number_of((i + 1) as u32);
-    store_ten(out, at, &number);
+    store(out, at, &number);
     store_thirty(out, at + 10, letters, i);
     store_thirty(out, at + 43, letters, i + 30);
 }
@@ -178,12 +171,8 @@ fn put_letters(out: &mut [u8], at: usize, letters: &[u8]) -> usize
     requires { length letters.now ≤ most }
     ensures { Writes out.old at (letter_lines 0 letters.now) out.new result }
 {
-    let n = letters_length(letters.len());
     if out.len() <= at {
-        if at <= usize::MAX - n {
-            return at + n;
-        }
-        return put_tens(out, at, letters, 0);
+        return at.saturating_add(letters_length(letters.len()));
     }
     let k = put_lines(out, at, letters);
     put_tens(out, at + 76 * k, letters, 60 * k)
@@ -197,6 +186,6 @@ pub fn put_origin(out: &mut [u8], at: usize, letters: &[u8]) -> usize
     if letters.len() < 1 {
         return at;
     }
-    let a = put_bytes(out, at, b"ORIGIN      ");
+    let a = put_all(out, at, b"ORIGIN      ");
     put_letters(out, a, letters)
 }

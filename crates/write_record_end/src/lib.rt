@@ -10,7 +10,7 @@ ghost use Rattle.judge_rooms.specs.Parts.{reference_rooms};
 ghost use Rattle.judge_rooms.specs.Facts.{ContigIn};
 ghost use Rattle.spec_format.specs.Record.{most};
 
-use base_pen::put_bytes;
+use base_pen::put_all;
 use spec_format::ContigText;
 use write_feature::put_contig;
 use write_origin::put_origin;
@@ -20,15 +20,15 @@ pub fn put_contig_text(
     out: &mut [u8],
     at: usize,
     texts: &[u8],
-    contig: ContigText,
+    contig: Option<ContigText>,
     width: usize,
 ) -> usize
     requires { (length texts.now ≤ most) × ContigIn texts.now contig × (60 ≤ width) × (width ≤ 132) }
     ensures { Writes out.old at (contig_lines width (may_contig (reference_rooms texts.now []) contig)) out.new result }
 {
     match contig {
-        ContigText::Absent => at,
-        ContigText::At { text, .. } => {
+        None => at,
+        Some(ContigText { text, .. }) => {
             let start = text.start;
             let end = start + text.length;
             put_contig(out, at, &texts[start..end], width)
@@ -43,5 +43,5 @@ pub fn put_end(out: &mut [u8], at: usize, letters: &[u8], n: usize) -> usize
 {
     let start = 0;
     let next = put_origin(out, at, &letters[start..n]);
-    put_bytes(out, next, b"//\n")
+    put_all(out, next, b"//\n")
 }

@@ -1,11 +1,10 @@
 -- How long a written record can be, of a table for which number 10 is not due: a number of 64 bits.
-use Rattle.std.specs.Prelude.{ℕ, ◌+◌, ◌*◌, ◌/◌, ◌^◌, ◌≤◌, ◌<◌, ◌≡◌, Bool, true, List, length, take}
+use Rattle.std.specs.Prelude.{ℕ, ◌+◌, ◌*◌, ◌/◌, ◌^◌, ◌≤◌, ◌<◌, ◌≡◌, Bool, true, List, length, take, Option, Some, None}
 use Rattle.std.proofs.Common.{arith, length-take}
 use Rattle.spec_format.specs.Rooms.{Rooms, cut, may_contig, features_fine, rooms_fine, table_of}
 use Rattle.spec_format.specs.Write.{locus_text, contig_lines, origin_lines, written}
 use Rattle.spec_format.specs.declared.Head.{Head}
 use Rattle.spec_format.specs.declared.ContigText.{ContigText}
-use Rattle.spec_format.specs.declared.ContigText.TheVariants as contig
 use Rattle.write_feature.specs.Lines.{contig_length}
 use Rattle.write_origin.specs.Origin.{origin_length}
 use Rattle.judge_rooms.specs.Steps.{and_left, and_right}
@@ -19,10 +18,10 @@ use Rattle.spec_format.specs.Record.{most}
 ruleset parts = (and_left, and_right)
 
 -- 23 * 16,777,216 + 13
-contig_most : (W : ℕ) (r : Rooms) (c : ContigText) → length r.texts ≤ most → AtMost (contig_lines W (may_contig r c)) 385875981
-contig_most W r contig.Absent h = none_most
-contig_most W r (contig.At s row rows) h =
-    record { is = omega (arith, contig_length W (cut r.texts s.start s.length), cut_most r.texts s.start s.length) }
+contig_most : (W : ℕ) (r : Rooms) (c : Option ContigText) → length r.texts ≤ most → AtMost (contig_lines W (may_contig r c)) 385875981
+contig_most W r None h = none_most
+contig_most W r (Some c) h =
+    record { is = omega (arith, contig_length W (cut r.texts c.text.start c.text.length), cut_most r.texts c.text.start c.text.length) }
 
 -- 22 * 16,777,216 + 13
 origin_most : (letters : List ℕ) (n : ℕ) → length letters ≤ most → AtMost (origin_lines (take n letters)) 369098765

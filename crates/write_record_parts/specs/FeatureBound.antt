@@ -1,7 +1,7 @@
 -- How long the feature table's lines can become: no two features share a qualifier, so the room of qualifiers bounds them all.
 use Prim.Native.Nat.{ℕ, zero, suc, ◌+◌, ◌-◌, ◌*◌, ◌/◌, ◌≤◌}
 use Rattle.std.proofs.Common.{arith, leb-true, eqb-true}
-use Rattle.std.specs.Prelude.{◌≡◌, Bool, false, ◌&&◌, List, ◌++◌, eqb, get_or}
+use Rattle.std.specs.Prelude.{◌≡◌, Bool, false, ◌&&◌, List, ◌++◌, eqb, get_or, Option, Some, None}
 use Rattle.std.proofs.Math.Path.{refl}
 use Rattle.std.proofs.Math.Bool.{true}
 use Rattle.std.proofs.lemmas.Bool.{false≢true}
@@ -14,15 +14,13 @@ use Rattle.write_feature.specs.Lines.{feature_start, value_length, feature_lengt
 use Rattle.write_header.specs.Bound.{AtMost, none_most, both_most, each_most, cut_most}
 use Rattle.judge_rooms.specs.Parts.{feature_next}
 use Rattle.judge_rooms.specs.Steps.{and_left, and_right, span_within, feature_located, features_step, after_next}
-use Rattle.judge_rooms.specs.declared.Next.{Next}
-use Rattle.judge_rooms.specs.declared.Next.TheVariants as next
 use Rattle.spec_format.specs.Impossible.{impossible}
 use Rattle.spec_format.specs.Record.{most}
 
 ruleset parts = (and_left, and_right)
 
 -- a feature's qualifiers lie between those of the earlier ones and those of the next
-next_after : (r : Rooms) (at from f : ℕ) → feature_next r at from ≡ next.From f → from ≤ length r.qualifiers / 4
+next_after : (r : Rooms) (at from f : ℕ) → feature_next r at from ≡ Some f → from ≤ length r.qualifiers / 4
     → (from + get_or r.features (at + 5) 0 ≤ f) × (f ≤ length r.qualifiers / 4)
 unfolding feature_next qualifiers_fine
 next_after r at from f h l = go _ refl _ refl _ refl
@@ -31,15 +29,15 @@ next_after r at from f h l = go _ refl _ refl _ refl
         → eqb (get_or r.features (at + 5) 0) 0 ≡ y → (z : Bool)
         → qualifiers_fine r from (get_or r.features (at + 4) 0) (get_or r.features (at + 5) 0) ≡ z
         → (from + get_or r.features (at + 5) 0 ≤ f) × (f ≤ length r.qualifiers / 4)
-    go false p y q z s = let e : next.Wrong ≡ next.From f = rw p at h in impossible cc
+    go false p y q z s = let e : None ≡ Some f = rw p at h in impossible cc
     go true p true q z s =
-        let e : next.From from ≡ next.From f = rw (p, q) at h in
+        let e : Some from ≡ Some f = rw (p, q) at h in
         let k : from ≡ f = cc in
         let n : get_or r.features (at + 5) 0 ≡ 0 = eqb-true _ _ q in
         (omega arith, omega arith)
-    go true p false q false s = let e : next.Wrong ≡ next.From f = rw (p, q, s) at h in impossible cc
+    go true p false q false s = let e : None ≡ Some f = rw (p, q, s) at h in impossible cc
     go true p false q true s =
-        let e : next.From (get_or r.features (at + 4) 0 + get_or r.features (at + 5) 0) ≡ next.From f = rw (p, q, s) at h in
+        let e : Some (get_or r.features (at + 4) 0 + get_or r.features (at + 5) 0) ≡ Some f = rw (p, q, s) at h in
         let k : get_or r.features (at + 4) 0 + get_or r.features (at + 5) 0 ≡ f = cc in
         let a : from ≤ get_or r.features (at + 4) 0 = leb-true _ _ (search parts depth 12) in
         let b : get_or r.features (at + 4) 0 + get_or r.features (at + 5) 0 ≤ length r.qualifiers / 4 = span_within _ _ _ (search parts depth 12) in
@@ -80,12 +78,12 @@ module _ (W : ℕ) (r : Rooms) (small : length r.texts ≤ most) where
   each_feature_most i from zero h l = none_most
   each_feature_most i from (suc n) h l = go (feature_next r (8 * i) from) refl (rw features_step at h) (λ f. each_feature_most (i + 1) f n)
     where
-      go : (o : Next) → feature_next r (8 * i) from ≡ o → after_next r i n (feature_next r (8 * i) from) ≡ true
+      go : (o : Option ℕ) → feature_next r (8 * i) from ≡ o → after_next r i n (feature_next r (8 * i) from) ≡ true
           → ((f : ℕ) → features_fine r (i + 1) f n ≡ true → f ≤ length r.qualifiers / 4
           → AtMost (each (feature_lines W) (rows_from (feature_in r) 8 (i + 1) n)) (402653206 * n + 419430448 * (length r.qualifiers / 4 - f)))
           → AtMost (each (feature_lines W) (rows_from (feature_in r) 8 i (suc n))) (402653206 * suc n + 419430448 * (length r.qualifiers / 4 - from))
-      go next.Wrong e g ih = absurd (false≢true (rw e at g))
-      go (next.From f) e g ih =
+      go None e g ih = absurd (false≢true (rw e at g))
+      go (Some f) e g ih =
           let k = next_after r (8 * i) from f e l in
           let t = feature_most (8 * i) in
           let u = ih f (and_right (feature_located r (8 * i)) _ (rw e at g)) k.1 in

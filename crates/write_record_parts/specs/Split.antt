@@ -1,5 +1,5 @@
 -- A table of rows that are structs comes apart into the rows, CONTIG and the rest: numbers 10, 11 and 13, and the record written.
-use Rattle.std.specs.Prelude.{ℕ, zero, suc, ◌+◌, ◌*◌, ◌/◌, ◌≡◌, Bool, ◌&&◌, length, take}
+use Rattle.std.specs.Prelude.{ℕ, zero, suc, ◌+◌, ◌*◌, ◌/◌, ◌≡◌, Bool, ◌&&◌, length, take, Option, Some, None}
 use Rattle.std.proofs.Math.Path.{refl, ap}
 use Rattle.std.proofs.Common.{◌∙◌}
 use Rattle.std.proofs.Math.Bool.{true, false}
@@ -16,7 +16,6 @@ use Rattle.spec_format.specs.WellFormed.{if_is, header_texts, locus_fine, featur
 use Rattle.spec_format.specs.Keeping.{switches_kept, locus_kept, header_kept, pubmed_kept, feature_kept, keeps}
 use Rattle.spec_format.specs.Write.{length_or, length_text, printed_name, locus_text, header_lines, feature_lines, features_lines, contig_lines, written}
 use Rattle.spec_format.specs.declared.ContigText.{ContigText}
-use Rattle.spec_format.specs.declared.ContigText.TheVariants as contig
 use Rattle.spec_format.specs.declared.Head.{Head}
 use Rattle.judge_header.specs.declared.Rule.TheVariants as rule
 use Rattle.write_locus.specs.Line.{line_with, line_is}
@@ -52,9 +51,9 @@ unfolding rows_from
 each_alike p f g w i zero e = refl
 each_alike p f g w i (suc n) e = rw (e (w * i), each_alike p f g w (i + 1) n e)
 
-contig_alike : (W : ℕ) (r : Rooms) (c : ContigText) → contig_lines W (may_contig r c) ≡ contig_lines W (may_contig (reference_rooms r.texts []) c)
-contig_alike W r contig.Absent = refl
-contig_alike W r (contig.At s row rows) = refl
+contig_alike : (W : ℕ) (r : Rooms) (c : Option ContigText) → contig_lines W (may_contig r c) ≡ contig_lines W (may_contig (reference_rooms r.texts []) c)
+contig_alike W r None = refl
+contig_alike W r (Some c) = refl
 
 module _ (t rf cm q lo l : List ℕ) (rows : List Feature) (h : Head) where
   -- number 10

@@ -8,9 +8,9 @@ ghost use Rattle.judge_record.specs.Rest.{rest_table, RestKnown};
 ghost use Rattle.write_record_parts.specs.Parts.{title, before_parts, after_parts, BeforeKnown, AfterKnown};
 ghost use Rattle.write_record_parts.specs.RestVerdict.{rest_verdict};
 
-use base_pen::put_bytes;
-use judge_record::{Verdict, keeps, well_formed};
-use spec_format::{ContigText, Head, How, Unwritten};
+use base_pen::put_all;
+use judge_record::{keeps, well_formed};
+use spec_format::{Head, How, Unwritten};
 use write_header::put_header;
 use write_locus::{name_fine, put_locus};
 use write_record_end::{put_contig_text, put_end};
@@ -30,7 +30,7 @@ pub fn rest_head(head: Head) -> Head
     let dblink = head.dblink;
     let keywords = head.keywords;
     let source = head.source;
-    let contig = ContigText::Absent;
+    let contig = None;
     Head {
         name,
         length,
@@ -59,7 +59,7 @@ fn put_title(out: &mut [u8], at: usize, features: usize) -> usize
     if features == 0 {
         return at;
     }
-    put_bytes(out, at, b"FEATURES             Location/Qualifiers\n")
+    put_all(out, at, b"FEATURES             Location/Qualifiers\n")
 }
 
 // All lines before those of the features.
@@ -107,12 +107,12 @@ pub fn rest_verdict(
     letters: &[u8],
     head: Head,
     how: How,
-) -> Verdict
+) -> Result<(), Unwritten>
     requires { RestKnown texts.now references.now comments.now letters.now head }
     ensures { result ≡ rest_verdict how fine kept (rest_table texts.now references.now comments.now letters.now head) }
 {
     if !fine {
-        return Verdict::Not(Unwritten::NoLayout);
+        return Err(Unwritten::NoLayout);
     }
     if !well_formed(
         how.width,
@@ -123,13 +123,13 @@ pub fn rest_verdict(
         letters,
         head,
     ) {
-        return Verdict::Not(Unwritten::NoLayout);
+        return Err(Unwritten::NoLayout);
     }
     if !how.keeping {
-        return Verdict::Fine;
+        return Ok(());
     }
     if !kept {
-        return Verdict::Not(Unwritten::NotKept);
+        return Err(Unwritten::NotKept);
     }
     if !keeps(
         how.width,
@@ -141,7 +141,7 @@ pub fn rest_verdict(
         letters,
         head,
     ) {
-        return Verdict::Not(Unwritten::NotKept);
+        return Err(Unwritten::NotKept);
     }
-    Verdict::Fine
+    Ok(())
 }

@@ -1,5 +1,5 @@
 -- A call of the writer, its table, and the answer that is due.
-use Rattle.std.specs.Prelude.{ℕ, ◌-◌, ◌≤◌, ◌≡◌, Bool, ◌&&◌, not, List, [], ◌++◌, leb, length}
+use Rattle.std.specs.Prelude.{ℕ, ◌-◌, ◌≤◌, ◌≡◌, Bool, ◌&&◌, not, List, [], ◌++◌, leb, length, Result, Ok, Err}
 use Rattle.std.proofs.Math.Path.{refl}
 use Rattle.std.proofs.Common.{sym, ◌∙◌}
 use Rattle.std.proofs.Math.Bool.{true, false}
@@ -10,6 +10,7 @@ use Rattle.spec_format.specs.Rooms.{Rooms, may_contig, rows_from, table_of, cont
 use Rattle.spec_format.specs.WellFormed.{if_is, width_fine, contig_fine}
 use Rattle.spec_format.specs.Write.{feature_lines, written}
 use Rattle.spec_format.specs.declared.Head.{Head}
+use Rattle.spec_format.specs.declared.Unwritten.{Unwritten}
 use Rattle.spec_format.specs.declared.Unwritten.TheVariants as unwritten
 use Rattle.spec_format.specs.declared.WriteAnswer.{WriteAnswer}
 use Rattle.spec_format.specs.declared.WriteAnswer.TheVariants as answer
@@ -21,8 +22,6 @@ use Rattle.write_record_parts.specs.Split.{rows_rooms, feature_at, rooms_split}
 use Rattle.spec_format.specs.declared.How.{How}
 use Rattle.spec_format.specs.Table.{Table}
 use Rattle.judge_record.specs.Rest.{rest_table, Passed}
-use Rattle.judge_record.specs.declared.Verdict.{Verdict}
-use Rattle.judge_record.specs.declared.Verdict.TheVariants as verdict
 use Rattle.write_record_parts.specs.RestVerdict.{verdict_by, table_fine, table_kept}
 use Rattle.spec_format.specs.Impossible.{impossible}
 use Rattle.spec_contracts.specs.Writes.{answer_by, LengthFits, WriteAnswered}
@@ -71,9 +70,9 @@ text_from a rows i =
 -- ---- the answer that is due, lent a slice of n bytes
 
 -- what is answered by a verdict: its refusal, or what the rest of the work answers
-abbrev pub answered : Verdict → WriteAnswer → WriteAnswer
-answered verdict.Fine x = x
-answered (verdict.Not why) x = answer.Refused why
+abbrev pub answered : Result Unit Unwritten → WriteAnswer → WriteAnswer
+answered (Ok done) x = x
+answered (Err why) x = answer.Refused why
 
 abbrev rule_of : Bool → ℕ → Bool → Bool → Rooms → Head → Bool
 rule_of true W truncate escape r h = keeping_rules W truncate escape r h
@@ -193,6 +192,6 @@ module _ (a : Asking) (rows : List Feature) (k : Asked a rows) where
       go true true q = rw q (by_kept g)
         where
           by_kept : (g : Bool) → pick g (room n (length (text_of a rows))) (answer.Refused unwritten.NotKept) ≡
-              answered (pick g verdict.Fine (verdict.Not unwritten.NotKept)) (room n (length (text_of a rows)))
+              answered (pick g (Ok tt) (Err unwritten.NotKept)) (room n (length (text_of a rows)))
           by_kept true = refl
           by_kept false = refl

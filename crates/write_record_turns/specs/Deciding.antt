@@ -1,5 +1,5 @@
 -- The rows being judged, the answer is decided: 11, 13 or 6, or that the record is to be put.
-use Rattle.std.specs.Prelude.{ℕ, ◌-◌, ◌^◌, ◌≤◌, ◌<◌, ◌≡◌, Bool, ◌&&◌}
+use Rattle.std.specs.Prelude.{ℕ, ◌-◌, ◌^◌, ◌≤◌, ◌<◌, ◌≡◌, Bool, ◌&&◌, Result, Ok, Err}
 use Rattle.std.proofs.Math.Path.{refl, sym, ap}
 use Rattle.std.proofs.Common.{subst, ◌∙◌}
 use Rattle.std.proofs.Math.Bool.{true, false}
@@ -20,8 +20,6 @@ use Rattle.write_record_parts.specs.Parts.{before_parts, after_parts}
 use Rattle.write_record_parts.specs.Split.{feature_at, fine_split, keeps_split, written_split}
 use Rattle.judge_rooms.specs.Parts.{rest_head}
 use Rattle.judge_rooms.specs.Steps.{features_end}
-use Rattle.judge_record.specs.declared.Verdict.{Verdict}
-use Rattle.judge_record.specs.declared.Verdict.TheVariants as verdict
 use Rattle.write_record_parts.specs.Bound.{written_small}
 use Rattle.write_record_parts.specs.RestVerdict.{rest_verdict, verdict_by, table_fine, table_kept}
 use Rattle.write_record_turns.specs.Answered.{Asking, rows_of, rest_table_of, text_of, answered, text_from, formed_alike, due, answers, asked_rooms, due_verdict}
@@ -30,7 +28,7 @@ use Rattle.write_record_turns.specs.Measured.{too_long}
 use Rattle.write_record_turns.specs.States.{ended_state, staged_state, row_kept, pass, Judged, Decides}
 use Rattle.write_record_turns.specs.RowLaws.{text_last, pass_last, and_true}
 
-module _ (a : Asking) (s : State) (out : List ℕ) (v : Verdict)
+module _ (a : Asking) (s : State) (out : List ℕ) (v : Result Unit Unwritten)
     (e : v ≡ rest_verdict a.how s.fine s.kept (rest_table_of a)) where
   module _ (rows : List Feature) (old : List ℕ) (last : a.head.features ≤ s.row) (k : Judged a rows old s out) where
     all_fine : features_fine (rows_of a rows) 0 0 a.head.features ≡ true
@@ -61,7 +59,7 @@ module _ (a : Asking) (s : State) (out : List ℕ) (v : Verdict)
         (ap (λ (y : Bool). y && all (feature_fine a.how.width) (rows_from (feature_at a.texts a.qualifiers rows) 8 0 a.head.features)) (formed_alike a rows) ∙
         (rw z at k.fine) ∙ (rw (pass_last a rows s.row (feature_fine a.how.width) last) (and_true s.fine))))
         refl ∙
-        ap (λ (y : Verdict). answered y (room (length old) (length (text_of a rows)))) (by_writer a.how.keeping refl ∙ sym e)
+        ap (λ (y : Result Unit Unwritten). answered y (room (length old) (length (text_of a rows)))) (by_writer a.how.keeping refl ∙ sym e)
       where
         by_writer : (keeping : Bool) → keeping ≡ a.how.keeping →
             verdict_by keeping (formed && s.fine) (table_kept a.how (table_of (rows_of a rows) a.head)) ≡ verdict_by keeping (formed && s.fine) (rest && s.kept)
@@ -74,7 +72,7 @@ module _ (a : Asking) (s : State) (out : List ℕ) (v : Verdict)
     whole : {x : List ℕ} {m : ℕ} → Writes [] s.at (after_parts a.texts a.letters a.head a.how.width) x m → Writes [] 0 (text_of a rows) x m
     whole {x} {m} w = (left_as (text_last a rows s.row last) k.left).by x m w
 
-  pub decide_refused : (why : Unwritten) → v ≡ verdict.Not why → Decides a s out (ended_state (answer.Refused why)) out
+  pub decide_refused : (why : Unwritten) → v ≡ Err why → Decides a s out (ended_state (answer.Refused why)) out
   decide_refused why f =
       record {
         by = λ rows old last g p k.
@@ -84,7 +82,7 @@ module _ (a : Asking) (s : State) (out : List ℕ) (v : Verdict)
             };
       }
 
-  module _ {x : List ℕ} {m : ℕ} (f : v ≡ verdict.Fine) (w : Writes [] s.at (after_parts a.texts a.letters a.head a.how.width) x m) where
+  module _ {x : List ℕ} {m : ℕ} (f : v ≡ Ok tt) (w : Writes [] s.at (after_parts a.texts a.letters a.head a.how.width) x m) where
     pub decide_room : length out < m → Decides a s out (ended_state (answer.Room m)) out
     decide_room l =
         record {

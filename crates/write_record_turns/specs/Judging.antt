@@ -1,12 +1,13 @@
 -- The work starts, and rows are judged and measured.
-use Rattle.std.specs.Prelude.{ℕ, ◌+◌, ◌-◌, ◌*◌, ◌≤◌, ◌≡◌, refl, Bool, ◌&&◌, not, List, [], leb, length}
+use Rattle.std.specs.Prelude.{Option, Some, None, slice_get, ℕ, ◌+◌, ◌-◌, ◌*◌, ◌≤◌, ◌≡◌, refl, Bool, ◌&&◌, not, List, [], leb, length}
 use Rattle.std.proofs.Math.Path.{sym, ap}
 use Rattle.std.proofs.Common.{◌∙◌, arith}
 use Rattle.std.proofs.Math.Bool.{true, false}
 use Rattle.std.proofs.Math.Nat.{sub-zero}
-use borrow.Author.Tests.{not-true, not-false, leb-true}
+use borrow.Author.Tests.{not-false, leb-true}
 use Rattle.judge_feature.specs.Rules.{feature_of, fine_is, FeatureKnown}
 use Rattle.write_feature_row.specs.Flat.{next_of_row, feature_of_row}
+use Rattle.spec_format.specs.Location.{locates}
 use Rattle.spec_format.specs.Rooms.{span_text, feature_in, features_fine, rooms_fine, rooms_in}
 use Rattle.spec_format.specs.WellFormed.{width_fine, feature_fine}
 use Rattle.spec_format.specs.Table.{Feature as Described}
@@ -17,21 +18,17 @@ use Rattle.spec_format.specs.declared.WriteAnswer.TheVariants as answer
 use Rattle.judge_header.specs.declared.Rule.TheVariants as rule
 use Rattle.base_pen.specs.Pen.{Writes, left_start, left_step, left_as}
 use Rattle.base_rows.specs.Flat.{fetched_outside}
-use Rattle.base_rows.specs.Rows.{row_at, numbers}
+use Rattle.base_rows.specs.Rows.{numbers}
 use Rattle.base_rows.specs.declared.Feature.{Feature}
-use Rattle.base_rows.specs.declared.Fetched.TheVariants as fetched
 use Rattle.write_record_parts.specs.Parts.{before_parts}
 use Rattle.write_record_parts.specs.Split.{feature_at, written_split}
 use Rattle.spec_format.specs.declared.How.{How}
-use Rattle.judge_location.specs.Told.{location_told, contig_told, contig_fine_alike, contig_read_lem, location_read}
-use Rattle.judge_location.specs.declared.Located.{Located}
+use Rattle.judge_location.specs.Told.{told_by, location_told, contig_told, contig_fine_alike, contig_formed_alike, told_none, told_some}
 use Rattle.judge_rooms.specs.Facts.{RoomsIn, feature_in_lem}
 use Rattle.judge_rooms.proofs.Facts.{rooms_in_lem}
 use Rattle.judge_rooms.specs.Parts.{feature_rooms, feature_next, rest_head}
 use Rattle.judge_rooms.specs.Steps.{and_left, and_right, feature_located, next_alike}
 use Rattle.judge_rooms.proofs.Steps.{features_go, features_no, features_unlocated}
-use Rattle.judge_rooms.specs.declared.Next.{Next}
-use Rattle.judge_rooms.specs.declared.Next.TheVariants as next
 use Rattle.judge_record.specs.Rest.{passed_two}
 use Rattle.write_record_turns.specs.Answered.{Asking, asking, rows_of, rest_of, text_from, answers, contig_lies, contig_formed, due_width, due_rest, due_many, due_contig, due_row, width_is}
 use Rattle.write_record_turns.specs.declared.State.{State}
@@ -58,37 +55,37 @@ module _ (a : Asking) (b : Bool) (e : b ≡ width_fine a.how.width) where
       pub start_rows : not d ≡ true → Starts n a (ended_state (answer.Refused unwritten.BadRooms))
       start_rows v = record { by = λ rows old m. answers a rows old old _ (due_many a rows (length old) b c d e t f u (rw m at g) v) refl }
 
-      pub start_begins : (told : Located) (r : State) → not d ≡ false → told ≡ contig_told a.texts a.locations a.head.contig
+      pub start_begins : (told : Option Bool) (r : State) → not d ≡ false → told ≡ contig_told a.texts a.locations a.head.contig
           → Begins told a.texts a.references a.comments a.head a.how r → Starts n a r
       start_begins told r v i y =
           let x : (leb n most && leb a.head.features n) ≡ true = sym g ∙ not-false d v in
           y.by a.qualifiers a.locations a.letters n i (passed_two a.how.width (rest_of a) (rest_head a.head) b c e t f u)
           (leb-true _ _ (and_left _ _ x)) (leb-true _ _ (and_right (leb n most) _ x))
 
-module _ (told : Located) (t rf cm : List ℕ) (h : Head) (how : How) where
-  lies_is : (a : Asking) → told ≡ contig_told a.texts a.locations a.head.contig → told.fine ≡ contig_lies a
-  lies_is a i = ap (λ (x : Located). x.fine) i ∙ contig_fine_alike (rest_of a) a.head.contig
+module _ (told : Option Bool) (t rf cm : List ℕ) (h : Head) (how : How) where
+  told_is : (a : Asking) → told ≡ contig_told a.texts a.locations a.head.contig → told_by (contig_lies a) (contig_formed a) ≡ told
+  told_is a i = rw (← (contig_fine_alike (rest_of a) a.head.contig), ← (contig_formed_alike (rest_of a) a.head.contig)) (sym i)
 
-  pub begin_unlike : not told.fine ≡ true → Begins told t rf cm h how (ended_state (answer.Refused unwritten.BadRooms))
+  pub begin_unlike : told ≡ None → Begins told t rf cm h how (ended_state (answer.Refused unwritten.BadRooms))
   begin_unlike m =
       record {
         by = λ q lo l n i p few enough.
             let a : Asking = asking t rf cm q lo l h how in
             record {
               by = λ rows old k.
-                  answers a rows old old _ (due_contig a rows (length old) (width_is how.width p.narrowest p.widest) (sym (lies_is a i) ∙ not-true told.fine m)) refl;
+                  answers a rows old old _ (due_contig a rows (length old) (width_is how.width p.narrowest p.widest) (told_none _ _ (told_is a i ∙ m))) refl;
             };
       }
 
-  pub begin_goes : {x : List ℕ} {k : ℕ} → not told.fine ≡ false → Writes [] 0 (before_parts t rf cm (rest_head h) h.features how) x k
-      → Begins told t rf cm h how (staged_state false 0 k 0 told.read true)
+  pub begin_goes : {x : List ℕ} {k : ℕ} (read : Bool) → told ≡ Some read → Writes [] 0 (before_parts t rf cm (rest_head h) h.features how) x k
+      → Begins told t rf cm h how (staged_state false 0 k 0 read true)
   unfolding text_from
-  begin_goes {x} {k} m w =
+  begin_goes {x} {k} read m w =
       record {
         by = λ q lo l n i p few enough.
             let a : Asking = asking t rf cm q lo l h how in
-            let lies : contig_lies a ≡ true = sym (lies_is a i) ∙ not-false told.fine m in
-            let formed : contig_formed a ≡ told.read = sym (ap (λ (y : Located). y.read) i ∙ contig_read_lem (rest_of a) h.contig lies) in
+            let said = told_some (contig_lies a) (contig_formed a) read (told_is a i ∙ m) in
+            let lies : contig_lies a ≡ true = said.0 in
             let z : h.features - 0 ≡ h.features = sub-zero h.features in
             record {
               by = λ rows old y.
@@ -97,7 +94,7 @@ module _ (told : Located) (t rf cm : List ℕ) (h : Head) (how : How) where
                     same = refl;
                     order = omega arith;
                     rooms = rw z;
-                    fine = ap (λ (x : Bool). x && pass a rows (feature_fine how.width) 0) formed;
+                    fine = ap (λ (x : Bool). x && pass a rows (feature_fine how.width) 0) said.1;
                     kept = refl;
                     left = rw z (left_step (left_as (written_split t rf cm q lo l rows h how p.rooms) left_start) (nowhere w));
                   };
@@ -107,12 +104,12 @@ module _ (told : Located) (t rf cm : List ℕ) (h : Head) (how : How) where
 -- ---- a row is judged
 
 -- a row after which another may stand lies in its rooms
-pub row_fit : (t q : List ℕ) (f : Feature) (from m : ℕ) (o : Next) → length t ≤ most → o ≡ feature_next (feature_rooms t (numbers f) q) 0 from → o ≡ next.From m
+pub row_fit : (t q : List ℕ) (f : Feature) (from m : ℕ) (o : Option ℕ) → length t ≤ most → o ≡ feature_next (feature_rooms t (numbers f) q) 0 from → o ≡ Some m
     → FeatureKnown t (numbers f) q 0
 row_fit t q f from m o small e g = record { small = small; row = omega arith; inside = feature_in_lem (feature_rooms t (numbers f) q) 0 from m (sym e ∙ g) }
 
 module _ (t q : List ℕ) (how : How) (s : State) where
-  pub judge_outside : (lo : List ℕ) → Judges t q lo how s fetched.Outside (ended_state (answer.Refused unwritten.BadRooms))
+  pub judge_outside : (lo : List ℕ) → Judges t q lo how s None (ended_state (answer.Refused unwritten.BadRooms))
   judge_outside lo =
       record {
         by = λ rf cm l h rows old out e less g p k.
@@ -122,16 +119,16 @@ module _ (t q : List ℕ) (how : How) (s : State) where
 
   module _ (f : Feature) where
     -- the row among the flat numbers
-    module _ (a : Asking) (rows : List Feature) (e : fetched.Row f ≡ row_at rows s.row) where
-      next_is : (o : Next) → o ≡ feature_next (feature_rooms a.texts (numbers f) a.qualifiers) 0 s.from → o ≡ feature_next (rows_of a rows) (8 * s.row) s.from
+    module _ (a : Asking) (rows : List Feature) (e : Some f ≡ slice_get rows s.row) where
+      next_is : (o : Option ℕ) → o ≡ feature_next (feature_rooms a.texts (numbers f) a.qualifiers) 0 s.from → o ≡ feature_next (rows_of a rows) (8 * s.row) s.from
       next_is o i = i ∙ (next_of_row a.texts a.qualifiers rows s.row f (sym e) s.from ∙ next_alike (rows_of a rows) (8 * s.row) s.from)
 
-      located_is : (told : Located) → told ≡ location_told false a.locations (span_text a.texts f.location) f.row f.rows
-          → told.fine ≡ feature_located (rows_of a rows) (8 * s.row)
-      located_is told n = ap (λ (x : Located). x.fine) n ∙ located_of_row a rows s.row f (sym e)
+      located_is : (told : Option Bool) → told ≡ location_told false a.locations (span_text a.texts f.location) f.row f.rows
+          → told_by (feature_located (rows_of a rows) (8 * s.row)) (locates false (span_text a.texts f.location)) ≡ told
+      located_is told n = rw (← (located_of_row a rows s.row f (sym e))) (sym n)
 
-    pub judge_wrong : (lo : List ℕ) (o : Next) → o ≡ feature_next (feature_rooms t (numbers f) q) 0 s.from → o ≡ next.Wrong
-        → Judges t q lo how s (fetched.Row f) (ended_state (answer.Refused unwritten.BadRooms))
+    pub judge_wrong : (lo : List ℕ) (o : Option ℕ) → o ≡ feature_next (feature_rooms t (numbers f) q) 0 s.from → o ≡ None
+        → Judges t q lo how s (Some f) (ended_state (answer.Refused unwritten.BadRooms))
     judge_wrong lo o i j =
         record {
           by = λ rf cm l h rows old out e less g p k.
@@ -144,8 +141,8 @@ module _ (t q : List ℕ) (how : How) (s : State) where
               };
         }
 
-    module _ (m : ℕ) (told : Located) where
-      pub judge_unlike : not told.fine ≡ true → JudgesTold t q how s f m told (ended_state (answer.Refused unwritten.BadRooms))
+    module _ (m : ℕ) (told : Option Bool) where
+      pub judge_unlike : told ≡ None → JudgesTold t q how s f m told (ended_state (answer.Refused unwritten.BadRooms))
       judge_unlike u =
           record {
             by = λ lo o i j n.
@@ -154,7 +151,7 @@ module _ (t q : List ℕ) (how : How) (s : State) where
                       let a : Asking = asking t rf cm q lo l h how in
                       let z : false ≡ features_fine (rows_of a rows) 0 0 h.features =
                       features_unlocated (rows_of a rows) s.row h.features s.from _ o k.rooms less (next_is a rows e o i) m j
-                      (sym (located_is a rows e told n) ∙ not-true told.fine u) in
+                      (told_none _ _ (located_is a rows e told n ∙ u)) in
                       record {
                         held = answers a rows old out _ (due_row a rows k.asked (length old) (sym z)) k.same;
                         nearer = rw (g, p) (omega arith);
@@ -166,29 +163,25 @@ module _ (t q : List ℕ) (how : How) (s : State) where
       abbrev seen : Described
       seen = feature_in (feature_rooms t (numbers f) q) 0
 
-      formed_by : (lo : List ℕ) (c : Bool) → told ≡ location_told false lo (span_text t f.location) f.row f.rows → not told.fine ≡ false
-          → c ≡ feature_of (rule.Fine how.width) seen → (told.read && c) ≡ feature_fine how.width seen
+      formed_by : (lo : List ℕ) (c read : Bool) → told ≡ location_told false lo (span_text t f.location) f.row f.rows → told ≡ Some read
+          → c ≡ feature_of (rule.Fine how.width) seen → (read && c) ≡ feature_fine how.width seen
       unfolding feature_in
-      formed_by lo c n u e =
-          rw e
-          (ap (λ (x : Bool). x && feature_of (rule.Fine how.width) seen)
-          (ap (λ (x : Located). x.read) n ∙
-          location_read false lo (span_text t f.location) f.row f.rows (sym (ap (λ (x : Located). x.fine) n) ∙ not-false told.fine u)) ∙
-          fine_is how.width seen)
+      formed_by lo c read n u e =
+          rw e (ap (λ (x : Bool). x && feature_of (rule.Fine how.width) seen) (sym (told_some _ (locates false (span_text t f.location)) read (sym n ∙ u)).1) ∙ fine_is how.width seen)
 
-      pub judge_goes : {x : List ℕ} {w : ℕ} (fine kept b c d : Bool) → not told.fine ≡ false
-          → fine ≡ (s.fine && b) → b ≡ (told.read && c) → c ≡ feature_of (rule.Fine how.width) seen
+      pub judge_goes : {x : List ℕ} {w : ℕ} (read fine kept b c d : Bool) → told ≡ Some read
+          → fine ≡ (s.fine && b) → b ≡ (read && c) → c ≡ feature_of (rule.Fine how.width) seen
           → kept ≡ (s.kept && d) → d ≡ row_kept how seen
           → Writes [] s.at (feature_lines how.width seen) x w
           → JudgesTold t q how s f m told (staged_state false (s.row + 1) w m fine kept)
-      judge_goes {x} {w} fine kept b c d u ef eb ec ek ed wr =
+      judge_goes {x} {w} read fine kept b c d u ef eb ec ek ed wr =
           record {
             by = λ lo o i j n.
                 record {
                   by = λ rf cm l h rows old out e less g p k.
                       let a : Asking = asking t rf cm q lo l h how in
                       let v : seen ≡ feature_at t q rows (8 * s.row) = feature_of_row t q rows s.row f (sym e) in
-                      let formed : b ≡ feature_fine how.width seen = eb ∙ formed_by lo c n u ec in
+                      let formed : b ≡ feature_fine how.width seen = eb ∙ formed_by lo c read n u ec in
                       record {
                         held =
                             record {
@@ -197,7 +190,7 @@ module _ (t q : List ℕ) (how : How) (s : State) where
                               order = omega arith;
                               rooms =
                                   features_go (rows_of a rows) s.row h.features s.from _ o k.rooms less (next_is a rows e o i) m j
-                                  (sym (located_is a rows e told n) ∙ not-false told.fine u);
+                                  (told_some _ (locates false (span_text t f.location)) read (located_is a rows e told n ∙ u)).0;
                               fine = k.fine ∙ (ap (λ (y : Bool). s.fine && y) (pass_more a rows s.row (feature_fine how.width) less) ∙
                                   (and_assoc s.fine (feature_fine how.width (feature_at t q rows (8 * s.row)))
                                   (pass a rows (feature_fine how.width) (s.row + 1)) ∙ rw (ef, formed, v)));

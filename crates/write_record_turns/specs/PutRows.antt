@@ -1,5 +1,5 @@
 -- Rows are put, and then the record is ended.
-use Rattle.std.specs.Prelude.{ℕ, ◌+◌, ◌*◌, ◌^◌, ◌≤◌, ◌<◌, ◌≡◌, true, List, length}
+use Rattle.std.specs.Prelude.{Option, Some, None, slice_get, ℕ, ◌+◌, ◌*◌, ◌^◌, ◌≤◌, ◌<◌, ◌≡◌, true, List, length}
 use Rattle.std.proofs.Common.{sym, ap, ◌∙◌, arith}
 use Rattle.write_feature_row.specs.Flat.{feature_of_row}
 use Rattle.spec_format.specs.Rooms.{feature_in}
@@ -11,7 +11,6 @@ use Rattle.base_pen.specs.Pen.{Writes, left_step, left_as}
 use Rattle.base_rows.specs.Flat.{fetched_outside}
 use Rattle.base_rows.specs.Rows.{numbers}
 use Rattle.base_rows.specs.declared.Feature.{Feature}
-use Rattle.base_rows.specs.declared.Fetched.TheVariants as fetched
 use Rattle.write_record_parts.specs.Parts.{after_parts}
 use Rattle.write_record_parts.specs.Split.{feature_at}
 use Rattle.spec_format.specs.declared.How.{How}
@@ -26,7 +25,7 @@ use Rattle.write_record_turns.specs.RowLaws.{text_more, text_last}
 -- ---- a row is put
 
 module _ (t q : List ℕ) (how : How) (s : State) (out : List ℕ) where
-  pub put_outside : Puts t q how s fetched.Outside out (ended_state (answer.Refused unwritten.BadRooms)) out
+  pub put_outside : Puts t q how s None out (ended_state (answer.Refused unwritten.BadRooms)) out
   put_outside =
       record {
         by = λ rf cm lo l h rows old e less g p k.
@@ -35,7 +34,7 @@ module _ (t q : List ℕ) (how : How) (s : State) (out : List ℕ) where
       }
 
   pub put_goes : (f : Feature) {new : List ℕ} {w : ℕ} → Writes out s.at (feature_lines how.width (feature_in (feature_rooms t (numbers f) q) 0)) new w
-      → Puts t q how s (fetched.Row f) out (staged_state true (s.row + 1) w 0 true true) new
+      → Puts t q how s (Some f) out (staged_state true (s.row + 1) w 0 true true) new
   put_goes f {new} {w} wr =
       record {
         by = λ rf cm lo l h rows old e less g p k.

@@ -1,6 +1,6 @@
 -- One row more and the last row: of the lines that are left to write, and of the tests of the rows.
 use Prim.Native.Nat.{ℕ, suc, ◌+◌, ◌-◌, ◌*◌, ◌≤◌, ◌<◌}
-use Rattle.std.specs.Prelude.{◌≡◌, refl, Bool, true, false, ◌&&◌, List, [], ◌++◌}
+use Rattle.std.specs.Prelude.{Option, Some, None, slice_get, ◌≡◌, refl, Bool, true, false, ◌&&◌, List, [], ◌++◌}
 use Rattle.std.proofs.Common.{sym, ◌∙◌, append_assoc}
 use native.Mathlib.Omega.{arith}
 use Rattle.spec_format.specs.Rooms.{span_text, rows_from, location_fine}
@@ -8,9 +8,7 @@ use Rattle.spec_format.specs.Table.{Feature as Described}
 use Rattle.spec_format.specs.Write.{feature_lines}
 use Rattle.base_pen.specs.Pen.{Writes, sets_past}
 use Rattle.base_rows.specs.Flat.{fetched_stands}
-use Rattle.base_rows.specs.Rows.{row_at}
 use Rattle.base_rows.specs.declared.Feature.{Feature}
-use Rattle.base_rows.specs.declared.Fetched.TheVariants as fetched
 use Rattle.judge_location.specs.Told.{location_rooms, location_fine_alike}
 use Rattle.judge_rooms.specs.Steps.{feature_located}
 use Rattle.write_record_parts.specs.Parts.{after_parts}
@@ -47,7 +45,7 @@ module _ (a : Asking) (rows : List Feature) (i : ℕ) where
   pass_last p h = let k : a.head.features - i ≡ 0 = omega arith in rw k
 
 -- number 10 of a row's location rows is that of the row among the flat numbers
-pub located_of_row : (a : Asking) (rows : List Feature) (i : ℕ) (f : Feature) → row_at rows i ≡ fetched.Row f
+pub located_of_row : (a : Asking) (rows : List Feature) (i : ℕ) (f : Feature) → slice_get rows i ≡ Some f
     → location_fine false (location_rooms [] a.locations) (span_text a.texts f.location) f.row f.rows ≡ feature_located (rows_of a rows) (8 * i)
 located_of_row a rows i f e =
     let s = fetched_stands rows i f e in

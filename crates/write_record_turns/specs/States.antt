@@ -1,5 +1,5 @@
 -- What a state of the writer says, and what each turn does with it: the contracts of the turns.
-use Rattle.std.specs.Prelude.{ℕ, ◌+◌, ◌-◌, ◌/◌, ◌≤◌, ◌<◌, ◌≡◌, Bool, true, false, ◌&&◌, ◌||◌, not, List, [], length}
+use Rattle.std.specs.Prelude.{Option, Some, None, slice_get, ℕ, ◌+◌, ◌-◌, ◌/◌, ◌≤◌, ◌<◌, ◌≡◌, Bool, true, false, ◌&&◌, ◌||◌, not, List, [], length}
 use Rattle.judge_feature.specs.Rules.{feature_of, FeatureKnown}
 use Rattle.spec_format.specs.Bytes.{all}
 use Rattle.spec_format.specs.Rooms.{span_text, rows_from, features_fine, rooms_in}
@@ -10,18 +10,13 @@ use Rattle.spec_format.specs.declared.WriteAnswer.{WriteAnswer}
 use Rattle.spec_format.specs.declared.WriteAnswer.TheVariants as answer
 use Rattle.judge_header.specs.declared.Rule.TheVariants as rule
 use Rattle.base_pen.specs.Pen.{Left}
-use Rattle.base_rows.specs.Rows.{row_at, numbers}
+use Rattle.base_rows.specs.Rows.{numbers}
 use Rattle.base_rows.specs.declared.Feature.{Feature}
-use Rattle.base_rows.specs.declared.Fetched.{Fetched}
-use Rattle.base_rows.specs.declared.Fetched.TheVariants as fetched
 use Rattle.write_record_parts.specs.Split.{feature_at}
 use Rattle.spec_format.specs.declared.How.{How}
 use Rattle.judge_location.specs.Told.{location_told, contig_told}
-use Rattle.judge_location.specs.declared.Located.{Located}
 use Rattle.judge_rooms.specs.Facts.{ContigIn}
 use Rattle.judge_rooms.specs.Parts.{feature_rooms, feature_next, rest_head}
-use Rattle.judge_rooms.specs.declared.Next.{Next}
-use Rattle.judge_rooms.specs.declared.Next.TheVariants as next
 use Rattle.judge_record.specs.Rest.{Passed}
 use Rattle.write_record_turns.specs.Answered.{Asking, asking, rows_of, rest_of, contig_formed, text_of, text_from, due, Ended, Asked}
 use Rattle.write_record_turns.specs.declared.State.{State}
@@ -96,24 +91,24 @@ pub record Starts (n : ℕ) (a : Asking) (r : State) : Type 0 where
   pub by : (rows : List Feature) (old : List ℕ) → n ≡ length rows → Held a rows old r old
 
 -- a start that got past 12 and past 10 of all but CONTIG and the rows, where `told` is what CONTIG's location told
-pub record Begins (told : Located) (t rf cm : List ℕ) (h : Head) (how : How) (r : State) : Type 0 where
+pub record Begins (told : Option Bool) (t rf cm : List ℕ) (h : Head) (how : How) (r : State) : Type 0 where
   pub by : (q lo l : List ℕ) (n : ℕ) → told ≡ contig_told t lo h.contig → Passed how.width (rooms_in t rf cm [] q lo l) (rest_head h) → n ≤ most →
       h.features ≤ n → Starts n (asking t rf cm q lo l h how) r
 
-pub record Judges (t q lo : List ℕ) (how : How) (s : State) (f : Fetched) (r : State) : Type 0 where
-  pub by : (rf cm l : List ℕ) (h : Head) (rows : List Feature) (old out : List ℕ) → f ≡ row_at rows s.row → s.row < h.features →
+pub record Judges (t q lo : List ℕ) (how : How) (s : State) (f : Option Feature) (r : State) : Type 0 where
+  pub by : (rf cm l : List ℕ) (h : Head) (rows : List Feature) (old out : List ℕ) → f ≡ slice_get rows s.row → s.row < h.features →
       s.going ≡ true → s.putting ≡ false → Judged (asking t rf cm q lo l h how) rows old s out → Went (asking t rf cm q lo l h how) rows old s r out
 
 -- a row that lies in its rooms, where `told` is what its location told and its qualifiers end at m
-pub record JudgesTold (t q : List ℕ) (how : How) (s : State) (f : Feature) (m : ℕ) (told : Located) (r : State) : Type 0 where
-  pub by : (lo : List ℕ) (o : Next) → o ≡ feature_next (feature_rooms t (numbers f) q) 0 s.from → o ≡ next.From m →
-      told ≡ location_told false lo (span_text t f.location) f.row f.rows → Judges t q lo how s (fetched.Row f) r
+pub record JudgesTold (t q : List ℕ) (how : How) (s : State) (f : Feature) (m : ℕ) (told : Option Bool) (r : State) : Type 0 where
+  pub by : (lo : List ℕ) (o : Option ℕ) → o ≡ feature_next (feature_rooms t (numbers f) q) 0 s.from → o ≡ Some m →
+      told ≡ location_told false lo (span_text t f.location) f.row f.rows → Judges t q lo how s (Some f) r
 
 pub record Decides (a : Asking) (s : State) (out : List ℕ) (r : State) (new : List ℕ) : Type 0 where
   pub by : (rows : List Feature) (old : List ℕ) → a.head.features ≤ s.row → s.going ≡ true → s.putting ≡ false → Judged a rows old s out → Went a rows old s r new
 
-pub record Puts (t q : List ℕ) (how : How) (s : State) (f : Fetched) (out : List ℕ) (r : State) (new : List ℕ) : Type 0 where
-  pub by : (rf cm lo l : List ℕ) (h : Head) (rows : List Feature) (old : List ℕ) → f ≡ row_at rows s.row → s.row < h.features →
+pub record Puts (t q : List ℕ) (how : How) (s : State) (f : Option Feature) (out : List ℕ) (r : State) (new : List ℕ) : Type 0 where
+  pub by : (rf cm lo l : List ℕ) (h : Head) (rows : List Feature) (old : List ℕ) → f ≡ slice_get rows s.row → s.row < h.features →
       s.going ≡ true → s.putting ≡ true → Putting (asking t rf cm q lo l h how) rows old s out → Went (asking t rf cm q lo l h how) rows old s r new
 
 pub record Ends (t l : List ℕ) (h : Head) (how : How) (s : State) (out : List ℕ) (r : State) (new : List ℕ) : Type 0 where
@@ -121,11 +116,11 @@ pub record Ends (t l : List ℕ) (h : Head) (how : How) (s : State) (out : List 
       Putting (asking t rf cm q lo l h how) rows old s out → Went (asking t rf cm q lo l h how) rows old s r new
 
 -- what a turn asks: that the rest of the table passed, that CONTIG lies in the store, and of a row that is put that it lies in its rooms
-pub record Steady (a : Asking) (s : State) (f : Fetched) : Type 0 where
+pub record Steady (a : Asking) (s : State) (f : Option Feature) : Type 0 where
   pub passed : Passed a.how.width (rest_of a) (rest_head a.head)
   pub contig : ContigIn a.texts a.head.contig
   pub few : s.row ≤ most
-  pub row : s.putting ≡ true → s.row < a.head.features → (x : Feature) → f ≡ fetched.Row x → FeatureKnown a.texts (numbers x) a.qualifiers 0
+  pub row : s.putting ≡ true → s.row < a.head.features → (x : Feature) → f ≡ Some x → FeatureKnown a.texts (numbers x) a.qualifiers 0
 
-pub record Steps (a : Asking) (s : State) (f : Fetched) (out : List ℕ) (r : State) (new : List ℕ) : Type 0 where
-  pub by : (rows : List Feature) (old : List ℕ) → f ≡ row_at rows s.row → s.going ≡ true → Held a rows old s out → Went a rows old s r new
+pub record Steps (a : Asking) (s : State) (f : Option Feature) (out : List ℕ) (r : State) (new : List ℕ) : Type 0 where
+  pub by : (rows : List Feature) (old : List ℕ) → f ≡ slice_get rows s.row → s.going ≡ true → Held a rows old s out → Went a rows old s r new

@@ -1,11 +1,9 @@
 -- A turn does what its part does, and keeps what a state says.
-use Rattle.std.specs.Prelude.{ℕ, ◌≤◌, ◌<◌, ◌≡◌, refl, Bool, true, false, List}
+use Rattle.std.specs.Prelude.{Option, Some, None, slice_get, ℕ, ◌≤◌, ◌<◌, ◌≡◌, refl, Bool, true, false, List}
 use Rattle.std.proofs.Common.{sym, subst, ◌∙◌, arith}
 use Rattle.write_feature_row.specs.Flat.{row_known}
 use Rattle.spec_format.specs.Rooms.{features_fine}
-use Rattle.base_rows.specs.Rows.{row_at}
 use Rattle.base_rows.specs.declared.Feature.{Feature}
-use Rattle.base_rows.specs.declared.Fetched.{Fetched}
 use Rattle.judge_rooms.specs.Facts.{contig_in_lem, features_each}
 use Rattle.judge_rooms.proofs.Facts.{rooms_in_lem}
 use Rattle.judge_rooms.specs.Parts.{rest_head}
@@ -25,7 +23,7 @@ module _ (a : Asking) (rows : List Feature) (old : List ℕ) (s : State) (out : 
   putting_of : s.putting ≡ true → Putting a rows old s out
   putting_of p = subst (λ (b : Bool). HeldBy true b a rows old s out) p on_by
 
-module _ (a : Asking) (s : State) (f : Fetched) (out : List ℕ) (r : State) (new : List ℕ) where
+module _ (a : Asking) (s : State) (f : Option Feature) (out : List ℕ) (r : State) (new : List ℕ) where
   pub step_judges : s.row < a.head.features → s.putting ≡ false → new ≡ out → Judges a.texts a.qualifiers a.locations a.how s f r → Steps a s f out r new
   step_judges less p same j =
       record { by = λ rows old e g k. rw same (j.by a.references a.comments a.letters a.head rows old out e less g p (judged_of a rows old s out g k p)) }
@@ -40,8 +38,8 @@ module _ (a : Asking) (s : State) (f : Fetched) (out : List ℕ) (r : State) (ne
   step_ends last p j = record { by = λ rows old e g k. j.by a.references a.comments a.qualifiers a.locations rows old last g p (putting_of a rows old s out g k p) }
 
 -- what a state says is what the turn asks
-asked_steady : (a : Asking) (rows : List Feature) (s : State) (f : Fetched) → Asked a rows → s.row ≤ a.head.features
-    → (s.putting ≡ true → features_fine (rows_of a rows) 0 0 a.head.features ≡ true) → f ≡ row_at rows s.row → Steady a s f
+asked_steady : (a : Asking) (rows : List Feature) (s : State) (f : Option Feature) → Asked a rows → s.row ≤ a.head.features
+    → (s.putting ≡ true → features_fine (rows_of a rows) 0 0 a.head.features ≡ true) → f ≡ slice_get rows s.row → Steady a s f
 asked_steady a rows s f k o i e =
     record {
       passed = k.passed;
@@ -54,7 +52,7 @@ asked_steady a rows s f k o i e =
           (record { kind = m.kind; location = m.location; qualifiers = m.qualifiers });
     }
 
-pub steady : (a : Asking) (rows : List Feature) (old : List ℕ) (s : State) (out : List ℕ) (f : Fetched) → s.going ≡ true → Held a rows old s out → f ≡ row_at rows s.row → Steady a s f
+pub steady : (a : Asking) (rows : List Feature) (old : List ℕ) (s : State) (out : List ℕ) (f : Option Feature) → s.going ≡ true → Held a rows old s out → f ≡ slice_get rows s.row → Steady a s f
 steady a rows old s out f g k e = go s.putting refl
   where
     go : (p : Bool) → s.putting ≡ p → Steady a s f

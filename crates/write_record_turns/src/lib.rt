@@ -16,11 +16,11 @@ ghost use Rattle.spec_format.specs.Rooms.{rooms_in};
 ghost use Rattle.spec_format.specs.Record.{most};
 
 use base_arith::both;
-use base_rows::{Feature, Fetched};
+use base_rows::Feature;
 use judge_header::Rule;
-use judge_location::{Located, contig_told, location_told};
-use judge_record::{Verdict, width_fine};
-use judge_rooms::{Next, rest_fine};
+use judge_location::{contig_told, location_told};
+use judge_record::width_fine;
+use judge_rooms::rest_fine;
 use spec_format::{Head, How, MOST, Unwritten, WriteAnswer};
 use write_feature_row::{put_row_lines, row_kept, row_next, row_passes};
 use write_record_parts::{put_after, put_before, rest_head, rest_verdict};
@@ -83,7 +83,7 @@ fn staged(putting: bool, row: usize, at: usize, from: usize, fine: bool, kept: b
 
 // Number 10 of CONTIG; else the work begins, with what stands before the features.
 fn begin(
-    told: Located,
+    told: Option<bool>,
     texts: &[u8],
     references: &[usize],
     comments: &[usize],
@@ -93,9 +93,9 @@ fn begin(
     requires { BeforeKnown texts.now references.now comments.now (rest_head head) how.width }
     ensures { Begins told texts.now references.now comments.now head how result }
 {
-    if !told.fine {
+    let Some(read) = told else {
         return refused(Unwritten::BadRooms);
-    }
+    };
     let rest = rest_head(head);
     let at = put_before(
         &mut [],
@@ -106,7 +106,7 @@ fn begin(
         head.features,
         how,
     );
-    staged(false, 0, at, 0, told.read, true)
+    staged(false, 0, at, 0, read, true)
 }
 
 // Number 12, or number 10 of all but the rows; else the work begins.
@@ -144,7 +144,7 @@ fn judge_told(
     s: State,
     row: Feature,
     next: usize,
-    told: Located,
+    told: Option<bool>,
     texts: &[u8],
     qualifiers: &[usize],
     how: How,
@@ -152,14 +152,11 @@ fn judge_told(
     requires { FeatureKnown texts.now (numbers row) qualifiers.now 0 × (60 ≤ how.width) × (how.width ≤ 132) × (s.row ≤ most) }
     ensures { JudgesTold texts.now qualifiers.now how s row next told result }
 {
-    if !told.fine {
+    let Some(read) = told else {
         return refused(Unwritten::BadRooms);
-    }
+    };
     let width = how.width;
-    let formed = both(
-        told.read,
-        row_passes(Rule::Fine(width), row, texts, qualifiers),
-    );
+    let formed = both(read, row_passes(Rule::Fine(width), row, texts, qualifiers));
     let fine = both(s.fine, formed);
     let kept = both(s.kept, row_kept(how.keeping, width, row, texts, qualifiers));
     let at = put_row_lines(&mut [], s.at, row, texts, qualifiers, width);
@@ -176,9 +173,9 @@ fn judge_row(
     how: How,
 ) -> State
     requires { Small texts.now locations.now × (60 ≤ how.width) × (how.width ≤ 132) × (s.row ≤ most) }
-    ensures { Judges texts.now qualifiers.now locations.now how s (Fetched.Row row) result }
+    ensures { Judges texts.now qualifiers.now locations.now how s (Some row) result }
 {
-    let Next::From(next) = row_next(row, texts, qualifiers, s.from) else {
+    let Some(next) = row_next(row, texts, qualifiers, s.from) else {
         return refused(Unwritten::BadRooms);
     };
     let location = row.location;
@@ -188,7 +185,7 @@ fn judge_row(
 
 fn judge_fetched(
     s: State,
-    fetched: Fetched,
+    fetched: Option<Feature>,
     texts: &[u8],
     qualifiers: &[usize],
     locations: &[usize],
@@ -198,25 +195,25 @@ fn judge_fetched(
     ensures { Judges texts.now qualifiers.now locations.now how s fetched result }
 {
     match fetched {
-        Fetched::Outside => refused(Unwritten::BadRooms),
-        Fetched::Row(row) => judge_row(s, row, texts, qualifiers, locations, how),
+        None => refused(Unwritten::BadRooms),
+        Some(row) => judge_row(s, row, texts, qualifiers, locations, how),
     }
 }
 
 fn put_fetched(
     out: &mut [u8],
     s: State,
-    fetched: Fetched,
+    fetched: Option<Feature>,
     texts: &[u8],
     qualifiers: &[usize],
     how: How,
 ) -> State
-    requires { ((x : Feature) → fetched ≡ Fetched.Row x → FeatureKnown texts.now (numbers x) qualifiers.now 0) × (60 ≤ how.width) × (how.width ≤ 132) × (s.row ≤ most) }
+    requires { ((x : Feature) → fetched ≡ Some x → FeatureKnown texts.now (numbers x) qualifiers.now 0) × (60 ≤ how.width) × (how.width ≤ 132) × (s.row ≤ most) }
     ensures { Puts texts.now qualifiers.now how s fetched out.old result out.new }
 {
     match fetched {
-        Fetched::Outside => refused(Unwritten::BadRooms),
-        Fetched::Row(row) => {
+        None => refused(Unwritten::BadRooms),
+        Some(row) => {
             let at = put_row_lines(out, s.at, row, texts, qualifiers, how.width);
             staged(true, s.row + 1, at, 0, true, true)
         }
@@ -244,8 +241,8 @@ fn decide(
         s.fine, s.kept, texts, references, comments, letters, rest, how,
     );
     match verdict {
-        Verdict::Not(why) => refused(why),
-        Verdict::Fine => {
+        Err(why) => refused(why),
+        Ok(()) => {
             let n = put_after(&mut [], s.at, texts, letters, head, how.width);
             if out.len() < n {
                 return ended(WriteAnswer::Room(n));
@@ -269,7 +266,7 @@ fn end(out: &mut [u8], s: State, texts: &[u8], letters: &[u8], head: Head, how: 
 pub fn step(
     out: &mut [u8],
     s: State,
-    fetched: Fetched,
+    fetched: Option<Feature>,
     texts: &[u8],
     references: &[usize],
     comments: &[usize],

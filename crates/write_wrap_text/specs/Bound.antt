@@ -1,5 +1,5 @@
 -- How long a text can become over lines: linear in its length.
-use Rattle.std.specs.Prelude.{refl, ℕ, suc, zero, ◌+◌, ◌*◌, ◌≤◌, Bool, true, false, List, [], ◌∷◌, ◌++◌, ltb, eqb, length, take}
+use Rattle.std.specs.Prelude.{refl, ℕ, suc, zero, ◌+◌, ◌*◌, ◌≤◌, Bool, true, false, None, List, [], ◌∷◌, ◌++◌, ltb, eqb, length, take}
 use Rattle.std.proofs.Common.{arith, length-append, length-take, length-drop}
 use Rattle.std.proofs.lemmas.List.{length-replicate}
 use Rattle.spec_format.specs.Bytes.{spaces}
@@ -17,7 +17,7 @@ escape_length q (b ∷ bs) = omega (arith, length-append (shown q b) (escape q b
 
 line_length : (q : Bool) (W used : ℕ) (t : List ℕ) → length (line_text (fill q W used t)) + 2 * length (line_rest (fill q W used t)) ≤ 2 * length t
 line_length q W used t =
-    let r = placed 0 0 (spot q W used t) in
+    let r = placed 0 None (spot q W used t) in
     let b = breaks q W used t r refl in
     rw (line_is b, rest_is b) (omega (arith, escape_length q (take r.end t), length-take r.end t, length-drop r.next t, b.order, b.inside))
 

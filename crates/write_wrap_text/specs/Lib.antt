@@ -2,4 +2,4 @@
 pub mod Line
 pub mod Loop
 pub mod Bound
-pub mod Plain
+pub mod Straight

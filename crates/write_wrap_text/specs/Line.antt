@@ -1,6 +1,7 @@
 -- A line of free text as a scanner finds it: `spot` counts bytes where `fill` of the format builds lists; `join` says that they agree.
-use Rattle.std.specs.Prelude.{◌≡◌, refl, ℕ, suc, ◌+◌, ◌-◌, ◌≤◌, ◌<◌, Bool, true, false, not, ◌&&◌, ◌||◌, List, [], ◌∷◌, ◌++◌, ltb, eqb, length, get_or, take, drop}
-use Rattle.std.proofs.Common.{sym, arith, add-zero, zero-add, add-one, drop_of_length-le, length-drop, drop-cons, lt-ltb, le-ltb, eq-eqb, ne_eqb, ltb-true, ltb-false, eqb-true}
+use Rattle.std.specs.Prelude.{◌≡◌, refl, ℕ, suc, ◌+◌, ◌*◌, ◌≤◌, ◌<◌, Bool, true, false, Option, Some, None, not, ◌&&◌, ◌||◌, List, [], ◌∷◌, ◌++◌, ltb, eqb, length, get_or, take, drop}
+use Rattle.std.proofs.Common.{◌∙◌, sym, arith, add-zero, zero-add, add-one, drop_of_length-le, length-drop, drop-cons, lt-ltb, le-ltb, eq-eqb, ne_eqb, ltb-true, ltb-false, eqb-true}
+use Rattle.std.specs.Option.{IfSome}
 use Rattle.spec_format.specs.Bytes.{pick, spaces}
 use Rattle.spec_format.specs.Wrap.{Line, line_fits, line_over, line_text, line_rest, put, put_space, inner, fill}
 use Rattle.write_wrap_text.specs.declared.Break.{Break}
@@ -18,21 +19,13 @@ abbrev pub columns : Bool → ℕ → ℕ
 columns false b = 1
 columns true b = pick (eqb b 34) 2 1
 
--- what a caller of `columns` learns
-pub record Columns (q : Bool) (b r : ℕ) : Type 0 where
-  pub is : r ≡ columns q b
-  pub most : r ≤ 2
-
 -- a line of W columns stops before b, which would bring it to w columns
 abbrev pub stops : ℕ → ℕ → ℕ → Bool
 stops b W w = pick (ltb W w) (not (inner b)) false
 
-abbrev pub last_space : ℕ → ℕ → ℕ → ℕ
-last_space b i space = pick (eqb b 32) (i + 1) space
-
-pub record LastSpace (b i space r : ℕ) : Type 0 where
-  pub is : r ≡ last_space b i space
-  pub most : r ≤ i + 1
+-- the place of the last space, after the byte b at i
+abbrev pub last_space : ℕ → ℕ → Option ℕ → Option ℕ
+last_space b i space = pick (eqb b 32) (Some i) space
 
 -- what ends a text, where a column is free and where none is
 abbrev pub closed : Bool → Bool → ℕ → List ℕ
@@ -69,21 +62,29 @@ spot q W used (b ∷ t) =
       ]
     ]
 
--- the break at place i of a full line whose last space is before `space`
-abbrev pub over : ℕ → ℕ → Break
-over i space = pick (eqb space 0) (record { end = i; next = i }) (record { end = space - 1; next = space })
+-- the break at place i of a full line with its last space
+abbrev pub over : ℕ → Option ℕ → Break
+over i None = record { end = i; next = i }
+over i (Some k) = record { end = k; next = k + 1 }
 
-abbrev pub full : ℕ → ℕ → ℕ → Break
+abbrev pub full : ℕ → ℕ → Option ℕ → Break
 full b i space = pick (eqb b 32) (record { end = i; next = i + 1 }) (pick (eqb b 10) (record { end = i; next = i + 1 }) (over i space))
 
 -- a spot as the scanner at place i, with its last space, sees it
-abbrev pub placed : ℕ → ℕ → Spot → Break
+abbrev pub placed : ℕ → Option ℕ → Spot → Break
 placed i space (ends_at n m) = record { end = i + n; next = i + m }
 placed i space (is_full n) = over (i + n) space
 
 pub cases {ℓ} : {X : Type ℓ} (b : Bool) → (b ≡ true → X) → (b ≡ false → X) → X
 cases true f g = f refl
 cases false f g = g refl
+
+before_more : (i : ℕ) (space : Option ℕ) → IfSome space (λ k. k < i) → IfSome space (λ k. k < i + 1)
+before_more i None h = tt
+before_more i (Some k) h = omega arith
+
+last_before : (b i : ℕ) (space : Option ℕ) → IfSome space (λ k. k < i) → IfSome (last_space b i space) (λ k. k < i + 1)
+last_before b i space h = cases (eqb b 32) (λ e. rw e (omega arith)) (λ e. rw e (before_more i space h))
 
 -- ---- the scanner's steps
 pub drop_more : (t : List ℕ) (i : ℕ) → i < length t → drop i t ≡ get_or t i 0 ∷ drop (i + 1) t
@@ -92,18 +93,15 @@ drop_more t i h = rw (add-one i, drop-cons t i 0)
 next_place : (i n : ℕ) → i + suc n ≡ i + 1 + n
 next_place i n = omega arith
 
-placed_more : (i space : ℕ) (s : Spot) → placed i space (more s) ≡ placed (i + 1) space s
+placed_more : (i : ℕ) (space : Option ℕ) (s : Spot) → placed i space (more s) ≡ placed (i + 1) space s
 placed_more i space (ends_at n m) = rw (next_place i n, next_place i m)
 placed_more i space (is_full n) = rw (next_place i n)
 
-no_zero : (i : ℕ) → eqb (i + 1) 0 ≡ false
-no_zero i = ne_eqb (i + 1) 0 (λ e. omega arith)
-
-placed_space : (i space : ℕ) (s : Spot) → placed i space (more_space s) ≡ placed (i + 1) (i + 1) s
+placed_space : (i : ℕ) (space : Option ℕ) (s : Spot) → placed i space (more_space s) ≡ placed (i + 1) (Some i) s
 placed_space i space (ends_at n m) = rw (next_place i n, next_place i m)
-placed_space i space (is_full n) = let e : i + 1 - 1 ≡ i + 0 = omega arith in rw (no_zero i, e)
+placed_space i space (is_full n) = rw (add-zero i)
 
-pub scan_turn : (q : Bool) (W used i space : ℕ) (t : List ℕ) → i < length t
+pub scan_turn : (q : Bool) (W used i : ℕ) (space : Option ℕ) (t : List ℕ) → i < length t
     → stops (get_or t i 0) W (used + columns q (get_or t i 0)) ≡ false → (get_or t i 0 ≡ 10 → ⊥)
     → placed i space (spot q W used (drop i t)) ≡ placed (i + 1) (last_space (get_or t i 0) i space) (spot q W (used + columns q (get_or t i 0)) (drop (i + 1) t))
 unfolding spot
@@ -112,23 +110,23 @@ scan_turn q W used i space t h s n =
     (cases (eqb (get_or t i 0) 32) (λ e. rw (s, ne_eqb (get_or t i 0) 10 n, e, spot) (placed_space i space (spot q W (used + columns q (get_or t i 0)) (drop (i + 1) t))))
     (λ e. rw (s, ne_eqb (get_or t i 0) 10 n, e, spot) (placed_more i space (spot q W (used + columns q (get_or t i 0)) (drop (i + 1) t)))))
 
-placed_full : (b i space : ℕ) → placed i space (full_at b) ≡ full b i space
+placed_full : (b i : ℕ) (space : Option ℕ) → placed i space (full_at b) ≡ full b i space
 placed_full b i space =
     cases (eqb b 32) (λ e. rw (e, add-zero i))
     (λ e. cases (eqb b 10) (λ d. rw (e, d, add-zero i)) (λ d. rw (e, d, add-zero i)))
 
-pub scan_full : (q : Bool) (W used i space : ℕ) (t : List ℕ) → i < length t
+pub scan_full : (q : Bool) (W used i : ℕ) (space : Option ℕ) (t : List ℕ) → i < length t
     → stops (get_or t i 0) W (used + columns q (get_or t i 0)) ≡ true → placed i space (spot q W used (drop i t)) ≡ full (get_or t i 0) i space
 unfolding spot
 scan_full q W used i space t h s = rw (drop-cons t i 0 h, s, spot) (placed_full (get_or t i 0) i space)
 
-pub scan_feed : (q : Bool) (W used i space : ℕ) (t : List ℕ) → i < length t
+pub scan_feed : (q : Bool) (W used i : ℕ) (space : Option ℕ) (t : List ℕ) → i < length t
     → stops (get_or t i 0) W (used + columns q (get_or t i 0)) ≡ false → get_or t i 0 ≡ 10
     → placed i space (spot q W used (drop i t)) ≡ record { end = i; next = i + 1 }
 unfolding spot
 scan_feed q W used i space t h s n = rw (drop-cons t i 0 h, s, eq-eqb (get_or t i 0) 10 n, spot, add-zero i)
 
-pub scan_end : (q : Bool) (W used i space : ℕ) (t : List ℕ) → length t ≤ i → placed i space (spot q W used (drop i t)) ≡ record { end = i; next = i }
+pub scan_end : (q : Bool) (W used i : ℕ) (space : Option ℕ) (t : List ℕ) → length t ≤ i → placed i space (spot q W used (drop i t)) ≡ record { end = i; next = i }
 unfolding spot
 scan_end q W used i space t h = rw (drop_of_length-le t h, add-zero i)
 
@@ -139,33 +137,33 @@ record Within (n least : ℕ) (r : Break) : Type 0 where
   inside : r.next ≤ n
   some : least ≤ r.next
 
-more_within : (n : ℕ) (s : Spot) → Within n 0 (placed 0 0 s) → Within (suc n) 1 (placed 0 0 (more s))
+more_within : (n : ℕ) (s : Spot) → Within n 0 (placed 0 None s) → Within (suc n) 1 (placed 0 None (more s))
 more_within n (ends_at a b) w = record { order = omega (arith, w.order); inside = omega (arith, w.inside); some = omega arith }
 more_within n (is_full a) w = record { order = omega arith; inside = omega (arith, w.inside); some = omega arith }
 
-space_within : (n : ℕ) (s : Spot) → Within n 0 (placed 0 0 s) → Within (suc n) 1 (placed 0 0 (more_space s))
+space_within : (n : ℕ) (s : Spot) → Within n 0 (placed 0 None s) → Within (suc n) 1 (placed 0 None (more_space s))
 space_within n (ends_at a b) w = record { order = omega (arith, w.order); inside = omega (arith, w.inside); some = omega arith }
 space_within n (is_full a) w = record { order = omega arith; inside = omega arith; some = omega arith }
 
 -- one byte that is left out is taken as well
-one_within : (n : ℕ) → Within (suc n) 1 (placed 0 0 (ends_at 0 1))
+one_within : (n : ℕ) → Within (suc n) 1 (placed 0 None (ends_at 0 1))
 one_within n = record { order = omega arith; inside = omega arith; some = omega arith }
 
 weaken : {n least : ℕ} {r : Break} → Within n least r → Within n 0 r
 weaken w = record { order = w.order; inside = w.inside; some = omega arith }
 
-full_within : (n b : ℕ) → Within (suc n) 0 (placed 0 0 (full_at b))
+full_within : (n b : ℕ) → Within (suc n) 0 (placed 0 None (full_at b))
 full_within n b =
     cases (eqb b 32) (λ e. rw e (weaken (one_within n)))
     (λ e. cases (eqb b 10) (λ d. rw (e, d) (weaken (one_within n))) (λ d. rw (e, d) (record { order = omega arith; inside = omega arith; some = omega arith })))
 
-go_within : (q : Bool) (W used b : ℕ) (t : List ℕ) (s : Spot) → Within (length t) 0 (placed 0 0 s)
-    → Within (suc (length t)) 1 (placed 0 0 (elim (eqb b 10) [ true ↦ ends_at 0 1 | false ↦ elim (eqb b 32) [ true ↦ more_space s | false ↦ more s ] ]))
+go_within : (q : Bool) (W used b : ℕ) (t : List ℕ) (s : Spot) → Within (length t) 0 (placed 0 None s)
+    → Within (suc (length t)) 1 (placed 0 None (elim (eqb b 10) [ true ↦ ends_at 0 1 | false ↦ elim (eqb b 32) [ true ↦ more_space s | false ↦ more s ] ]))
 go_within q W used b t s w =
     cases (eqb b 10) (λ d. rw d (one_within (length t)))
     (λ d. cases (eqb b 32) (λ e. rw (d, e) (space_within (length t) s w)) (λ e. rw (d, e) (more_within (length t) s w)))
 
-spot_within : (q : Bool) (W used : ℕ) (t : List ℕ) → Within (length t) 0 (placed 0 0 (spot q W used t))
+spot_within : (q : Bool) (W used : ℕ) (t : List ℕ) → Within (length t) 0 (placed 0 None (spot q W used t))
 unfolding spot
 spot_within q W used [] = record { order = omega arith; inside = omega arith; some = omega arith }
 spot_within q W used (b ∷ t) =
@@ -178,7 +176,7 @@ columns_most false b = omega arith
 columns_most true b = cases (eqb b 34) (λ e. rw e (omega arith)) (λ e. rw e (omega arith))
 
 -- a byte is taken where two columns are free
-spot_some : (q : Bool) (W used : ℕ) (t : List ℕ) → used + 2 ≤ W → 0 < length t → 1 ≤ (placed 0 0 (spot q W used t)).next
+spot_some : (q : Bool) (W used : ℕ) (t : List ℕ) → used + 2 ≤ W → 0 < length t → 1 ≤ (placed 0 None (spot q W used t)).next
 unfolding spot
 spot_some q W used [] h p = absurd (omega arith)
 spot_some q W used (b ∷ t) h p =
@@ -187,12 +185,12 @@ spot_some q W used (b ∷ t) h p =
 
 -- what a caller of the scanner learns
 pub record Breaks (q : Bool) (W used : ℕ) (t : List ℕ) (r : Break) : Type 0 where
-  pub is : r ≡ placed 0 0 (spot q W used t)
+  pub is : r ≡ placed 0 None (spot q W used t)
   pub order : r.end ≤ r.next
   pub inside : r.next ≤ length t
   pub some : used + 2 ≤ W → 0 < length t → 0 < r.next
 
-pub breaks : (q : Bool) (W used : ℕ) (t : List ℕ) (r : Break) → placed 0 0 (spot q W used t) ≡ r → Breaks q W used t r
+pub breaks : (q : Bool) (W used : ℕ) (t : List ℕ) (r : Break) → placed 0 None (spot q W used t) ≡ r → Breaks q W used t r
 breaks q W used t r e =
     let w = spot_within q W used t in
     record {
@@ -201,6 +199,39 @@ breaks q W used t r e =
       inside = rw e at w.inside;
       some = λ h p. rw e at (spot_some q W used t h p);
     }
+
+-- ---- the scanner's loop
+-- at byte i, with the last space and the columns used before it
+pub record Scanning (q : Bool) (W taken : ℕ) (t : List ℕ) (i : ℕ) (space : Option ℕ) (used : ℕ) : Type 0 where
+  pub before : IfSome space (λ k. k < i)
+  pub few : used ≤ taken + 2 * i
+  pub same : placed i space (spot q W used (drop i t)) ≡ placed 0 None (spot q W taken t)
+
+module _ {q : Bool} {W taken used i : ℕ} {t : List ℕ} {space : Option ℕ} (s : Scanning q W taken t i space used) where
+  module _ {w : ℕ} {stop : Bool} (l : i < length t) (c : w ≡ columns q (get_or t i 0)) (e : stop ≡ stops (get_or t i 0) W (used + w)) where
+    pub scanning_full : {r : Break} → stop ≡ true → r ≡ full (get_or t i 0) i space → Breaks q W taken t r
+    scanning_full h f = breaks q W taken t _ (sym s.same ∙ scan_full q W used i space t l (rw c at (sym e ∙ h)) ∙ sym f)
+
+    pub scanning_feed : stop ≡ false → get_or t i 0 ≡ 10 → Breaks q W taken t (record { end = i; next = i + 1 })
+    scanning_feed h f = breaks q W taken t _ (sym s.same ∙ scan_feed q W used i space t l (rw c at (sym e ∙ h)) f)
+
+    module _ (m : w ≤ 2) (h : stop ≡ false) {next : Option ℕ} where
+      turn : (get_or t i 0 ≡ 10 → ⊥) → next ≡ last_space (get_or t i 0) i space → Scanning q W taken t (i + 1) next (used + w)
+      turn f g =
+          record {
+            before = rw g (last_before (get_or t i 0) i space s.before);
+            few = omega (arith, s.few);
+            same = rw (g, c) (sym (scan_turn q W used i space t l (rw c at (sym e ∙ h)) f) ∙ s.same);
+          }
+
+      pub scanning_space : get_or t i 0 ≡ 32 → next ≡ Some i → Scanning q W taken t (i + 1) next (used + w)
+      scanning_space f g = turn (λ x. omega arith) (g ∙ rw (eq-eqb (get_or t i 0) 32 f))
+
+      pub scanning_other : (get_or t i 0 ≡ 10 → ⊥) → (get_or t i 0 ≡ 32 → ⊥) → next ≡ space → Scanning q W taken t (i + 1) next (used + w)
+      scanning_other x f g = turn x (g ∙ rw (ne_eqb (get_or t i 0) 32 f))
+
+  pub scanning_end : length t ≤ i → i ≤ length t → Breaks q W taken t (record { end = length t; next = length t })
+  scanning_end l m = let z : i ≡ length t = omega arith in rw z at (breaks q W taken t _ (sym s.same ∙ scan_end q W used i space t l))
 
 -- ---- the join
 abbrev line_of : Bool → List ℕ → Spot → Line
@@ -309,11 +340,11 @@ join q W used (b ∷ t) =
     (λ s. cases (eqb b 34) (λ m. rw (eqb-true b 34 m) (join_34 q W used t one (join q W (suc (suc used)) t)))
     (λ m. join_but q W used b t m n s one)))
 
-text_of : (q : Bool) (t : List ℕ) (s : Spot) → line_text (line_of q t s) ≡ escape q (take (placed 0 0 s).end t)
+text_of : (q : Bool) (t : List ℕ) (s : Spot) → line_text (line_of q t s) ≡ escape q (take (placed 0 None s).end t)
 text_of q t (ends_at n m) = rw zero-add
 text_of q t (is_full n) = rw zero-add
 
-rest_of : (q : Bool) (t : List ℕ) (s : Spot) → line_rest (line_of q t s) ≡ drop (placed 0 0 s).next t
+rest_of : (q : Bool) (t : List ℕ) (s : Spot) → line_rest (line_of q t s) ≡ drop (placed 0 None s).next t
 rest_of q t (ends_at n m) = rw zero-add
 rest_of q t (is_full n) = rw zero-add
 
@@ -327,11 +358,11 @@ rest_is {q} {W} {used} {t} {r} b = rw (join q W used t, b.is) (rest_of q t (spot
 -- a line takes a byte where two columns are free
 pub rest_shorter : (q : Bool) (W used : ℕ) (t : List ℕ) → used + 2 ≤ W → 0 < length t → length (line_rest (fill q W used t)) < length t
 rest_shorter q W used t h p =
-    let b = breaks q W used t (placed 0 0 (spot q W used t)) refl in
+    let b = breaks q W used t (placed 0 None (spot q W used t)) refl in
     rw (rest_is b, length-drop) (omega (arith, b.some h p))
 
 -- and no more than there are
 pub rest_most : (q : Bool) (W used : ℕ) (t : List ℕ) → length (line_rest (fill q W used t)) ≤ length t
 rest_most q W used t =
-    let b = breaks q W used t (placed 0 0 (spot q W used t)) refl in
+    let b = breaks q W used t (placed 0 None (spot q W used t)) refl in
     rw (rest_is b, length-drop) (omega arith)

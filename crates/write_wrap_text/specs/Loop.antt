@@ -1,24 +1,27 @@
 -- The writing loops of a text: what each turn leaves to be written.
-use Rattle.std.specs.Prelude.{◌≡◌, refl, ℕ, suc, zero, ◌+◌, ◌-◌, ◌*◌, ◌≤◌, ◌<◌, Bool, true, false, List, [], ◌∷◌, ◌++◌, ltb, eqb, length, get_or, take, drop}
-use Rattle.std.proofs.Common.{sym, ap, ◌∙◌, arith, append_assoc, length-drop, drop_of_length-le, take_all, drop-drop, lt-ltb, le-ltb, eq-eqb, eqb-true, ltb-true, ltb-false}
-use Rattle.spec_format.specs.Bytes.{pick, spaces}
+use Rattle.std.specs.Prelude.{◌≡◌, refl, ℕ, suc, zero, ◌+◌, ◌-◌, ◌≤◌, ◌<◌, Bool, true, false, List, [], ◌∷◌, ◌++◌, ltb, eqb, length, get_or, take, drop}
+use Rattle.std.proofs.Common.{sym, ◌∙◌, arith, append_assoc, length-take, length-drop, drop_of_length-le, take_all, lt-ltb, le-ltb, eq-eqb, ne_eqb, eqb-true, ltb-true, ltb-false}
+use Rattle.std.proofs.lemmas.Bool.{eqb-false}
+use Rattle.spec_format.specs.Bytes.{spaces}
 use Rattle.spec_format.specs.Wrap.{line_text, line_rest, fill, closing, lines_after, wrapped}
 use Rattle.base_pen.specs.Pen.{Writes, Left, left_start, left_step, left_as, left_end, writes_then}
 use Rattle.write_wrap_text.specs.declared.Break.{Break}
 use Rattle.write_wrap_text.specs.Line.{Breaks, escape, shown, closed, drop_more, cases, line_is, rest_is, rest_shorter, rest_most}
 
--- ---- a line's bytes
+-- ---- a line's bytes, where quotes are doubled
 pub escape_turn : {l m n x : List ℕ} {i j k : ℕ} (q : Bool) (b : List ℕ) (p : ℕ)
     → Left l i x m j (escape q (drop p b)) → p < length b → Writes m j (shown q (get_or b p 0)) n k → Left l i x n k (escape q (drop (p + 1) b))
 escape_turn q b p s h w = left_step (left_as (rw (drop_more b p h)) s) w
 
-pub escape_done : {l m x : List ℕ} {i j : ℕ} (q : Bool) (b : List ℕ) (p : ℕ)
-    → Left l i x m j (escape q (drop p b)) → length b ≤ p → Writes l i x m j
+pub escape_done : {l m x : List ℕ} {i j : ℕ} (q : Bool) (b : List ℕ) (p : ℕ) → Left l i x m j (escape q (drop p b)) → length b ≤ p → Writes l i x m j
 escape_done q b p s h = left_end (left_as (rw (drop_of_length-le b h)) s)
 
-pub escape_bare : (t : List ℕ) → t ≡ escape false t
-escape_bare [] = refl
-escape_bare (b ∷ t) = ap (λ (l : List ℕ). b ∷ l) (escape_bare t)
+-- a quote goes twice
+pub shown_quote : {b : ℕ} → b ≡ 34 → b ∷ [] ++ b ∷ [] ≡ shown true b
+shown_quote {b} e = rw (eq-eqb b 34 e, e)
+
+pub shown_other : {b : ℕ} → (b ≡ 34 → ⊥) → b ∷ [] ≡ shown true b
+shown_other {b} n = rw (ne_eqb b 34 n)
 
 -- ---- the end of a text
 -- the same order is the same test
@@ -68,56 +71,36 @@ after_step (suc f) q W indent used t h p e =
     record { less = f; enough = omega (arith, rest_shorter q W indent t h p); is = after_more f q W indent used t p }
 
 -- the whole rest of a text, as the code lends it
-pub rest_all : (text : List ℕ) (from : ℕ) → take (length text - from) (drop from text) ≡ drop from text
-rest_all text from = take_all (length text - from) (drop from text) (omega (arith, length-drop from text))
+pub rest_all : (t : List ℕ) (n : ℕ) → take (length t - n) (drop n t) ≡ drop n t
+rest_all t n = take_all (length t - n) (drop n t) (omega (arith, length-drop n t))
 
--- a turn, in the code's words
-pub text_turn : {l whole m n o : List ℕ} {i j k h : ℕ} {q : Bool} {W indent used : ℕ} {r : Break} (text : List ℕ) (from : ℕ)
-    → TextLeft l i whole m j q W indent used (drop from text) → from ≤ length text → indent + 2 ≤ W
-    → Breaks q W used (take (length text - from) (drop from text)) r → from + r.next < length text
-    → Writes m j (escape q (take (from + r.end - from) (drop from text))) n k → Writes n k (10 ∷ [] ++ spaces indent) o h
-    → TextLeft l i whole o h q W indent indent (drop (from + r.next) text)
-text_turn {l} {whole} {m} {n} {o} {i} {j} {k} {h} {q} {W} {indent} {used} {r} text from inv f w b test p s =
-    let b' : Breaks q W used (drop from text) r = rw (rest_all text from) at b in
-    let line : line_text (fill q W used (drop from text)) ≡ escape q (take r.end (drop from text)) = line_is b' in
-    let y : from + r.end - from ≡ r.end = omega arith in
-    let rest : line_rest (fill q W used (drop from text)) ≡ drop (from + r.next) text = rest_is b' ∙ drop-drop r.next from text in
-    let next : More inv.fuel q W indent (used + length (line_text (fill q W used (drop from text)))) (drop (from + r.next) text) =
-    after_step inv.fuel q W indent _ (drop (from + r.next) text) w (omega (arith, length-drop (from + r.next) text)) (rw rest at inv.enough) in
-    let p' : Writes m j (line_text (fill q W used (drop from text))) n k = rw line (rw y at p) in
+pub rest_empty : {r : Bool} (t : List ℕ) (n : ℕ) → r ≡ eqb (length (take (length t - n) (drop n t))) 0 → r ≡ true → length t ≤ n
+rest_empty t n e h = omega (arith, eqb-true (length (take (length t - n) (drop n t))) 0 (sym e ∙ h), length-take (length t - n) (drop n t), length-drop n t)
+
+pub rest_more : {r : Bool} (t : List ℕ) (n : ℕ) → r ≡ eqb (length (take (length t - n) (drop n t))) 0 → r ≡ false → n < length t
+rest_more t n e h = omega (arith, eqb-false (length (take (length t - n) (drop n t))) 0 (sym e ∙ h), length-take (length t - n) (drop n t), length-drop n t)
+
+-- a turn
+pub text_turn : {l whole m n o : List ℕ} {i j k h : ℕ} {q : Bool} {W indent used : ℕ} {r : Break} (t : List ℕ)
+    → TextLeft l i whole m j q W indent used t → indent + 2 ≤ W → Breaks q W used t r → r.next < length t
+    → Writes m j (escape q (take r.end t)) n k → Writes n k (10 ∷ [] ++ spaces indent) o h → TextLeft l i whole o h q W indent indent (drop r.next t)
+text_turn {q} {W} {indent} {used} {r} t inv w b test p s =
+    let next : More inv.fuel q W indent (used + length (line_text (fill q W used t))) (drop r.next t) =
+    after_step inv.fuel q W indent _ (drop r.next t) w (omega (arith, length-drop r.next t)) (rw (rest_is b) at inv.enough) in
     record {
       fuel = next.less;
       enough = next.enough;
-      left = left_step (rw (rest, next.is) at (left_step inv.left p')) s;
+      left = left_step (rw (rest_is b, next.is) at (left_step inv.left (rw (← (line_is b)) at p))) s;
     }
 
-pub text_done : {l whole m n o : List ℕ} {i j k h : ℕ} {q : Bool} {W indent used : ℕ} {r : Break} {free : Bool} (text : List ℕ) (from : ℕ)
-    → TextLeft l i whole m j q W indent used (drop from text) → from ≤ length text
-    → Breaks q W used (take (length text - from) (drop from text)) r → length text ≤ from + r.next
-    → Writes m j (escape q (take (from + r.end - from) (drop from text))) n k → free ≡ ltb (used + (k - j)) W → Writes n k (closed q free indent) o h
-    → Writes l i whole o h
-text_done {l} {whole} {m} {n} {o} {i} {j} {k} {h} {q} {W} {indent} {used} {r} {free} text from inv f b test p e s =
-    let b' : Breaks q W used (drop from text) r = rw (rest_all text from) at b in
-    let y : from + r.end - from ≡ r.end = omega arith in
-    let line : line_text (fill q W used (drop from text)) ≡ escape q (take r.end (drop from text)) = line_is b' in
-    let rest : line_rest (fill q W used (drop from text)) ≡ [] = rest_is b' ∙ drop_of_length-le (drop from text) {i = r.next} (omega (arith, length-drop from text)) in
-    let p' : Writes m j (line_text (fill q W used (drop from text))) n k = rw line (rw y at p) in
+pub text_done : {l whole m n o : List ℕ} {i j k h : ℕ} {q : Bool} {W indent used : ℕ} {r : Break} {free : Bool} (t : List ℕ)
+    → TextLeft l i whole m j q W indent used t → Breaks q W used t r → length t ≤ r.next
+    → Writes m j (escape q (take r.end t)) n k → free ≡ ltb (used + (k - j)) W → Writes n k (closed q free indent) o h → Writes l i whole o h
+text_done {o} {j} {k} {h} {q} {W} {used} {r} t inv b test p e s =
+    let rest : line_rest (fill q W used t) ≡ [] = rest_is b ∙ drop_of_length-le t {i = r.next} test in
+    let p' : Writes _ j (line_text (fill q W used t)) _ k = rw (← (line_is b)) at p in
     inv.left.by o h
     (writes_then p' s.up
     (λ z.
-    let g : k - j ≡ length (line_text (fill q W used (drop from text))) = omega arith in
+    let g : k - j ≡ length (line_text (fill q W used t)) = omega arith in
     rw (rest, after_none, closing_is, ← g, ← e) s))
-
--- a turn is nearer the end, or has passed the first line
-text_falls_by : (n from next used indent : ℕ) (b : Bool) → (b ≡ true → 0 < next) → from + next < n → 2 * (n - (from + next)) + 0 < 2 * (n - from) + pick b 0 1
-text_falls_by n from next used indent true p h = let z : 0 < next = p refl in omega arith
-text_falls_by n from next used indent false p h = omega arith
-
-pub text_falls : {q : Bool} {W used : ℕ} {r : Break} (indent : ℕ) (text : List ℕ) (from : ℕ) → indent + 2 ≤ W → from ≤ length text
-    → Breaks q W used (take (length text - from) (drop from text)) r → from + r.next < length text
-    → 2 * (length text - (from + r.next)) + pick (eqb indent indent) 0 1 < 2 * (length text - from) + pick (eqb used indent) 0 1
-text_falls {q} {W} {used} {r} indent text from w f b test =
-    let b' : Breaks q W used (drop from text) r = rw (rest_all text from) at b in
-    rw (eq-eqb indent indent refl)
-    (text_falls_by (length text) from r.next used indent (eqb used indent)
-    (λ e. b'.some (omega (arith, eqb-true used indent e)) (omega (arith, length-drop from text))) test)

@@ -3,10 +3,10 @@ use Rattle.std.proofs.Common.{rules}
 use Rattle.api_head.proofs.Laws.{ways, contig_some}
 use Rattle.api_head.proofs.put_contig.Goals as goal
 
-pub returns-in-Absent : goal.returns-in-Absent
-returns-in-Absent c = search (ways, rules)
+pub returns-in-None : goal.returns-in-None
+returns-in-None c = search (ways, rules)
 
-pub returns-in-At : goal.returns-in-At
-returns-in-At c =
+pub returns-in-Some : goal.returns-in-Some
+returns-in-Some c =
     let c3 = c in
-    contig_some _ _ _ _ _ _ _ _ _ c3.in-At.is c3.plus_one.ensures c.put_four-in-At.ensures
+    contig_some _ _ _ _ _ _ _ _ _ c3.in-Some.is c3.plus_one.ensures c.put_all-in-Some.ensures

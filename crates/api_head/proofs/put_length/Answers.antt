@@ -3,8 +3,8 @@ use Rattle.std.proofs.Common.{rules}
 use Rattle.api_head.proofs.Laws.{ways, length_some}
 use Rattle.api_head.proofs.put_length.Goals as goal
 
-pub returns-in-Absent : goal.returns-in-Absent
-returns-in-Absent c = search (ways, rules)
+pub returns-in-None : goal.returns-in-None
+returns-in-None c = search (ways, rules)
 
-pub returns-in-Bases : goal.returns-in-Bases
-returns-in-Bases c = length_some _ _ _ _ _ _ c.in-Bases.is c.put_number-in-Bases.ensures
+pub returns-in-Some : goal.returns-in-Some
+returns-in-Some c = length_some _ _ _ _ _ _ c.in-Some.is c.put-in-Some.ensures

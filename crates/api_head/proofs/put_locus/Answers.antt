@@ -12,4 +12,4 @@ returns c =
     let c15 = c11 in
     let c19 = c15 in
     let c23 = c19 in
-    writes_append (writes_append (writes_append (writes_append (writes_append c23.put_text-a.ensures c19.put_length-b.ensures) c15.put_text-c.ensures) (rw c11.flag_of.ensures at c10.put_number-d.ensures)) c6.put_two-e.ensures) c.put_date.ensures
+    writes_append (writes_append (writes_append (writes_append (writes_append c23.put_text-a.ensures c19.put_length-b.ensures) c15.put_text-c.ensures) (rw c11.flag_of.ensures at c10.put-d.ensures)) c6.put_all-e.ensures) c.put_date.ensures

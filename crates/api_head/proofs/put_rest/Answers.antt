@@ -9,4 +9,4 @@ returns c =
     let c6 = c in
     let c10 = c6 in
     let c14 = c10 in
-    writes_append (writes_append (writes_append c14.put_two-a.ensures c10.put_number-b.ensures) c6.put_contig-c.ensures) c.put_number.ensures
+    writes_append (writes_append (writes_append c14.put_all-a.ensures c10.put-b.ensures) c6.put_contig-c.ensures) c.put.ensures

@@ -1,13 +1,13 @@
--- The texts of the header, group by group.
-use Rattle.std.proofs.Common.{◌∙◌}
-use Rattle.spec_format.specs.Rooms.{table_of, reference_in, comment_in}
+-- The tests of the definition, in its order.
+use Rattle.std.proofs.Common.{rules}
+use Rattle.spec_format.specs.Rooms.{reference_in, comment_in, table_of}
 use Rattle.spec_format.specs.WellFormed.{header_texts}
 use Rattle.judge_header.proofs.header_passes.Goals as goal
 
-pub returns : goal.returns
+pub returns-then-references_pass : goal.returns-then-references_pass
 unfolding header_texts table_of reference_in comment_in
-returns c =
-    let c3 = c in
-    let c4 = c3 in
-    let c5 = c4 in
-    c.five_pass.ensures ∙ rw (c.both-from_source.ensures, c.source_passes.ensures, c3.both-rows.ensures, c5.references_pass.ensures, c4.comments_pass.ensures)
+returns-then-references_pass c = search rules
+
+pub returns-else-references_pass : goal.returns-else-references_pass
+unfolding header_texts table_of reference_in comment_in
+returns-else-references_pass c = search rules

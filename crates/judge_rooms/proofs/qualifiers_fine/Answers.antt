@@ -1,23 +1,16 @@
--- The three tests of the definition, in its order.
-use Rattle.std.proofs.Common.{◌/◌, length, arith}
-use Rattle.judge_rooms.proofs.Laws.{span_held, starts_before, not_inside, inside}
-use Rattle.std.proofs.lemmas.Bool.{not_from_false, not_from_true}
+-- The rows from `first` on are tested one after the other.
+use Rattle.std.proofs.Common.{◌+◌, ◌≡◌, rules, arith}
+use Rattle.std.proofs.lemmas.Iterator.{YieldsList-from_range}
+use Rattle.std.proofs.lemmas.Iterator.Search.{all_from_yields_List}
+use Rattle.spec_format.specs.Rooms.{rows_fine, qualifier_row_fine, qualifiers_fine}
+use Rattle.judge_rooms.specs.Parts.{qualifier_rooms}
+use Rattle.judge_rooms.specs.Steps.{rows_all}
 use Rattle.judge_rooms.proofs.qualifiers_fine.Goals as goal
 
-pub returns-then-first-from : goal.returns-then-first-from
-returns-then-first-from c = starts_before _ _ _ _ c.if-first-from.true
-
-pub returns-then-not-span_fine : goal.returns-then-not-span_fine
-returns-then-not-span_fine c = not_inside _ _ _ _ _ c.if-first-from.false c.span_fine.ensures (not_from_false _ c.if-not-span_fine.true)
-
-pub overflow_add-first : goal.overflow_add-first
-overflow_add-first c =
-    omega (arith, span_held _ (length c.args.qualifiers.now / 4) c.args.first c.args.count c.span_fine.ensures (not_from_true _ c.if-not-span_fine.false))
-
-pub qualifier_rows_fine-requires : goal.qualifier_rows_fine-requires
-qualifier_rows_fine-requires c =
-    let w = span_held _ (length c.args.qualifiers.now / 4) c.args.first c.args.count c.span_fine.ensures (not_from_true _ c.if-not-span_fine.false) in (omega arith, omega arith)
-
-pub returns : goal.returns
-returns c =
-    inside _ _ _ _ _ _ c.if-first-from.false c.span_fine.ensures (not_from_true _ c.if-not-span_fine.false) c.qualifier_rows_fine.ensures
+pub returns-then-span_fine-clause-same : goal.returns-then-span_fine-clause-same
+unfolding qualifiers_fine
+returns-then-span_fine-clause-same c =
+    let a = c.args in
+    let rows : c.all.result ≡ rows_fine (qualifier_row_fine (qualifier_rooms a.texts.now a.qualifiers.now)) 4 a.first a.count =
+    rows_all _ 4 a.first a.count _ (all_from_yields_List _ _ _ _ c.all.ensures.ran (YieldsList-from_range a.first (a.first + a.count) a.count (cc) (omega arith)) (λ x b q k. search rules)) in
+    search rules

@@ -4,8 +4,8 @@ use Rattle.scan_bytes.specs.Sequence.{sequence}
 use Rattle.read_feature_bare.proofs.Bares.{firsts, puts}
 use Rattle.read_feature_bare.proofs.put_bare.Goals as goal
 
-pub put_part-p-requires : goal.put_part-p-requires
-put_part-p-requires c = search (sequence, firsts, puts, rules)
+pub put_all-p-requires : goal.put_all-p-requires
+put_all-p-requires c = search (sequence, firsts, puts, rules)
 
 pub put_further-requires : goal.put_further-requires
 put_further-requires c = search (sequence, firsts, puts, rules)

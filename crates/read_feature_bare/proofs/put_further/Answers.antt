@@ -13,8 +13,8 @@ further_at-requires c = search (puttings, places, rules)
 pub enum_known-from : goal.enum_known-from
 enum_known-from c = search (puttings, places, rules)
 
-pub put_part-p-requires : goal.put_part-p-requires
-put_part-p-requires c = search (puttings, places, rules)
+pub put_all-p-requires : goal.put_all-p-requires
+put_all-p-requires c = search (puttings, places, rules)
 
 pub loop-from-smaller : goal.loop-from-smaller
 loop-from-smaller c = search (puttings, places, rules)

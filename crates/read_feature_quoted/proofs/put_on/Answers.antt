@@ -13,8 +13,8 @@ piece_at-requires c = search (puttings, places, sequence, rules)
 pub enum_known-to : goal.enum_known-to
 enum_known-to c = search (puttings, places, sequence, rules)
 
-pub put_part-q-requires : goal.put_part-q-requires
-put_part-q-requires c = search (puttings, places, sequence, rules)
+pub put_all-q-requires : goal.put_all-q-requires
+put_all-q-requires c = search (puttings, places, sequence, rules)
 
 pub put_feed-p-requires : goal.put_feed-p-requires
 put_feed-p-requires c = search (puttings, places, sequence, rules)
@@ -28,8 +28,8 @@ loop-to-preserved c = search (puttings, places, sequence, rules)
 pub enum_known-to-in-Stop-1 : goal.enum_known-to-in-Stop-1
 enum_known-to-in-Stop-1 c = search (puttings, places, sequence, rules)
 
-pub put_part-requires : goal.put_part-requires
-put_part-requires c = search (puttings, places, sequence, rules)
+pub put_all-requires : goal.put_all-requires
+put_all-requires c = search (puttings, places, sequence, rules)
 
 pub shape_of-room-in-Stop : goal.shape_of-room-in-Stop
 shape_of-room-in-Stop c = search (puttings, places, sequence, rules)
@@ -40,8 +40,8 @@ returns-in-Stop c = search (puttings, places, sequence, rules)
 pub enum_known-to-in-No-1 : goal.enum_known-to-in-No-1
 enum_known-to-in-No-1 c = search (puttings, places, sequence, rules)
 
-pub put_part-requires-in-No : goal.put_part-requires-in-No
-put_part-requires-in-No c = search (puttings, places, sequence, rules)
+pub put_all-requires-in-No : goal.put_all-requires-in-No
+put_all-requires-in-No c = search (puttings, places, sequence, rules)
 
 pub shape_of-room-in-No : goal.shape_of-room-in-No
 shape_of-room-in-No c = search (puttings, places, sequence, rules)
@@ -52,8 +52,8 @@ returns-in-No c = search (puttings, places, sequence, rules)
 pub enum_known-to-in-Cut-1 : goal.enum_known-to-in-Cut-1
 enum_known-to-in-Cut-1 c = search (puttings, places, sequence, rules)
 
-pub put_part-requires-in-Cut : goal.put_part-requires-in-Cut
-put_part-requires-in-Cut c = search (puttings, places, sequence, rules)
+pub put_all-requires-in-Cut : goal.put_all-requires-in-Cut
+put_all-requires-in-Cut c = search (puttings, places, sequence, rules)
 
 pub shape_of-room-in-Cut : goal.shape_of-room-in-Cut
 shape_of-room-in-Cut c = search (puttings, places, sequence, rules)

@@ -23,7 +23,7 @@ overflow_add-next-3 c =
 pub returns : goal.returns
 returns c =
     let pre = c.requires in
-    let put-part = c.put_part-start.ensures in
+    let put-part = c.put_all-start.ensures in
     let put-text = c.put_text-stop.ensures in
     let put-qualifiers = c.put_qualifiers-run.ensures in
     located_made _ _ _ _ _ _ _ _ pre.0 pre.1 _ _ _ _ _ _ _ _ _ put-part put-text put-qualifiers

@@ -19,8 +19,8 @@ returns-in-Absent c =
     let a = c.args in
     let pre = c.requires in
     let enum_told = c.in-Absent.is in
-    let put_two = c.put_two-row.ensures in
-    rw enum_told (puts_absent _ _ _ _ _ (absent_room a.s.now a.keep _ enum_told _ pre.1) put_two)
+    let put_all = c.put_all-row.ensures in
+    rw enum_told (puts_absent _ _ _ _ _ (absent_room a.s.now a.keep _ enum_told _ pre.1) put_all)
 
 pub returns-in-Is : goal.returns-in-Is
 returns-in-Is c =

@@ -4,8 +4,8 @@ use Rattle.scan_bytes.specs.Sequence.{line_places}
 use Rattle.read_field_text.proofs.Putting.{never_no, never_cut, rest_gets, whole_put}
 use Rattle.read_field_text.proofs.put_entry.Goals as goal
 
-pub put_part-p-requires : goal.put_part-p-requires
-put_part-p-requires c = let p = line_places c.line_at.ensures c.in-Got.is in search rules
+pub put_all-p-requires : goal.put_all-p-requires
+put_all-p-requires c = let p = line_places c.line_at.ensures c.in-Got.is in search rules
 
 pub put_further-requires : goal.put_further-requires
 put_further-requires c =
@@ -33,4 +33,4 @@ returns-in-Got c =
     let c9 = c6 in
     let c11 = c9 in
     let c14 = c11 in
-    whole_put c14.args.columns c14.args.keep c14.args.s.now c14.args.text _ c11.line_at.ensures c14.requires.1 _ _ c9.in-Got.is c6.put_part-p.ensures c2.put_further.ensures
+    whole_put c14.args.columns c14.args.keep c14.args.s.now c14.args.text _ c11.line_at.ensures c14.requires.1 _ _ c9.in-Got.is c6.put_all-p.ensures c2.put_further.ensures

@@ -13,7 +13,7 @@ loop-i-preserved-then-is_letter c =
     let c2 = c in
     let c4 = c2 in
     let c7 = c4 in
-    (search rules, search rules, left_letter _ _ c7.loop-i.invariant.2 _ c7.loop-i-test.true c4.is_letter.ensures c4.if-is_letter.true c2.put_byte-p.ensures)
+    (search rules, search rules, left_letter _ _ c7.loop-i.invariant.2 _ c7.loop-i-test.true c4.is_letter.ensures c4.if-is_letter.true c2.put-p.ensures)
 
 pub returns-then-not-is_skipped : goal.returns-then-not-is_skipped
 returns-then-not-is_skipped c =

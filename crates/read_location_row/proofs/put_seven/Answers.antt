@@ -11,5 +11,5 @@ returns c =
     let p₃ = p₄ in
     let p₂ = p₃ in
     let p₁ = p₂ in
-    row_put _ _ p₁.requires p₁.put_number.ensures p₂.put_number-2.ensures p₃.put_number-3.ensures p₄.put_number-4.ensures p₅.put_number-5.ensures
-    p₆.put_number-6.ensures p₇.put_number-7.ensures
+    row_put _ _ p₁.requires p₁.put.ensures p₂.put-2.ensures p₃.put-3.ensures p₄.put-4.ensures p₅.put-5.ensures
+    p₆.put-6.ensures p₇.put-7.ensures

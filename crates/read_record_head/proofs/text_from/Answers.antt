@@ -3,5 +3,5 @@ use Rattle.std.proofs.Common.{rules}
 use Rattle.read_record_head.proofs.Laws.{placing}
 use Rattle.read_record_head.proofs.text_from.Goals as goal
 
-pub returns-in-At : goal.returns-in-At
-returns-in-At c = search (placing, rules)
+pub returns-in-Some : goal.returns-in-Some
+returns-in-Some c = search (placing, rules)

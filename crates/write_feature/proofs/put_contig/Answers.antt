@@ -5,4 +5,4 @@ use Rattle.write_feature.proofs.put_contig.Goals as goal
 
 pub returns : goal.returns
 unfolding wrap_location
-returns c = writes_append c.put_bytes-next.ensures c.put_commas.ensures
+returns c = writes_append c.put_all-next.ensures c.put_commas.ensures

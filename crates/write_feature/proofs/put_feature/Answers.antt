@@ -10,4 +10,4 @@ returns c =
     let c11 = c7 in
     let c15 = c11 in
     let c20 = c15 in
-    writes_as (feature_is c20.args.width c20.args.kind.now c20.args.location.now _ (rw c4.left_of.ensures)) (writes_append (writes_append (writes_append c15.put_spaces-a.ensures c11.put_padded-b.ensures) c7.put_byte-d.ensures) c.put_commas.ensures)
+    writes_as (feature_is c20.args.width c20.args.kind.now c20.args.location.now _ (rw c4.left_of.ensures)) (writes_append (writes_append (writes_append c15.put_spaces-a.ensures c11.put_padded-b.ensures) c7.put-d.ensures) c.put_commas.ensures)

@@ -6,4 +6,4 @@ pub returns : goal.returns
 returns c =
     let c6 = c in
     let c10 = c6 in
-    writes_append (writes_append c10.put_spaces-a.ensures c6.put_byte-b.ensures) c.put_bytes.ensures
+    writes_append (writes_append c10.put_spaces-a.ensures c6.put-b.ensures) c.put_all.ensures

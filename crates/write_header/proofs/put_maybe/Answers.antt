@@ -5,10 +5,10 @@ use Rattle.write_header.proofs.put_maybe.Goals as goal
 pub put_span-requires : goal.put_span-requires
 put_span-requires c =
     let c7 = c in
-    (c7.requires.0, record { small = c7.requires.1; inside = rw c.in-At.is at c7.requires.2 }, c7.requires.3, c7.requires.4)
+    (c7.requires.0, record { small = c7.requires.1; inside = rw c.in-Some.is at c7.requires.2 }, c7.requires.3, c7.requires.4)
 
-pub returns-in-Absent : goal.returns-in-Absent
-returns-in-Absent c = rw c.in-Absent.is writes_nil
+pub returns-in-None : goal.returns-in-None
+returns-in-None c = rw c.in-None.is writes_nil
 
-pub returns-in-At : goal.returns-in-At
-returns-in-At c = rw c.in-At.is c.put_span.ensures
+pub returns-in-Some : goal.returns-in-Some
+returns-in-Some c = rw c.in-Some.is c.put_span.ensures

@@ -13,4 +13,4 @@ returns c =
     let c11 = c7 in
     let c15 = c11 in
     let c20 = c15 in
-    let y : c20.args.division.start + c20.args.division.length - c20.args.division.start ≡ c20.args.division.length = omega arith in writes_append (writes_append (writes_append (rw y at c15.put_part-a.ensures) c11.put_byte-b.ensures) (writes_as (ap date_text c7.printed_date.ensures) c6.put_date-c.ensures)) c.put_byte.ensures
+    let y : c20.args.division.start + c20.args.division.length - c20.args.division.start ≡ c20.args.division.length = omega arith in writes_append (writes_append (writes_append (rw y at c15.put_all-a.ensures) c11.put-b.ensures) (writes_as (ap date_text c7.printed_date.ensures) c6.put_date-c.ensures)) c.put.ensures

@@ -9,4 +9,4 @@ returns c =
     let c6 = c in
     let c10 = c6 in
     let c14 = c10 in
-    writes_append (writes_append (writes_append c14.put_molecule_text-a.ensures c10.put_byte-b.ensures) c6.put_topology-c.ensures) c.put_byte.ensures
+    writes_append (writes_append (writes_append c14.put_molecule_text-a.ensures c10.put-b.ensures) c6.put_topology-c.ensures) c.put.ensures

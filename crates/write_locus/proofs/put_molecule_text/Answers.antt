@@ -2,10 +2,10 @@
 use Rattle.write_locus.proofs.put_molecule_text.Goals as goal
 
 pub put_span_molecule-requires : goal.put_span_molecule-requires
-put_span_molecule-requires c = rw c.in-At.is at c.requires
+put_span_molecule-requires c = rw c.in-Some.is at c.requires
 
-pub returns-in-Absent : goal.returns-in-Absent
-returns-in-Absent c = rw c.in-Absent.is c.put_spaces.ensures
+pub returns-in-None : goal.returns-in-None
+returns-in-None c = rw c.in-None.is c.put_spaces.ensures
 
-pub returns-in-At : goal.returns-in-At
-returns-in-At c = rw c.in-At.is c.put_span_molecule.ensures
+pub returns-in-Some : goal.returns-in-Some
+returns-in-Some c = rw c.in-Some.is c.put_span_molecule.ensures

@@ -15,4 +15,4 @@ returns c =
     let c12 = c8 in
     let c15 = c12 in
     let c18 = c15 in
-    writes_as (start_with c18.args.truncate c18.args.escape c18.args.texts.now c18.args.head _ _ c15.printed_length-n.ensures c8.chosen_name.ensures) (writes_append (writes_append c12.put_bytes-a.ensures c7.put_name-b.ensures) c.put_bytes.ensures)
+    writes_as (start_with c18.args.truncate c18.args.escape c18.args.texts.now c18.args.head _ _ c15.printed_length-n.ensures c8.chosen_name.ensures) (writes_append (writes_append c12.put_all-a.ensures c7.put_name-b.ensures) c.put_all.ensures)

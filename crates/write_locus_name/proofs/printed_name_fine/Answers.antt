@@ -8,4 +8,4 @@ pub returns : goal.returns
 returns c =
     let c3 = c in
     let c5 = c3 in
-    c.escaped_name_fine.ensures ∙ ap name_test (cut_is c5.args.name.now c5.args.n _ _ c5.args.truncate c5.args.escape c3.width.ensures.is c.kept-end.ensures)
+    c.escaped_name_fine.ensures ∙ ap name_test (cut_is c5.args.name.now c5.args.n _ _ c5.args.truncate c5.args.escape c3.width.ensures.value c.kept-end.ensures)

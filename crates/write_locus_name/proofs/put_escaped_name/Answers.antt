@@ -17,4 +17,4 @@ returns c =
     let c5 = c4 in
     let c6 = c5 in
     let c9 = c6 in
-    writes_as (escaped_no c9.args.escape _ _ c9.args.name.now c5.both.ensures c6.two_words.ensures c4.if-both.false) c.put_bytes.ensures
+    writes_as (escaped_no c9.args.escape _ _ c9.args.name.now c5.both.ensures c6.two_words.ensures c4.if-both.false) c.put_all.ensures

@@ -11,4 +11,4 @@ returns c =
     let c8 = c7 in
     let c12 = c8 in
     let c16 = c12 in
-    writes_append (writes_then c12.put_escaped_name-a.ensures c6.put_spaces-b.ensures.up (λ j. writes_as (gap_is c12.put_escaped_name-a.result c16.args.at _ _ c16.args.n (escaped_name c16.args.escape c16.args.name.now) c7.gap.ensures c8.width.ensures.is j) c6.put_spaces-b.ensures)) c.put_decimal.ensures
+    writes_append (writes_then c12.put_escaped_name-a.ensures c6.put_spaces-b.ensures.up (λ j. writes_as (gap_is c12.put_escaped_name-a.result c16.args.at _ _ c16.args.n (escaped_name c16.args.escape c16.args.name.now) c7.gap.ensures c8.width.ensures.value j) c6.put_spaces-b.ensures)) c.put_decimal.ensures

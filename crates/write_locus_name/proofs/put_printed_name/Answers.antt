@@ -11,4 +11,4 @@ returns c =
     let c5 = c in
     let c6 = c5 in
     let c9 = c6 in
-    writes_as (ap (λ (w : List ℕ). name_and_length w (decimal c9.args.n)) (cut_is c9.args.name.now c9.args.n _ _ c9.args.truncate c9.args.escape c6.width.ensures.is c5.kept-end.ensures)) c.put_name_length.ensures
+    writes_as (ap (λ (w : List ℕ). name_and_length w (decimal c9.args.n)) (cut_is c9.args.name.now c9.args.n _ _ c9.args.truncate c9.args.escape c6.width.ensures.value c5.kept-end.ensures)) c.put_name_length.ensures

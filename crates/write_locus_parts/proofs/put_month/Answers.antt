@@ -12,4 +12,4 @@ returns c =
     let m = c.args.month in
     let e : c.left_of-from.result ≡ m - 1 = c.left_of-from.ensures in
     let y : (m - 1) * 3 + 3 - (m - 1) * 3 ≡ 3 = omega arith in
-    writes_as (rw (e, y) (month_is m (search rules))) c.put_part.ensures
+    writes_as (rw (e, y) (month_is m (search rules))) c.put_all.ensures

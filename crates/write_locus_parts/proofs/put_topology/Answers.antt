@@ -2,7 +2,7 @@
 use Rattle.write_locus_parts.proofs.put_topology.Goals as goal
 
 pub returns-then-circular : goal.returns-then-circular
-returns-then-circular c = simp c.if-circular.true c.put_bytes.ensures
+returns-then-circular c = simp c.if-circular.true c.put_all.ensures
 
 pub returns : goal.returns
-returns c = simp c.if-circular.false c.put_bytes-2.ensures
+returns c = simp c.if-circular.false c.put_all-2.ensures

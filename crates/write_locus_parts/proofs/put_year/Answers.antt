@@ -8,4 +8,4 @@ returns c =
     let c10 = c6 in
     let c14 = c10 in
     let c18 = c14 in
-    writes_append (writes_append (writes_append (writes_append c18.put_byte-a.ensures c14.put_byte-b.ensures) c10.put_byte-c.ensures) c6.put_byte-d.ensures) c.put_byte.ensures
+    writes_append (writes_append (writes_append (writes_append c18.put-a.ensures c14.put-b.ensures) c10.put-c.ensures) c6.put-d.ensures) c.put.ensures

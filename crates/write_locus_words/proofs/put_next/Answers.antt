@@ -14,7 +14,7 @@ returns-then-is_after c =
     let c10 = c9 in
     let c11 = c10 in
     let c13 = c11 in
-    writes_as (cap_after c13.args.place c13.args.b _ c11.is_blank.ensures _ c10.if-is_blank.false c9.is_after.ensures c8.if-is_after.true) (writes_append c6.put_byte-next.ensures c.put_byte.ensures)
+    writes_as (cap_after c13.args.place c13.args.b _ c11.is_blank.ensures _ c10.if-is_blank.false c9.is_after.ensures c8.if-is_after.true) (writes_append c6.put-next.ensures c.put.ensures)
 
 pub returns : goal.returns
 returns c =
@@ -23,4 +23,4 @@ returns c =
     let c6 = c5 in
     let c7 = c6 in
     let c9 = c7 in
-    writes_as (cap_alone c9.args.place c9.args.b _ c7.is_blank.ensures _ c6.if-is_blank.false c5.is_after.ensures c4.if-is_after.false) c.put_byte-2.ensures
+    writes_as (cap_alone c9.args.place c9.args.b _ c7.is_blank.ensures _ c6.if-is_blank.false c5.is_after.ensures c4.if-is_after.false) c.put-2.ensures

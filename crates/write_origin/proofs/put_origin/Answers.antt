@@ -10,4 +10,4 @@ pub returns : goal.returns
 returns c =
     let c6 = c in
     let c9 = c6 in
-    writes_as (origin_some _ c9.if-letters-lt1.false) (writes_append c6.put_bytes-a.ensures c.put_letters.ensures)
+    writes_as (origin_some _ c9.if-letters-lt1.false) (writes_append c6.put_all-a.ensures c.put_letters.ensures)

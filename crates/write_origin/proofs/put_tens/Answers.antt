@@ -7,9 +7,6 @@ use Rattle.write_origin.proofs.put_tens.Goals as goal
 pub loop-i-init : goal.loop-i-init
 loop-i-init c = (search rules, (λ h. search rules), refl, left_start)
 
-pub put_part-p-requires : goal.put_part-p-requires
-put_part-p-requires c = (omega (arith, c.ten_end-end.ensures.some), c.ten_end-end.ensures.inside)
-
 pub loop-i-smaller : goal.loop-i-smaller
 loop-i-smaller c = omega (arith, c.ten_end-end.ensures.some, c.ten_end-end.ensures.inside)
 
@@ -22,8 +19,8 @@ loop-i-preserved c =
       c4.ten_end-end.ensures.inside,
       (λ h. ten_next _ _ _ (c10.loop-i.invariant.1 c9.loop-i-test.true) c4.ten_end-end.ensures h),
       search rules,
-      origin_turn _ _ c10.loop-i.invariant.3 c9.loop-i-test.true (c10.loop-i.invariant.1 c9.loop-i-test.true) c4.ten_end-end.ensures c7.put_mark-a.ensures c.put_part-p.ensures,
+      origin_turn _ _ c10.loop-i.invariant.3 c9.loop-i-test.true (c10.loop-i.invariant.1 c9.loop-i-test.true) c4.ten_end-end.ensures c7.put_mark-a.ensures c.put_all-p.ensures,
     )
 
 pub returns : goal.returns
-returns c = origin_done _ _ c.loop-i.invariant.3 c.loop-i-test.false c.put_byte.ensures
+returns c = origin_done _ _ c.loop-i.invariant.3 c.loop-i-test.false c.put.ensures

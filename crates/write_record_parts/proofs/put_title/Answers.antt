@@ -7,4 +7,4 @@ pub returns-then-features-eq0 : goal.returns-then-features-eq0
 returns-then-features-eq0 c = writes_as (title_none c.args.features c.if-features-eq0.true) writes_nil
 
 pub returns : goal.returns
-returns c = writes_as (title_some c.args.features c.if-features-eq0.false) c.put_bytes.ensures
+returns c = writes_as (title_some c.args.features c.if-features-eq0.false) c.put_all.ensures

@@ -9,9 +9,9 @@ pub returns : goal.returns
 returns c =
     let a = c.args in
     rw c.staged.ensures
-    (begin_goes a.told a.texts.now a.references.now a.comments.now a.head a.how c.if-not-told.false (rw c.rest_head-rest.ensures at c.put_before-at.ensures))
+    (begin_goes a.told a.texts.now a.references.now a.comments.now a.head a.how _ c.in-Some.is (rw c.rest_head-rest.ensures at c.put_before-at.ensures))
 
-pub returns-then-not-told : goal.returns-then-not-told
-returns-then-not-told c =
+pub returns-in_default : goal.returns-in_default
+returns-in_default c =
     let a = c.args in
-    rw c.refused.ensures (begin_unlike a.told a.texts.now a.references.now a.comments.now a.head a.how c.if-not-told.true)
+    rw c.refused.ensures (begin_unlike a.told a.texts.now a.references.now a.comments.now a.head a.how c.in_default.is)

@@ -25,7 +25,7 @@ pub returns-then-out-n : goal.returns-then-out-n
 returns-then-out-n c =
     let a = c.args in
     let ask = asking a.texts.now a.references.now a.comments.now a.qualifiers.now a.locations.now a.letters.now a.head a.how in
-    rw c.ended.ensures (decide_room ask a.s a.out.now _ (rw c.rest_head-rest.ensures at c.rest_verdict-verdict.ensures) c.in-Fine.is c.put_after-n.ensures c.if-out-n.true)
+    rw c.ended.ensures (decide_room ask a.s a.out.now _ (rw c.rest_head-rest.ensures at c.rest_verdict-verdict.ensures) c.in-Ok.is c.put_after-n.ensures c.if-out-n.true)
 
 pub put_before-at-requires : goal.put_before-at-requires
 put_before-at-requires c =
@@ -33,16 +33,16 @@ put_before-at-requires c =
     rw c.rest_head-rest.ensures (before_known a.how.width (rooms_in a.texts.now a.references.now a.comments.now [] a.qualifiers.now a.locations.now a.letters.now) (rest_head a.head)
     c.requires.0)
 
-pub returns-in-Not : goal.returns-in-Not
-returns-in-Not c =
+pub returns-in-Err : goal.returns-in-Err
+returns-in-Err c =
     let a = c.args in
     let ask = asking a.texts.now a.references.now a.comments.now a.qualifiers.now a.locations.now a.letters.now a.head a.how in
-    rw c.refused.ensures (decide_refused ask a.s a.out.now _ (rw c.rest_head-rest.ensures at c.rest_verdict-verdict.ensures) _ c.in-Not.is)
+    rw c.refused.ensures (decide_refused ask a.s a.out.now _ (rw c.rest_head-rest.ensures at c.rest_verdict-verdict.ensures) _ c.in-Err.is)
 
 pub returns-else-out-n : goal.returns-else-out-n
 returns-else-out-n c =
     let a = c.args in
     let ask = asking a.texts.now a.references.now a.comments.now a.qualifiers.now a.locations.now a.letters.now a.head a.how in
     rw c.staged.ensures (decide_puts ask a.s a.out.now _ (rw c.rest_head-rest.ensures at c.rest_verdict-verdict.ensures)
-    c.in-Fine.is
+    c.in-Ok.is
     c.put_after-n.ensures c.if-out-n.false (rw c.rest_head-rest.ensures at c.put_before-at.ensures))

@@ -1,21 +1,19 @@
--- `write_wrap_text::line_break` meets its contract.
-use Rattle.std.proofs.Common.{◌-◌, ◌≡◌, length, arith}
-use Rattle.write_wrap_text.specs.Plain.{plain_whole, plain_full, scanned}
+-- `write_wrap_text::line_break` meets its contract. Assumes nothing.
+use Rattle.std.proofs.Common.{◌≡◌, ◌-◌, length, min, arith}
+use Rattle.write_wrap_text.specs.Straight.{start_feed, start_whole, start_full}
 use Rattle.write_wrap_text.proofs.line_break.Goals as goal
 
-pub returns-then-width-taken : goal.returns-then-width-taken
-returns-then-width-taken c = scanned c.line_scan.ensures
+pub returns-in-Some : goal.returns-in-Some
+returns-in-Some c =
+    let e : c.min-n.result ≡ min (length c.args.text.now) (c.args.width - c.args.taken) = omega arith in
+    start_feed _ _ _ c.args.text.now _ e (c.is_single.ensures.yes c.if-not-is_single.false) _ c.in-Some.ensures
 
-pub returns-then-n-room : goal.returns-then-n-room
-returns-then-n-room c =
-    let e : c.plain_run-k.result ≡ length c.args.text.now = omega (arith, c.plain_run-k.ensures.most) in
-    plain_whole _ _ _ _ (omega arith) (rw e at c.plain_run-k.ensures.is)
+pub returns-then-n-text : goal.returns-then-n-text
+returns-then-n-text c =
+    let e : c.min-n.result ≡ min (length c.args.text.now) (c.args.width - c.args.taken) = omega arith in
+    start_whole _ _ _ c.args.text.now _ e (c.is_single.ensures.yes c.if-not-is_single.false) c.in_default.ensures c.if-n-text.true
 
-pub returns-then-text-room-lt128 : goal.returns-then-text-room-lt128
-returns-then-text-room-lt128 c =
-    let room = c.args.width - c.args.taken in
-    let e : c.plain_run-k-2.result ≡ room = omega (arith, c.plain_run-k-2.ensures.most) in
-    plain_full _ _ _ room _ _ _ (omega arith) (omega arith) (rw e at c.plain_run-k-2.ensures.is) (omega arith) c.last_to.ensures c.full.ensures
-
-pub returns : goal.returns
-returns c = scanned c.line_scan-2.ensures
+pub returns-then-text-n-lt128 : goal.returns-then-text-n-lt128
+returns-then-text-n-lt128 c =
+    let e : c.min-n.result ≡ min (length c.args.text.now) (c.args.width - c.args.taken) = omega arith in
+    start_full _ _ _ c.args.text.now _ e (c.is_single.ensures.yes c.if-not-is_single.false) c.in_default.ensures c.if-n-text.false c.if-text-n-lt128.true _ c.last_of.ensures c.full.ensures

@@ -1,46 +1,30 @@
--- The goals of `put_wrapped` that are answered by hand; what its loop keeps, and what falls, is in Invariants.antt.
-use Rattle.std.proofs.Common.{refl, ◌-◌, rules}
-use Rattle.write_wrap_text.specs.Loop.{text_start, text_turn, text_done, text_falls}
-use Rattle.write_wrap_text.specs.Plain.{line_plain}
+-- `write_wrap_text::put_wrapped` meets its contract. Assumes nothing.
+use Rattle.std.proofs.Common.{arith, rules, length-drop}
+use Rattle.write_wrap_text.specs.Straight.{alike_start, alike_rest, breaks_alike, escape_alike}
+use Rattle.write_wrap_text.specs.Loop.{text_start, text_turn, text_done, ltb_as, rest_all, rest_empty, rest_more}
 use Rattle.write_wrap_text.proofs.put_wrapped.Goals as goal
 
-pub loop-out-init : goal.loop-out-init
-loop-out-init c = (search rules, search rules, refl, text_start _ _ _ _ _ _ _)
+pub loop-rest-init : goal.loop-rest-init
+loop-rest-init c =
+    (search rules, search rules, alike_start _ _ c.args.text.now c.is_single-doubled.ensures.yes c.is_single-doubled.ensures.no, text_start _ _ _ _ _ _ _)
 
-pub put_escaped-a-requires : goal.put_escaped-a-requires
-put_escaped-a-requires c =
-    let c4 = c in
-    let c6 = c4 in
-    let c9 = c6 in
-    line_plain c9.args.text.now c6.loop-out.from c6.loop-out.invariant.0 c4.line_break-line.ensures
+pub returns-then-is_empty : goal.returns-then-is_empty
+returns-then-is_empty c =
+    let t = c.loop-rest.rest.now in
+    let i = c.loop-rest.invariant in
+    let r = c.line_break-line.result in
+    text_done t i.3 (breaks_alike t i.2 c.line_break-line.ensures) (rest_empty t r.next c.is_empty.ensures c.if-is_empty.true)
+    (rw (escape_alike r.end t i.2) at c.put_escaped-a.ensures) (ltb_as _ _ _ _ (λ h. omega arith) (λ h. omega arith)) c.put_closing.ensures
 
-pub returns-then-text-next : goal.returns-then-text-next
-returns-then-text-next c =
-    let c3 = c in
-    let c5 = c3 in
-    let c8 = c5 in
-    let c13 = c8 in
-    let c15 = c13 in
-    let c18 = c15 in
-    text_done c18.args.text.now c15.loop-out.from c15.loop-out.invariant.3 c15.loop-out.invariant.0 c13.line_break-line.ensures.line c5.if-text-next.true c8.put_escaped-a.ensures c3.leaves_one.ensures c.put_closing.ensures
-
-pub loop-out-smaller : goal.loop-out-smaller
-loop-out-smaller c =
-    let c4 = c in
-    let c12 = c4 in
-    let c14 = c12 in
-    let c17 = c14 in
-    text_falls c17.args.indent c17.args.text.now c14.loop-out.from (search rules) c14.loop-out.invariant.0 c12.line_break-line.ensures.line c4.if-text-next.false
-
-pub loop-out-preserved : goal.loop-out-preserved
-loop-out-preserved c =
-    let c4 = c in
-    let c7 = c4 in
-    let c12 = c7 in
-    let c14 = c12 in
-    let c17 = c14 in (
+pub loop-rest-preserved : goal.loop-rest-preserved
+loop-rest-preserved c =
+    let t = c.loop-rest.rest.now in
+    let i = c.loop-rest.invariant in
+    let r = c.line_break-line.result in
+    rw (rest_all t r.next) (
+      omega (arith, length-drop r.next t),
       search rules,
-      search rules,
-      search rules,
-      text_turn c17.args.text.now c14.loop-out.from c14.loop-out.invariant.3 c14.loop-out.invariant.0 (search rules) c12.line_break-line.ensures.line c4.if-text-next.false c7.put_escaped-a.ensures c.put_break-p.ensures,
+      alike_rest r.next t i.2,
+      text_turn t i.3 (search rules) (breaks_alike t i.2 c.line_break-line.ensures) (rest_more t r.next c.is_empty.ensures c.if-is_empty.false)
+          (rw (escape_alike r.end t i.2) at c.put_escaped-a.ensures) c.put_break-p.ensures,
     )

@@ -1,8 +1,0 @@
--- By whether there is a text.
-use Rattle.judge_record.proofs.text_passes.Goals as goal
-
-pub span_passes-requires : goal.span_passes-requires
-span_passes-requires c = rw c.in-At.is at c.requires
-
-pub returns-in-At : goal.returns-in-At
-returns-in-At c = rw c.in-At.is c.span_passes.ensures

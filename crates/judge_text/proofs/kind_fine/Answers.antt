@@ -1,6 +1,0 @@
--- Its length and its bytes.
-use Rattle.std.proofs.Common.{◌∙◌}
-use Rattle.judge_text.proofs.kind_fine.Goals as goal
-
-pub returns : goal.returns
-returns c = c.both.ensures ∙ rw c.kind_text.ensures

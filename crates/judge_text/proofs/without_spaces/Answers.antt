@@ -1,9 +1,0 @@
--- Some bytes, no space.
-use Rattle.judge_text.proofs.Bytewise.{none_and, some_is}
-use Rattle.judge_text.proofs.without_spaces.Goals as goal
-
-pub returns-then-s-eq0 : goal.returns-then-s-eq0
-returns-then-s-eq0 c = none_and c.args.s.now _ c.if-s-eq0.true
-
-pub returns : goal.returns
-returns c = some_is c.args.s.now _ _ c.if-s-eq0.false c.without.ensures
