@@ -27,12 +27,11 @@ pub fn one() -> u8
 """
 
 OPENING = """-- Answers that the definitions must compute.
-use Rattle.std.specs.Prelude.{ℕ, Bool, true, false, ◌≡◌, refl, List, [], ◌∷◌, eqb}
+use Rattle.std.specs.Prelude.{ℕ, Bool, true, false, ◌≡◌, refl, Option, Some, None, List, [], ◌∷◌, eqb}
 use Rattle.spec_format.specs.Bytes.{bytes, May, absent, is, pick, same, among}
 use Rattle.spec_format.specs.Table.{Locus, Source, Reference, Qualifier, LocationRow, Feature, Contig, Table}
 use Rattle.spec_format.specs.Record.{Outcome, was_read, not_read}
 use Rattle.spec_format.specs.Numbers.{unread_number, unread_place}
-use Rattle.spec_format.specs.declared.Dated.TheVariants as dated
 use Rattle.spec_format.specs.declared.ReadAnswer.TheVariants as answer
 use Rattle.spec_format.specs.declared.Sizes.{Sizes}
 use Rattle.spec_lines.specs.declared.Spot.{Spot}

@@ -144,7 +144,7 @@ def antt_rows(rows):
 
 
 def antt_table(t):
-    date = "dated.Absent" if t["date"] is None else "(dated.On %s)" % _fields(zip(("day", "month", "year"), t["date"]))
+    date = "None" if t["date"] is None else "(Some %s)" % _fields(zip(("day", "month", "year"), t["date"]))
     locus = _fields([("name", _may(t["name"])), ("length", "absent" if t["length"] is None else "(is %d)" % t["length"]),
                      ("molecule", _may(t["molecule"])), ("circular", antt_bool(t["topology"] == "circular")),
                      ("division", antt_bytes(t["division"])), ("date", date)])
