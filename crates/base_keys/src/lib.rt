@@ -5,17 +5,31 @@ ghost use Rattle.std.specs.Prelude.{◌≡◌, map};
 ghost use Rattle.spec_format.specs.Bytes.{bytes, same, among};
 ghost use Rattle.spec_format.specs.Write.{comma_key, bare_key};
 
+// As a loop, and not by `==`, so that against a word the compiler tests the length and then the word's few bytes in place.
 pub fn same_text(a: &[u8], b: &[u8]) -> bool
     ensures { result ≡ same a.now b.now }
 {
-    a == b
+    if a.len() != b.len() {
+        return false;
+    }
+    for (i, x) in a.iter().enumerate() {
+        if *x != b[i] {
+            return false;
+        }
+    }
+    true
 }
 
 // Whether it is one of the words.
 fn among(key: &[u8], words: &[&[u8]]) -> bool
     ensures { result ≡ among key.now (map (λ w. w.now) words.now) }
 {
-    words.contains(&key)
+    for w in words {
+        if same_text(key, w) {
+            return true;
+        }
+    }
+    false
 }
 
 // Its value is broken at commas.

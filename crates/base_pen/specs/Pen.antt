@@ -1,8 +1,9 @@
 -- Items written into a list at a place, and the laws by which a run of writes is one write.
 -- `sets old at text` of `lib.Seq` is `old` with `text` stored from `at` on; what falls past the end is lost. So no law below asks for room.
-use Rattle.std.specs.Prelude.{◌≡◌, refl, ℕ, suc, ◌+◌, ◌-◌, ◌≤◌, ◌<◌, ◌^◌, List, [], ◌∷◌, ◌++◌, length, take, drop, set, min, zero}
-use Rattle.std.proofs.Common.{sym, ◌∙◌, add-zero, add-suc, suc-add, le_trans, le_refl, arith, length-append, length-take, drop-drop, length-set, append_assoc}
+use Rattle.std.specs.Prelude.{◌≡◌, refl, ℕ, suc, ◌+◌, ◌-◌, ◌≤◌, ◌<◌, ◌^◌, List, [], ◌∷◌, ◌++◌, length, get_or, take, drop, set, min, zero}
+use Rattle.std.proofs.Common.{sym, ◌∙◌, add-zero, add-suc, suc-add, le_trans, le_refl, arith, length-append, length-take, drop-drop, length-set, append_assoc, length-take-le}
 use Rattle.std.proofs.lemmas.List.Edits.{sets, sets-eq}
+use Rattle.std.proofs.lemmas.List.{take_more}
 use Rattle.std.proofs.Math.Seq.{set_out, take-nil}
 use borrow.Rule.Slice.PartMut.{put_mid}
 
@@ -76,13 +77,22 @@ sets_front [] l i n h = rw take-nil
 sets_front (a ∷ x) l i zero h = sym (sets_past (a ∷ x) l i (omega arith))
 sets_front (a ∷ x) l i (suc n) h = sets_front x (set l i a) (suc i) n (λ m. rw length-set (omega arith))
 
+-- one item more
+pub sets_more : {A : Type 0} (x l : List A) (i n : ℕ) (a : A) → n < length x → set (sets l i (take n x)) (i + n) (get_or x n a) ≡ sets l i (take (n + 1) x)
+sets_more x l i n a h = let e : length (take n x) ≡ n = length-take-le n x (omega arith) in rw (take_more x n a h) (rw e at (sets_append (take n x) (get_or x n a ∷ []) l i))
+
 -- a copy into the room's part from i on
 pub wrote_part : {A : Type 0} (x l : List A) (i n : ℕ) → n ≡ length x → i + length x ≤ length l → put_mid i n l x ≡ sets l i x
 wrote_part x l i n e h = rw (e, sets-eq x l i h, drop-drop, append_assoc)
 
--- A place that goes on by the text's length, as far as a usize goes: past the room nothing is written, and in it the part that fits.
-pub writes_past : {A : Type 0} {l x : List A} {i k : ℕ} → i < 2 ^ 64 → k ≡ min (i + length x) (2 ^ 64 - 1) → length l ≤ i → Writes l i x l k
-writes_past {l} {x} {i} h e m = record { fit = λ f. record { is = sym (sets_past x l i m); to = omega arith }; up = omega arith }
+-- past the room nothing is written
+pub writes_past : {A : Type 0} {l x : List A} {i k : ℕ} → length l ≤ i → i ≤ k → (i + length x < 2 ^ 64 → k ≡ i + length x) → Writes l i x l k
+writes_past {l} {x} {i} m u e = record { fit = λ f. record { is = sym (sets_past x l i m); to = e f }; up = u }
+
+-- A place that goes on by the text's length, as far as a usize goes: in the room stands the part that fits.
+pub writes_front : {A : Type 0} {l m x : List A} {i e k j : ℕ} → i < 2 ^ 64 → k ≡ min (i + length x) (2 ^ 64 - 1) → e ≡ min k (length l) → Wrote l i (take (e - i) x) m j → Writes l i x m k
+writes_front {l} {x} {i} {e} {k} h m is p =
+    record { fit = λ f. record { is = p.is ∙ sets_front x l i (e - i) (λ t. omega arith); to = omega arith }; up = omega arith }
 
 pub writes_part : {A : Type 0} {l x y : List A} {i e k : ℕ} → i < 2 ^ 64 → k ≡ min (i + length x) (2 ^ 64 - 1) → i < length l → e ≡ min k (length l) → y ≡ take (e - i) x
     → Writes l i x (put_mid i (e - i) l y) k

@@ -22,17 +22,19 @@ pub fn put_all<T: Copy>(out: &mut [T], at: usize, items: &[T]) -> usize
     let end = at.saturating_add(items.len());
     if at < out.len() {
         let stop = end.min(out.len());
-        out[at..stop].copy_from_slice(&items[..stop - at]);
+        store(out, at, &items[..stop - at]);
     }
     end
 }
 
-// Items that fit.
+// Items that fit. As a loop, and not by `copy_from_slice`, which an archive for C would need `memmove` for.
 pub fn store<T: Copy>(out: &mut [T], at: usize, items: &[T])
     requires { at + length items.now ≤ length out.old }
     ensures { Wrote out.old at items.now out.new (at + length items.now) }
 {
-    out[at..at + items.len()].copy_from_slice(items);
+    for (i, item) in items.iter().enumerate() {
+        out[at + i] = *item;
+    }
 }
 
 pub fn put_spaces(out: &mut [u8], at: usize, n: usize) -> usize

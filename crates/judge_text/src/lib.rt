@@ -10,12 +10,25 @@ ghost use Rattle.spec_format.specs.Record.{most};
 use base_keys::{bare_key, comma_key, translation_key};
 use scan_bytes::{is_between, is_letter, is_visible};
 
-// Whether each byte passes a test. Nothing leaves the loop before the end, so that the compiler tests many bytes at once.
+// Whether each byte of a block passes a test. Nothing leaves the loop before the end, so that the compiler tests many bytes at once.
+fn block_passes<F: Fn(u8) -> bool>(block: &[u8], test: &F) -> bool
+    requires { F.IsAlwaysCallable test.now }
+    ensures { (p : ℕ → Bool) → ((b : ℕ) (r : Bool) → F.post test.now b r → r ≡ p b) → result ≡ all p block.now }
+{
+    block.iter().fold(true, |ok, b| ok & test(*b))
+}
+
+// Whether each byte passes a test. A text that doesn't is left at the end of the block that tells, however long it is.
 fn all_pass<F: Fn(u8) -> bool>(s: &[u8], test: F) -> bool
     requires { F.IsAlwaysCallable test }
     ensures { (p : ℕ → Bool) → ((b : ℕ) (r : Bool) → F.post test b r → r ≡ p b) → result ≡ all p s.now }
 {
-    s.iter().fold(true, |ok, b| ok & test(*b))
+    for block in s.chunks(256) {
+        if !block_passes(block, &test) {
+            return false;
+        }
+    }
+    true
 }
 
 // All bytes are 33 to 126.

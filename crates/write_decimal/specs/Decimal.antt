@@ -33,7 +33,7 @@ length_by : (f n : ℕ) (b : Bool) (x : List ℕ) → length x ≤ f → length 
 length_by f n true x h = omega arith
 length_by f n false x h = omega (arith, length-append x ((48 + n % 10) ∷ []))
 
-length_digits : (f n : ℕ) → length (digits f n) ≤ f
+pub length_digits : (f n : ℕ) → length (digits f n) ≤ f
 unfolding digits
 length_digits zero n = omega arith
 length_digits (suc f) n = length_by f n (ltb n 10) (digits f (n / 10)) (length_digits f (n / 10))

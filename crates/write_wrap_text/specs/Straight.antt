@@ -49,32 +49,37 @@ some_columns : (q : Bool) (b : ℕ) → 1 ≤ columns q b
 some_columns false b = omega arith
 some_columns true b = cases (eqb b 34) (λ e. rw e (omega arith)) (λ e. rw e (omega arith))
 
--- what the code knows of the start that may fit: none of its bytes is written twice
-module _ (q : Bool) (W used : ℕ) (t : List ℕ) (n : ℕ) (e : n ≡ min (length t) (W - used))
-    (single : q ≡ true → (k : ℕ) → k < length (take n t) → get_or (take n t) k 0 ≡ 34 → ⊥) where
+module _ (q : Bool) (W used : ℕ) (t : List ℕ) (n : ℕ) (e : n ≡ min (length t) (W - used)) where
   inside : (k : ℕ) → k < n → k < length (take n t)
   inside k l = rw (length-take-le n t (omega arith)) l
 
-  straight : (m : ℕ) → m ≤ n → ((k : ℕ) → k < m → get_or (take n t) k 0 ≡ 10 → ⊥) → Straight q m t
-  straight m h f =
-      record {
-        single = λ y k l x. single y k (inside k (omega arith)) (rw (get_or-take n t k 0 (omega arith)) x);
-        feed = λ k l x. f k l (rw (get_or-take n t k 0 (omega arith)) x);
-      }
-
-  -- the line ends at a LF
+  -- the line ends at a LF, where no byte before it is written twice
   pub start_feed : (k : ℕ) → (k < length (take n t)) × (get_or (take n t) k 0 ≡ 10) × ((j : ℕ) → j < k → get_or (take n t) j 0 ≡ 10 → ⊥)
-      → Breaks q W used t (record { end = k; next = k + 1 })
-  start_feed k h =
+      → (q ≡ true → (j : ℕ) → j < length (take k (take n t)) → get_or (take k (take n t)) j 0 ≡ 34 → ⊥) → Breaks q W used t (record { end = k; next = k + 1 })
+  start_feed k h single =
       let l : k < n = rw (length-take-le n t (omega arith)) at h.0 in
       let b : get_or t k 0 ≡ 10 = rw (get_or-take n t k 0 l) at h.1 in
       let s : stops (get_or t k 0) W (used + k + columns q (get_or t k 0)) ≡ false = rw (b, feed_column q, le-ltb W (used + k + 1) (omega arith)) in
-      breaks q W used t _
-      (straight_run k q W used t (omega arith) (omega arith) (straight k (omega arith) h.2) ∙ scan_feed q W (used + k) k (last_to k t) t (omega arith) s b)
+      let c : length (take k (take n t)) ≡ k = length-take-le k (take n t) (omega arith) in
+      let before : Straight q k t =
+      record {
+        single = λ y j m x. single y j (rw c m) (rw (get_or-take k (take n t) j 0 m, get_or-take n t j 0 (omega arith)) x);
+        feed = λ j m x. h.2 j m (rw (get_or-take n t j 0 (omega arith)) x);
+      } in
+      breaks q W used t _ (straight_run k q W used t (omega arith) (omega arith) before ∙ scan_feed q W (used + k) k (last_to k t) t (omega arith) s b)
 
-  module _ (none : (k : ℕ) → k < length (take n t) → get_or (take n t) k 0 ≡ 10 → ⊥) where
+  -- none of the bytes that may fit is written twice, and none is a LF
+  module _ (none : (k : ℕ) → k < length (take n t) → get_or (take n t) k 0 ≡ 10 → ⊥)
+      (single : q ≡ true → (k : ℕ) → k < length (take n t) → get_or (take n t) k 0 ≡ 34 → ⊥) where
+    straight : Straight q n t
+    straight =
+        record {
+          single = λ y k l x. single y k (inside k l) (rw (get_or-take n t k 0 l) x);
+          feed = λ k l x. none k (inside k l) (rw (get_or-take n t k 0 l) x);
+        }
+
     run : placed 0 None (spot q W used t) ≡ placed n (last_to n t) (spot q W (used + n) (drop n t))
-    run = straight_run n q W used t (omega arith) (omega arith) (straight n (omega arith) (λ k l. none k (inside k l)))
+    run = straight_run n q W used t (omega arith) (omega arith) straight
 
     -- the text fits
     pub start_whole : n ≡ length t → Breaks q W used t (record { end = n; next = n })

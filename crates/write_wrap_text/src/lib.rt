@@ -78,15 +78,41 @@ fn line_scan(text: &[u8], taken: usize, width: usize, quote: bool) -> Break
     }
 }
 
-// The first LF. Most texts have none, which `contains` tells faster.
+// Whether a block holds no LF. Nothing leaves the loop before the end, so that the compiler tests many bytes at once.
+fn feedless(block: &[u8]) -> bool
+    ensures { IsTrue result → (k : ℕ) → k < length block.now → slice_index block.now k ≢ 10 }
+{
+    block.iter().fold(true, |ok, b| ok & (*b != b'\n'))
+}
+
+// The first LF, byte by byte.
+fn feed_in(text: &[u8]) -> Option<usize>
+    ensures { MatchOption result ((k : ℕ) → k < length text.now → slice_index text.now k ≢ 10)
+        (λ i. (i < length text.now) × (slice_index text.now i ≡ 10) × ((k : ℕ) → k < i → slice_index text.now k ≢ 10)) }
+{
+    text.iter().position(|b| *b == b'\n')
+}
+
+// The first LF, by blocks. The last block may hold bytes that were in one before.
 fn first_feed(text: &[u8]) -> Option<usize>
     ensures { MatchOption result ((k : ℕ) → k < length text.now → slice_index text.now k ≢ 10)
         (λ i. (i < length text.now) × (slice_index text.now i ≡ 10) × ((k : ℕ) → k < i → slice_index text.now k ≢ 10)) }
 {
-    if !text.contains(&b'\n') {
+    let mut from = 0;
+    for block in text.chunks_exact(16) {
+        if !feedless(block) {
+            break;
+        }
+        from += 16;
+    }
+    let left = text.len() - from;
+    if left < 16 && 16 <= text.len() && feedless(&text[text.len() - 16..]) {
         return None;
     }
-    text.iter().position(|b| *b == b'\n')
+    match feed_in(&text[from..]) {
+        Some(k) => Some(from + k),
+        None => None,
+    }
 }
 
 // The place of the last byte b. Many lines have none, as those of a translation have no space, which `contains` tells faster.
@@ -115,14 +141,17 @@ fn line_break(text: &[u8], taken: usize, width: usize, quote: bool) -> Break
 {
     let n = text.len().min(width.saturating_sub(taken));
     let start = &text[..n];
-    if !is_single(start, quote) {
+    if let Some(k) = first_feed(start) {
+        if is_single(&start[..k], quote) {
+            return Break {
+                end: k,
+                next: k + 1,
+            };
+        }
         return line_scan(text, taken, width, quote);
     }
-    if let Some(k) = first_feed(start) {
-        return Break {
-            end: k,
-            next: k + 1,
-        };
+    if !is_single(start, quote) {
+        return line_scan(text, taken, width, quote);
     }
     if n == text.len() {
         return Break { end: n, next: n };

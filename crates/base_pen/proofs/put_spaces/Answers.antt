@@ -12,4 +12,4 @@ returns-then-at-out c =
     writes_part (omega arith) (rw length-replicate c.saturating_add-end.ensures) c.if-at-out.true c.min-stop.ensures (c.fill.ensures.after (λ y h. h) ∙ rw (e, take-replicate))
 
 pub returns-else-at-out : goal.returns-else-at-out
-returns-else-at-out c = writes_past (omega arith) (rw length-replicate c.saturating_add-end.ensures) c.if-at-out.false
+returns-else-at-out c = writes_past c.if-at-out.false (omega arith) (λ f. rw length-replicate (omega (arith, rw length-replicate at f)))

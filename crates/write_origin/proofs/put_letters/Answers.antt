@@ -5,7 +5,9 @@ use Rattle.write_origin.specs.Measure.{letters_measured}
 use Rattle.write_origin.proofs.put_letters.Goals as goal
 
 pub returns-then-out-at : goal.returns-then-out-at
-returns-then-out-at c = writes_past (omega arith) (rw (letters_measured _ c.requires, ← c.letters_length.ensures) c.saturating_add.ensures) c.if-out-at.true
+returns-then-out-at c =
+    let e : length (letter_lines 0 c.args.letters.now) ≡ c.letters_length.result = letters_measured _ c.requires ∙ sym c.letters_length.ensures in
+    writes_past c.if-out-at.true (omega arith) (λ f. omega (arith, e))
 
 pub returns : goal.returns
 returns c = c.put_lines-k.ensures.left.by _ _ c.put_tens.ensures
