@@ -1,5 +1,6 @@
 -- `write_origin::put_letters` meets its contract.
-use Rattle.std.proofs.Common.{arith}
+use Rattle.std.proofs.Common.{◌≡◌, length, sym, ◌∙◌, arith}
+use Rattle.spec_format.specs.Write.{letter_lines}
 use Rattle.base_pen.specs.Pen.{writes_past}
 use Rattle.write_origin.specs.Measure.{letters_measured}
 use Rattle.write_origin.proofs.put_letters.Goals as goal
