@@ -60,11 +60,12 @@ broke_some n k t l h =
     let e : last_comma n t ≡ suc k = comma_some n k t l m (rw (get_or-take n t k 0 m) at h.1) (λ j a b x. h.2 j a (rw (length-take-le n t l) b) (rw (get_or-take n t j 0 b) x)) in
     record { is = rw (add-one k, e, break_at); some = λ z. omega arith; most = omega arith }
 
-pub broke_none : (n : ℕ) (t : List ℕ) → n ≤ length t → ((j : ℕ) → j < length (take n t) → get_or (take n t) j 0 ≡ 44 → ⊥) → Broke n t n
+pub broke_none : (n : ℕ) (t : List ℕ) → last_comma n t ≡ 0 → Broke n t n
 unfolding break_at
-broke_none n t l h =
-    let e : last_comma n t ≡ 0 = comma_none n t l (λ j b x. h j (rw (length-take-le n t l) b) (rw (get_or-take n t j 0 b) x)) in
-    record { is = rw (e, break_at); some = λ z. z; most = omega arith }
+broke_none n t e = record { is = rw (e, break_at); some = λ h. h; most = omega arith }
+
+pub broke_bare : (n : ℕ) (t : List ℕ) → n ≤ length t → ((j : ℕ) → j < length (take n t) → get_or (take n t) j 0 ≡ 44 → ⊥) → Broke n t n
+broke_bare n t l h = broke_none n t (comma_none n t l (λ j b x. h j (rw (length-take-le n t l) b) (rw (get_or-take n t j 0 b) x)))
 
 -- ---- the loop over lines
 -- a line takes a byte where its indent is the usual one
