@@ -5,7 +5,7 @@ use Rattle.std.proofs.lemmas.Iterator.Search.{all_from_yields_List}
 use Rattle.spec_format.specs.Bytes.{all}
 use Rattle.spec_format.specs.Rooms.{rows_from, qualifier_in, feature_in}
 use Rattle.judge_rooms.specs.Parts.{qualifier_rooms}
-use Rattle.judge_header.specs.Rows.{all_rows}
+use Rattle.judge_header.specs.Rows.{rows_pass}
 use Rattle.judge_feature.specs.Rules.{qualifier_of, feature_of}
 use Rattle.judge_feature.proofs.feature_passes.Goals as goal
 
@@ -16,5 +16,5 @@ returns-then-first_passes c =
     let first = get_or a.features.now (a.at + 4) 0 in
     let count = get_or a.features.now (a.at + 5) 0 in
     let rows : c.all.result ≡ all (qualifier_of a.rule) (rows_from (qualifier_in (qualifier_rooms a.texts.now a.qualifiers.now)) 4 first count) =
-    all_rows _ _ 4 first count _ (all_from_yields_List _ _ _ _ c.all.ensures.ran (YieldsList-from_range first (first + count) count (cc) (omega arith)) (λ x b q k. search rules)) in
+    rows_pass _ _ 4 first count _ (all_from_yields_List _ _ _ _ c.all.ensures.ran (YieldsList-from_range first (first + count) count (cc) (omega arith)) (λ x b q k. search rules)) in
     search rules
