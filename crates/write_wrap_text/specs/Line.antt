@@ -83,7 +83,7 @@ before_more : (i : ℕ) (space : Option ℕ) → IfSome space (λ k. k < i) → 
 before_more i None h = tt
 before_more i (Some k) h = omega arith
 
-last_before : (b i : ℕ) (space : Option ℕ) → IfSome space (λ k. k < i) → IfSome (last_space b i space) (λ k. k < i + 1)
+pub last_before : (b i : ℕ) (space : Option ℕ) → IfSome space (λ k. k < i) → IfSome (last_space b i space) (λ k. k < i + 1)
 last_before b i space h = cases (eqb b 32) (λ e. rw e (omega arith)) (λ e. rw e (before_more i space h))
 
 -- ---- the scanner's steps
@@ -215,20 +215,13 @@ module _ {q : Bool} {W taken used i : ℕ} {t : List ℕ} {space : Option ℕ} (
     pub scanning_feed : stop ≡ false → get_or t i 0 ≡ 10 → Breaks q W taken t (record { end = i; next = i + 1 })
     scanning_feed h f = breaks q W taken t _ (sym s.same ∙ scan_feed q W used i space t l (rw c at (sym e ∙ h)) f)
 
-    module _ (m : w ≤ 2) (h : stop ≡ false) {next : Option ℕ} where
-      turn : (get_or t i 0 ≡ 10 → ⊥) → next ≡ last_space (get_or t i 0) i space → Scanning q W taken t (i + 1) next (used + w)
-      turn f g =
-          record {
-            before = rw g (last_before (get_or t i 0) i space s.before);
-            few = omega (arith, s.few);
-            same = rw (g, c) (sym (scan_turn q W used i space t l (rw c at (sym e ∙ h)) f) ∙ s.same);
-          }
-
-      pub scanning_space : get_or t i 0 ≡ 32 → next ≡ Some i → Scanning q W taken t (i + 1) next (used + w)
-      scanning_space f g = turn (λ x. omega arith) (g ∙ rw (eq-eqb (get_or t i 0) 32 f))
-
-      pub scanning_other : (get_or t i 0 ≡ 10 → ⊥) → (get_or t i 0 ≡ 32 → ⊥) → next ≡ space → Scanning q W taken t (i + 1) next (used + w)
-      scanning_other x f g = turn x (g ∙ rw (ne_eqb (get_or t i 0) 32 f))
+    pub scanning_turn : w ≤ 2 → stop ≡ false → (get_or t i 0 ≡ 10 → ⊥) → Scanning q W taken t (i + 1) (last_space (get_or t i 0) i space) (used + w)
+    scanning_turn m h f =
+        record {
+          before = last_before (get_or t i 0) i space s.before;
+          few = omega (arith, s.few);
+          same = rw c (sym (scan_turn q W used i space t l (rw c at (sym e ∙ h)) f) ∙ s.same);
+        }
 
   pub scanning_end : length t ≤ i → i ≤ length t → Breaks q W taken t (record { end = length t; next = length t })
   scanning_end l m = let z : i ≡ length t = omega arith in rw z at (breaks q W taken t _ (sym s.same ∙ scan_end q W used i space t l))

@@ -1,6 +1,6 @@
 -- The writing loops of a text: what each turn leaves to be written.
-use Rattle.std.specs.Prelude.{◌≡◌, refl, ℕ, suc, zero, ◌+◌, ◌-◌, ◌≤◌, ◌<◌, Bool, true, false, List, [], ◌∷◌, ◌++◌, ltb, eqb, length, get_or, take, drop}
-use Rattle.std.proofs.Common.{sym, ◌∙◌, arith, append_assoc, length-take, length-drop, drop_of_length-le, take_all, lt-ltb, le-ltb, eq-eqb, ne_eqb, eqb-true, ltb-true, ltb-false}
+use Rattle.std.specs.Prelude.{◌≡◌, refl, ℕ, suc, zero, ◌+◌, ◌-◌, ◌≤◌, ◌<◌, Bool, true, false, List, [], ◌∷◌, ◌++◌, ltb, eqb, length, get_or, take, drop, set}
+use Rattle.std.proofs.Common.{sym, ◌∙◌, arith, append_assoc, length-append, length-take, length-drop, drop_of_length-le, take_all, lt-ltb, le-ltb, eq-eqb, ne_eqb, eqb-true, ltb-true, ltb-false}
 use Rattle.std.proofs.lemmas.Bool.{eqb-false}
 use Rattle.spec_format.specs.Bytes.{spaces}
 use Rattle.spec_format.specs.Wrap.{line_text, line_rest, fill, closing, lines_after, wrapped}
@@ -15,6 +15,23 @@ escape_turn q b p s h w = left_step (left_as (rw (drop_more b p h)) s) w
 
 pub escape_done : {l m x : List ℕ} {i j : ℕ} (q : Bool) (b : List ℕ) (p : ℕ) → Left l i x m j (escape q (drop p b)) → length b ≤ p → Writes l i x m j
 escape_done q b p s h = left_end (left_as (rw (drop_of_length-le b h)) s)
+
+-- how long a line becomes
+escape_more : (l : List ℕ) (i : ℕ) → i < length l → length (escape true (drop i l)) ≡ length (shown true (get_or l i 0)) + length (escape true (drop (i + 1) l))
+escape_more l i h = rw (drop_more l i h) (length-append (shown true (get_or l i 0)) (escape true (drop (i + 1) l)))
+
+pub quoted_turn : (l : List ℕ) (i : ℕ) → i < length l → get_or l i 0 ≡ 34 → length (escape true (drop i l)) ≡ 2 + length (escape true (drop (i + 1) l))
+quoted_turn l i h e = rw (eq-eqb (get_or l i 0) 34 e) at (escape_more l i h)
+
+pub other_turn : (l : List ℕ) (i : ℕ) → i < length l → (get_or l i 0 ≡ 34 → ⊥) → length (escape true (drop i l)) ≡ 1 + length (escape true (drop (i + 1) l))
+other_turn l i h e = rw (ne_eqb (get_or l i 0) 34 e) at (escape_more l i h)
+
+pub escape_none : (l : List ℕ) (i : ℕ) → length l ≤ i → length (escape true (drop i l)) ≡ 0
+escape_none l i h = rw (drop_of_length-le l h)
+
+-- a byte that is stored
+pub store_one : {l : List ℕ} {i b : ℕ} → Writes l i (b ∷ []) (set l i b) (i + 1)
+store_one {i} = record { fit = λ h. record { is = refl; to = refl }; up = omega arith }
 
 -- a quote goes twice
 pub shown_quote : {b : ℕ} → b ≡ 34 → b ∷ [] ++ b ∷ [] ≡ shown true b

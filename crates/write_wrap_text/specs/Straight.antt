@@ -1,10 +1,10 @@
 -- The start of a text where each byte takes one column and none is a LF: where its line ends is known without going over it.
-use Rattle.std.specs.Prelude.{◌≡◌, refl, ℕ, suc, zero, ◌+◌, ◌-◌, ◌≤◌, ◌<◌, Bool, true, false, Option, Some, None, MatchOption, not, List, [], ◌∷◌, eqb, length, get_or, take, drop, ◌⊎◌, min}
-use Rattle.std.proofs.Common.{inl, inr, length-take-le, length-take, length-drop, get_or-drop, get_or-take, sym, ap, ◌∙◌, arith, add-zero, add-one, lt-ltb, le-ltb, eq-eqb, ne_eqb, eqb-true}
-use Rattle.std.specs.Bool.{IsTrue}
+use Rattle.std.specs.Prelude.{◌≡◌, refl, ℕ, suc, zero, ◌+◌, ◌-◌, ◌≤◌, ◌<◌, Bool, true, false, Option, Some, None, MatchOption, List, [], ◌∷◌, eqb, length, get_or, take, drop, min}
+use Rattle.std.proofs.Common.{length-take-le, length-take, get_or-take, sym, ap, ◌∙◌, arith, add-zero, add-one, lt-ltb, le-ltb, eq-eqb, ne_eqb, eqb-true}
+use Rattle.std.specs.Option.{IfSome}
 use Rattle.std.proofs.lemmas.Bool.{eqb-false, false≢true}
 use Rattle.write_wrap_text.specs.declared.Break.{Break}
-use Rattle.write_wrap_text.specs.Line.{Breaks, columns, stops, full, full_at, Spot, ends_at, more, more_space, spot, placed, last_space, escape, cases, scan_turn, scan_full, scan_feed, scan_end, breaks}
+use Rattle.write_wrap_text.specs.Line.{Breaks, Scanning, last_before, columns, stops, full, spot, placed, last_space, escape, cases, scan_turn, scan_full, scan_feed, scan_end, breaks}
 
 -- the place of the last space among the first n bytes
 abbrev pub last_to : ℕ → List ℕ → Option ℕ
@@ -21,10 +21,32 @@ last_some (suc n) i t l e h =
     cases (eqb i n) (λ z. let y : i ≡ n = eqb-true i n z in rw (eq-eqb (get_or t n 0) 32 (rw y at e), y))
     (λ z. let y : i < n = omega (arith, eqb-false i n z) in rw (ne_eqb (get_or t n 0) 32 (h n y (omega arith))) (last_some n i t y e (λ k a b. h k a (omega arith))))
 
+-- what a search for it tells
+pub last_is : (n : ℕ) (t : List ℕ) → n ≤ length t → (o : Option ℕ)
+    → MatchOption o ((k : ℕ) → k < length (take n t) → get_or (take n t) k 0 ≡ 32 → ⊥)
+    (λ i. (i < length (take n t)) × (get_or (take n t) i 0 ≡ 32) × ((k : ℕ) → i < k → k < length (take n t) → get_or (take n t) k 0 ≡ 32 → ⊥))
+    → o ≡ last_to n t
+last_is n t h None f = last_none n t (λ k l x. f k (omega (arith, length-take-le n t h)) (rw (get_or-take n t k 0 l) x))
+last_is n t h (Some i) f =
+    let l : i < n = omega (arith, f.0, length-take-le n t h) in
+    last_some n i t l (rw (get_or-take n t i 0 l) at f.1) (λ k a c x. f.2 k a (omega (arith, length-take-le n t h)) (rw (get_or-take n t k 0 c) x))
+
+pub last_more : (n : ℕ) (t : List ℕ) → last_space (get_or t n 0) n (last_to n t) ≡ last_to (n + 1) t
+last_more n t = rw (add-one n)
+
+-- neither LF nor the mark
+abbrev pub Plain : ℕ → ℕ → Type 0
+Plain m b = (b ≡ 10 → ⊥) × (b ≡ m → ⊥)
+
+-- the mark beside LF: a quote, if it is written twice
+abbrev pub mark : Bool → ℕ
+mark true = 34
+mark false = 10
+
 -- none of the first n bytes is written twice, and none is a LF
-record Straight (q : Bool) (n : ℕ) (t : List ℕ) : Type 0 where
-  single : q ≡ true → (k : ℕ) → k < n → get_or t k 0 ≡ 34 → ⊥
-  feed : (k : ℕ) → k < n → get_or t k 0 ≡ 10 → ⊥
+pub record Straight (q : Bool) (n : ℕ) (t : List ℕ) : Type 0 where
+  pub single : q ≡ true → (k : ℕ) → k < n → get_or t k 0 ≡ 34 → ⊥
+  pub feed : (k : ℕ) → k < n → get_or t k 0 ≡ 10 → ⊥
 
 one_column : (q : Bool) (b : ℕ) → (q ≡ true → b ≡ 34 → ⊥) → columns q b ≡ 1
 one_column false b h = refl
@@ -40,6 +62,14 @@ straight_run (suc n) q W used t h w p =
     let s : stops b W (used + n + columns q b) ≡ false = rw (c, le-ltb W (used + n + 1) (omega arith)) in
     straight_run n q W used t (omega arith) (omega arith) (record { single = λ y k l. p.single y k (omega arith); feed = λ k l. p.feed k (omega arith) })
     ∙ scan_turn q W (used + n) n (last_to n t) t (omega arith) s (p.feed n (omega arith)) ∙ rw (c, e, add-one n)
+
+last_inside : (n : ℕ) (t : List ℕ) → IfSome (last_to n t) (λ k. k < n)
+last_inside zero t = tt
+last_inside (suc n) t = rw (← (add-one n)) (last_before (get_or t n 0) n (last_to n t) (last_inside n t))
+
+-- a scan may begin after them
+pub scanning_start : {q : Bool} {n W used : ℕ} {t : List ℕ} → n ≤ length t → n ≤ W - used → Straight q n t → Scanning q W used t n (last_to n t) (used + n)
+scanning_start {q} {n} {W} {used} {t} h w p = record { before = last_inside n t; few = omega arith; same = sym (straight_run n q W used t h w p) }
 
 feed_column : (q : Bool) → columns q 10 ≡ 1
 feed_column false = refl
@@ -96,15 +126,7 @@ module _ (q : Bool) (W used : ℕ) (t : List ℕ) (n : ℕ) (e : n ≡ min (leng
         let z : 1 ≤ columns q b = some_columns q b in
         let s : stops b W (used + n + columns q b) ≡ true = rw (lt-ltb W (used + n + columns q b) (omega arith), le-ltb 127 b y) in
         breaks q W used t r
-        (run ∙ scan_full q W (used + n) n (last_to n t) t (omega arith) s ∙ ap (λ (o : Option ℕ). full b n o) (sym (last_is space f)) ∙ sym g)
-      where
-        last_is : (o : Option ℕ) → MatchOption o ((k : ℕ) → k < length (take n t) → get_or (take n t) k 0 ≡ 32 → ⊥)
-            (λ i. (i < length (take n t)) × (get_or (take n t) i 0 ≡ 32) × ((k : ℕ) → i < k → k < length (take n t) → get_or (take n t) k 0 ≡ 32 → ⊥))
-            → o ≡ last_to n t
-        last_is None f = last_none n t (λ k l x. f k (inside k l) (rw (get_or-take n t k 0 l) x))
-        last_is (Some i) f =
-            let l : i < n = rw (length-take-le n t (omega arith)) at f.0 in
-            last_some n i t l (rw (get_or-take n t i 0 l) at f.1) (λ k a c x. f.2 k a (inside k c) (rw (get_or-take n t k 0 c) x))
+        (run ∙ scan_full q W (used + n) n (last_to n t) t (omega arith) s ∙ ap (λ (o : Option ℕ). full b n o) (sym (last_is n t (omega arith) space f)) ∙ sym g)
 
 -- ---- what is known of a text without quotes
 pub escape_single : (q : Bool) (t : List ℕ) → (q ≡ true → (k : ℕ) → k < length t → get_or t k 0 ≡ 34 → ⊥) → t ≡ escape q t
@@ -112,35 +134,21 @@ escape_single q [] h = refl
 escape_single false (b ∷ t) h = ap (λ (l : List ℕ). b ∷ l) (escape_single false t (λ y. absurd (false≢true y)))
 escape_single true (b ∷ t) h = rw (ne_eqb b 34 (h refl 0 (omega arith))) (ap (λ (l : List ℕ). b ∷ l) (escape_single true t (λ y k l. h y (suc k) (omega arith))))
 
--- quotes are doubled where they are asked to be, or there are none
-abbrev pub Alike : Bool → Bool → List ℕ → Type 0
-Alike d q t = (d ≡ q) ⊎ ((k : ℕ) → k < length t → get_or t k 0 ≡ 34 → ⊥)
+-- where all bytes before e are plain, none of them is written twice
+pub plain_single : (q : Bool) {m e : ℕ} (l : List ℕ) → m ≡ mark q → ((k : ℕ) → k < e → Plain m (get_or l k 0)) → q ≡ true → (k : ℕ) → k < e → get_or l k 0 ≡ 34 → ⊥
+plain_single q l a h y k j x = (h k j).1 (x ∙ sym (a ∙ ap mark y))
 
-pub alike_start : (single q : Bool) (t : List ℕ) → (IsTrue single → q ≡ true → (k : ℕ) → k < length t → get_or t k 0 ≡ 34 → ⊥) → (single ≡ false → q ≡ true) → Alike (not single) q t
-alike_start true false t f g = inl refl
-alike_start true true t f g = inr (f refl refl)
-alike_start false q t f g = inl (sym (g refl))
+-- a line of plain bytes among the first n is written as it is
+pub plain_same : (q : Bool) {m e n : ℕ} (t : List ℕ) → m ≡ mark q → n ≤ length t → e ≤ n → ((k : ℕ) → k < e → Plain m (get_or (take n t) k 0))
+    → escape false (take e t) ≡ escape q (take e t)
+plain_same q {e} {n} t a g h f =
+    sym (escape_single false (take e t) (λ y. absurd (false≢true y)))
+    ∙ escape_single q (take e t)
+    (λ y k l x.
+    let z : k < e = omega (arith, length-take e t) in
+    plain_single q (take n t) a f y k z (get_or-take n t k 0 (omega arith) ∙ sym (get_or-take e t k 0 z) ∙ x))
 
-pub alike_rest : {d q : Bool} (n : ℕ) (t : List ℕ) → Alike d q t → Alike d q (drop n t)
-alike_rest n t (inl e) = inl e
-alike_rest n t (inr h) = inr (λ k l e. h (n + k) (omega (arith, length-drop n t)) (rw get_or-drop at e))
-
-spot_alike : (d q : Bool) (W used : ℕ) (t : List ℕ) → ((k : ℕ) → k < length t → get_or t k 0 ≡ 34 → ⊥) → spot d W used t ≡ spot q W used t
-unfolding spot
-spot_alike d q W used [] h = refl
-spot_alike d q W used (b ∷ t) h =
-    let c : columns d b ≡ columns q b = one_column d b (λ _. h 0 (omega arith)) ∙ sym (one_column q b (λ _. h 0 (omega arith))) in
-    let f : ℕ → Spot → Spot =
-    λ w s. elim (stops b W (used + w)) [ true ↦ full_at b | false ↦ elim (eqb b 10) [ true ↦ ends_at 0 1 | false ↦ elim (eqb b 32) [ true ↦ more_space s | false ↦ more s ] ] ] in
-    ap (λ (w : ℕ). f w (spot d W (used + w) t)) c ∙ ap (f (columns q b)) (spot_alike d q W (used + columns q b) t (λ k l. h (suc k) (omega arith)))
-
-pub breaks_alike : {d q : Bool} {W used : ℕ} {r : Break} (t : List ℕ) → Alike d q t → Breaks d W used t r → Breaks q W used t r
-breaks_alike t (inl e) b = rw e at b
-breaks_alike {d} {q} {W} {used} {r} t (inr h) b = breaks q W used t r (rw (spot_alike q d W used t h) (sym b.is))
-
-pub escape_alike : {d q : Bool} (n : ℕ) (t : List ℕ) → Alike d q t → escape d (take n t) ≡ escape q (take n t)
-escape_alike n t (inl e) = rw e
-escape_alike {d} {q} n t (inr h) =
-    let f : (k : ℕ) → k < length (take n t) → get_or (take n t) k 0 ≡ 34 → ⊥ =
-    λ k l e. h k (omega (arith, length-take n t)) (rw (get_or-take n t k 0 (omega (arith, length-take n t))) at e) in
-    sym (escape_single d (take n t) (λ _. f)) ∙ escape_single q (take n t) (λ _. f)
+-- a full line ends within what may fit
+pub full_end : (b n : ℕ) (space : Option ℕ) → IfSome space (λ k. k < n) → (full b n space).end ≤ n
+full_end b n None h = cases (eqb b 32) (λ e. rw e (omega arith)) (λ e. cases (eqb b 10) (λ d. rw (e, d) (omega arith)) (λ d. rw (e, d) (omega arith)))
+full_end b n (Some k) h = cases (eqb b 32) (λ e. rw e (omega arith)) (λ e. cases (eqb b 10) (λ d. rw (e, d) (omega arith)) (λ d. rw (e, d) (omega arith)))

@@ -1,10 +1,11 @@
 // `wrap_text` and `wrap_get_line` of writer.rs: free text over lines, with quotes doubled where asked.
 #![tactic(auto)]
 
-ghost use Rattle.std.specs.Prelude.{◌≡◌, ◌≢◌, ℕ, ◌∷◌, [], ◌++◌, ◌+◌, ◌≤◌, ◌<◌, length, slice_index, MatchOption, IfSome, IsTrue, true, false};
+ghost use Rattle.std.specs.Prelude.{◌≡◌, ◌≢◌, ℕ, ◌∷◌, [], ◌++◌, ◌+◌, ◌-◌, ◌*◌, ◌≤◌, ◌<◌, length, slice_index, take, MatchOption, IfSome, IsTrue, true, false};
 ghost use Rattle.spec_format.specs.Bytes.{spaces};
 ghost use Rattle.spec_format.specs.Wrap.{wrapped};
 ghost use Rattle.base_pen.specs.Pen.{Writes};
+ghost use Rattle.write_wrap_text.specs.Straight.{Plain, mark, Straight};
 ghost use Rattle.write_wrap_text.specs.Line.{Breaks, columns, stops, full, escape, closed};
 ghost use Rattle.spec_format.specs.Record.{most};
 
@@ -50,26 +51,24 @@ fn full(b: u8, i: usize, space: Option<usize>) -> Break
     }
 }
 
-// The first line of the text, where `taken` columns are taken, byte by byte.
-fn line_scan(text: &[u8], taken: usize, width: usize, quote: bool) -> Break
-    requires { (length text.now ≤ most) × (taken ≤ 33554432) }
+// The first line of the text, where `taken` columns are taken, byte by byte. Of the first `from` bytes it is known that each takes one column and that none is a LF.
+fn line_scan(text: &[u8], from: usize, taken: usize, width: usize, quote: bool) -> Break
+    requires { (length text.now ≤ most) × (taken ≤ 33554432) × (from ≤ length text.now) × (from ≤ width - taken) × Straight quote from text.now }
     ensures { Breaks quote width taken text.now result }
 {
-    let mut used = taken;
-    let mut space = None;
-    for (i, b) in text.iter().enumerate() {
-        used += columns(*b, quote);
-        if stops(*b, width, used) {
-            return full(*b, i, space);
+    let mut used = taken + from;
+    for i in from..text.len() {
+        let b = text[i];
+        used += columns(b, quote);
+        if stops(b, width, used) {
+            let space = last_of(&text[..i], b' ');
+            return full(b, i, space);
         }
-        if *b == b'\n' {
+        if b == b'\n' {
             return Break {
                 end: i,
                 next: i + 1,
             };
-        }
-        if *b == b' ' {
-            space = Some(i);
         }
     }
     Break {
@@ -78,52 +77,110 @@ fn line_scan(text: &[u8], taken: usize, width: usize, quote: bool) -> Break
     }
 }
 
-// Whether a block holds no LF. Nothing leaves the loop before the end, so that the compiler tests many bytes at once.
-fn feedless(block: &[u8]) -> bool
-    ensures { IsTrue result → (k : ℕ) → k < length block.now → slice_index block.now k ≢ 10 }
+// The byte beside LF that a look for a line's end halts at: a quote, if it is written twice.
+fn mark(quote: bool) -> u8
+    ensures { result ≡ mark quote }
 {
-    block.iter().fold(true, |ok, b| ok & (*b != b'\n'))
+    if quote { b'"' } else { b'\n' }
 }
 
-// The first LF, byte by byte.
-fn feed_in(text: &[u8]) -> Option<usize>
-    ensures { MatchOption result ((k : ℕ) → k < length text.now → slice_index text.now k ≢ 10)
-        (λ i. (i < length text.now) × (slice_index text.now i ≡ 10) × ((k : ℕ) → k < i → slice_index text.now k ≢ 10)) }
+// Whether a block has no byte b. Nothing leaves the loop before the end, so that the compiler tests many bytes at once.
+fn lacks(block: &[u8], b: u8) -> bool
+    ensures { IsTrue result → (k : ℕ) → k < length block.now → slice_index block.now k ≢ b }
 {
-    text.iter().position(|b| *b == b'\n')
+    block.iter().fold(true, |ok, c| ok & (*c != b))
 }
 
-// The first LF, by blocks. The last block may hold bytes that were in one before.
-fn first_feed(text: &[u8]) -> Option<usize>
-    ensures { MatchOption result ((k : ℕ) → k < length text.now → slice_index text.now k ≢ 10)
-        (λ i. (i < length text.now) × (slice_index text.now i ≡ 10) × ((k : ℕ) → k < i → slice_index text.now k ≢ 10)) }
+// Whether a block holds neither LF nor `mark`.
+fn markless(block: &[u8], mark: u8) -> bool
+    ensures { IsTrue result → (k : ℕ) → k < length block.now → Plain mark (slice_index block.now k) }
+{
+    lacks(block, b'\n') & lacks(block, mark)
+}
+
+// The first LF or `mark`, byte by byte.
+fn mark_in(text: &[u8], mark: u8) -> Option<usize>
+    ensures { MatchOption result ((k : ℕ) → k < length text.now → Plain mark (slice_index text.now k))
+        (λ i. (i < length text.now) × (Plain mark (slice_index text.now i) → ⊥) × ((k : ℕ) → k < i → Plain mark (slice_index text.now k))) }
+{
+    text.iter().position(|b| *b == b'\n' || *b == mark)
+}
+
+// The first LF or `mark`, by blocks. The last block may hold bytes that were in one before.
+fn first_mark(text: &[u8], mark: u8) -> Option<usize>
+    ensures { MatchOption result ((k : ℕ) → k < length text.now → Plain mark (slice_index text.now k))
+        (λ i. (i < length text.now) × (Plain mark (slice_index text.now i) → ⊥) × ((k : ℕ) → k < i → Plain mark (slice_index text.now k))) }
 {
     let mut from = 0;
     for block in text.chunks_exact(16) {
-        if !feedless(block) {
+        if !markless(block, mark) {
             break;
         }
         from += 16;
     }
     let left = text.len() - from;
-    if left < 16 && 16 <= text.len() && feedless(&text[text.len() - 16..]) {
+    if left < 16 && 16 <= text.len() && markless(&text[text.len() - 16..], mark) {
         return None;
     }
-    match feed_in(&text[from..]) {
+    match mark_in(&text[from..], mark) {
         Some(k) => Some(from + k),
         None => None,
     }
 }
 
-// The place of the last byte b. Many lines have none, as those of a translation have no space, which `contains` tells faster.
+// The last byte b, byte by byte.
+fn last_in(text: &[u8], b: u8) -> Option<usize>
+    ensures { MatchOption result ((k : ℕ) → k < length text.now → slice_index text.now k ≢ b)
+        (λ i. (i < length text.now) × (slice_index text.now i ≡ b) × ((k : ℕ) → i < k → k < length text.now → slice_index text.now k ≢ b)) }
+{
+    text.iter().rposition(|c| *c == b)
+}
+
+// The place of the last byte b, by blocks: a line of a translation has no space. The first block may hold bytes that were in one before.
 pub fn last_of(text: &[u8], b: u8) -> Option<usize>
     ensures { MatchOption result ((k : ℕ) → k < length text.now → slice_index text.now k ≢ b)
         (λ i. (i < length text.now) × (slice_index text.now i ≡ b) × ((k : ℕ) → i < k → k < length text.now → slice_index text.now k ≢ b)) }
 {
-    if !text.contains(&b) {
+    let mut end = text.len();
+    for block in text.rchunks_exact(16) {
+        if !lacks(block, b) {
+            break;
+        }
+        end -= 16;
+    }
+    if end < 16 && 16 <= text.len() && lacks(&text[..16], b) {
         return None;
     }
-    text.iter().rposition(|c| *c == b)
+    last_in(&text[..end], b)
+}
+
+// The first line of the text, where `taken` columns are taken, and whether it is to be written with quotes doubled: false where it is known to hold none. Where each byte
+// takes one column, it needs no scan.
+fn line_break(text: &[u8], taken: usize, width: usize, quote: bool) -> (Break, bool)
+    requires { (length text.now ≤ most) × (taken ≤ 33554432) × (width ≤ 132) }
+    ensures is { Breaks quote width taken text.now result.0 }
+    ensures same { escape result.1 (take result.0.end text.now) ≡ escape quote (take result.0.end text.now) }
+{
+    let n = text.len().min(width.saturating_sub(taken));
+    let start = &text[..n];
+    if let Some(k) = first_mark(start, mark(quote)) {
+        if start[k] != b'\n' {
+            return (line_scan(text, k, taken, width, true), true);
+        }
+        let fed = Break {
+            end: k,
+            next: k + 1,
+        };
+        return (fed, false);
+    }
+    if n == text.len() {
+        return (Break { end: n, next: n }, false);
+    }
+    // below 128 a byte is a character of its own
+    if text[n] < 128 {
+        return (full(text[n], n, last_of(start, b' ')), false);
+    }
+    (line_scan(text, n, taken, width, quote), quote)
 }
 
 // Whether no byte is written twice.
@@ -134,41 +191,50 @@ fn is_single(text: &[u8], quote: bool) -> bool
     !quote || !text.contains(&b'"')
 }
 
-// The first line of the text, where `taken` columns are taken. Where each byte takes one column, it needs no scan.
-fn line_break(text: &[u8], taken: usize, width: usize, quote: bool) -> Break
-    requires { (length text.now ≤ most) × (taken ≤ 33554432) × (width ≤ 132) }
-    ensures { Breaks quote width taken text.now result }
+// How many quotes a line has, by which it is longer where they are doubled.
+fn quotes_in(line: &[u8]) -> usize
+    ensures { length line.now + result ≡ length (escape true line.now) }
 {
-    let n = text.len().min(width.saturating_sub(taken));
-    let start = &text[..n];
-    if let Some(k) = first_feed(start) {
-        if is_single(&start[..k], quote) {
-            return Break {
-                end: k,
-                next: k + 1,
-            };
+    let mut n = 0;
+    for b in line {
+        if *b == b'"' {
+            n += 1;
         }
-        return line_scan(text, taken, width, quote);
     }
-    if !is_single(start, quote) {
-        return line_scan(text, taken, width, quote);
-    }
-    if n == text.len() {
-        return Break { end: n, next: n };
-    }
-    // below 128 a byte is a character of its own
-    if text[n] < 128 {
-        return full(text[n], n, last_of(start, b' '));
-    }
-    line_scan(text, taken, width, quote)
+    n
 }
 
-// A line as it is written: a quote twice where quotes are doubled.
+// A line whose quotes are doubled, where it fits.
+fn store_doubled(out: &mut [u8], at: usize, line: &[u8]) -> usize
+    requires { at + 2 * length line.now ≤ length out.old }
+    ensures { Writes out.old at (escape true line.now) out.new result }
+{
+    let mut p = at;
+    for b in line {
+        out[p] = *b;
+        p += 1;
+        if *b == b'"' {
+            out[p] = *b;
+            p += 1;
+        }
+    }
+    p
+}
+
+// A line as it is written: a quote twice where quotes are doubled. Byte by byte only near the end of the room.
 fn put_escaped(out: &mut [u8], at: usize, line: &[u8], quote: bool) -> usize
     ensures { Writes out.old at (escape quote line.now) out.new result }
 {
     if is_single(line, quote) {
         return put_all(out, at, line);
+    }
+    if out.len() <= at {
+        return at
+            .saturating_add(line.len())
+            .saturating_add(quotes_in(line));
+    }
+    if line.len() <= (out.len() - at) / 2 {
+        return store_doubled(out, at, line);
     }
     let mut p = at;
     for b in line {
@@ -215,13 +281,11 @@ pub fn put_wrapped(
     requires { (length text.now ≤ most) × (taken ≤ 33554432) × (indent + 2 ≤ width) × (width ≤ 132) }
     ensures { Writes out.old at (wrapped quote width indent taken text.now) out.new result }
 {
-    // a text with no quote needs no look for quotes in its lines
-    let doubled = !is_single(text, quote);
     let mut p = at;
     let mut used = taken;
     let mut rest = text;
     loop {
-        let line = line_break(rest, used, width, doubled);
+        let (line, doubled) = line_break(rest, used, width, quote);
         let a = put_escaped(out, p, &rest[..line.end], doubled);
         rest = &rest[line.next..];
         if rest.is_empty() {
